@@ -1,0 +1,5 @@
+pub mod BuiltinClass
+pub mod Laws
+pub mod Library
+pub mod MachineException
+pub mod Native

@@ -1,0 +1,4 @@
+pub mod Folder
+pub mod Stream
+pub mod Memory
+pub mod Listing

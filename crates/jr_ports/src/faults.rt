@@ -1,0 +1,37 @@
+ghost use Rattle.std.specs.Prelude.{◌≡◌, ◌<◌, ◌≤◌, ◌+◌};
+ghost use Rattle.std.specs.Bool.{OnTrue, OnFalse};
+
+use std::io::{Error, ErrorKind};
+
+/// Why the system refused.
+#[derive(Clone, Copy, Debug, PartialEq, Eq)]
+pub enum Refusal {
+    Failed,
+    NoMemory,
+}
+
+/// Counts a fault; `false` where the count stands at its end, and then it stays.
+pub fn count_fault(faults: &mut u64) -> bool
+    ensures counted { OnTrue result (faults.new ≡ faults.old + 1) }
+    ensures full { OnFalse result (faults.new ≡ faults.old) }
+{
+    match faults.checked_add(1) {
+        Some(more) => {
+            *faults = more;
+            true
+        }
+        None => false,
+    }
+}
+
+/// What an error of the system is to a caller. One that is no want of memory raises the count of faults;
+/// where the count stands at its end, it passes for want of memory.
+pub fn refusal_of(faults: &mut u64, error: &Error) -> Refusal
+    ensures cause { result ≡ Refusal.Failed → faults.old < faults.new }
+    ensures faults { faults.old ≤ faults.new }
+{
+    if error.kind() == ErrorKind::OutOfMemory || !count_fault(faults) {
+        return Refusal::NoMemory;
+    }
+    Refusal::Failed
+}

@@ -1,0 +1,53 @@
+ghost use Rattle.std.specs.Prelude.{◌≡◌, ◌<◌, ◌≤◌};
+
+use crate::faults::{Refusal, count_fault};
+
+mod dir;
+mod sink;
+mod source;
+
+pub use dir::{MemDir, names_differ};
+pub use sink::MemSink;
+pub use source::MemSource;
+
+
+/// Which calls of a memory form fail, and how many calls and faults there were.
+#[derive(Debug, Drop)]
+struct Calls {
+    /// The calls, counted from 1, that fail.
+    fail: Vec<u32>,
+    made: u32,
+    faults: u64,
+}
+
+impl Calls {
+    fn new(fail: Vec<u32>) -> Self
+        ensures { result.faults ≡ 0 }
+    {
+        Calls {
+            fail,
+            made: 0,
+            faults: 0,
+        }
+    }
+
+    /// Counts one call more, and says whether it is one that fails.
+    fn next_fails(&mut self) -> bool
+        ensures { self.new.faults ≡ self.old.faults }
+    {
+        self.made = self.made.saturating_add(1);
+        self.fail.contains(&self.made)
+    }
+
+    /// The answer of a call that fails: a fault, or want of memory where the count stands at its end.
+    fn refuse(&mut self) -> Refusal
+        ensures cause { result ≡ Refusal.Failed → self.old.faults < self.new.faults }
+        ensures faults { self.old.faults ≤ self.new.faults }
+    {
+        if count_fault(&mut self.faults) {
+            Refusal::Failed
+        } else {
+            Refusal::NoMemory
+        }
+    }
+}

@@ -1,0 +1,58 @@
+ghost use Rattle.std.specs.Prelude.{◌≡◌, [], ◌<◌, ◌≤◌, Some, OnOk, OnErr};
+ghost use Rattle.jr_ports.specs.Stream.{Gains, GainsPart};
+
+use super::Calls;
+use crate::faults::Refusal;
+use crate::ports::{Sink, SinkFault};
+use std::alloc::Global;
+
+/// A sink that keeps what it is given, and takes nothing of a put that it refuses.
+#[derive(Debug, Drop)]
+pub struct MemSink {
+    taken: Vec<u8>,
+    calls: Calls,
+}
+
+impl MemSink {
+    /// A sink that was given nothing; `fail` lists the puts, counted from 1, that fail.
+    pub fn new(alloc: Global, fail: Vec<u32>) -> Self
+        ensures { result.taken.items ≡ [] }
+    {
+        MemSink {
+            taken: Vec::new(alloc),
+            calls: Calls::new(fail),
+        }
+    }
+
+    /// The bytes that were taken.
+    pub fn given(&self) -> &[u8]
+        ensures { result.now ≡ self.now.taken.items }
+    {
+        self.taken.as_slice()
+    }
+
+    fn refuse(&mut self) -> SinkFault
+        ensures taken { self.new.taken ≡ self.old.taken }
+        ensures cause { result ≡ SinkFault.Failed → self.old.calls.faults < self.new.calls.faults }
+        ensures faults { self.old.calls.faults ≤ self.new.calls.faults }
+    {
+        match self.calls.refuse() {
+            Refusal::Failed => SinkFault::Failed,
+            Refusal::NoMemory => SinkFault::NoMemory,
+        }
+    }
+}
+
+impl Sink for MemSink {
+    ghost given = { λ sink. Some sink.taken.items };
+
+    ghost faults = { λ sink. sink.calls.faults };
+
+    fn put(&mut self, bytes: &[u8]) -> Result<(), SinkFault> {
+        if self.calls.next_fails() {
+            return Err(self.refuse());
+        }
+        self.taken.extend_from_slice(bytes)?;
+        Ok(())
+    }
+}

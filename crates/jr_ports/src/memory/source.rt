@@ -1,0 +1,58 @@
+ghost use Rattle.std.specs.Prelude.{◌≡◌, ◌<◌, ◌≤◌, Some, length, drop};
+
+use super::Calls;
+use crate::faults::Refusal;
+use crate::ports::{Source, SourceFault};
+use std::alloc::Global;
+
+/// A source that holds its bytes.
+#[derive(Debug, Drop)]
+pub struct MemSource {
+    bytes: Vec<u8>,
+    taken: usize,
+    calls: Calls,
+    ghost within: { taken ≤ length bytes.items },
+}
+
+impl MemSource {
+    /// A source of these bytes; `fail` lists the takes, counted from 1, that fail.
+    pub fn new(bytes: Vec<u8>, fail: Vec<u32>) -> Self
+        ensures bytes { result.bytes.items ≡ bytes.items }
+        ensures taken { result.taken ≡ 0 }
+    {
+        MemSource {
+            bytes,
+            taken: 0,
+            calls: Calls::new(fail),
+        }
+    }
+
+    fn refuse(&mut self) -> SourceFault
+        ensures bytes { self.new.bytes ≡ self.old.bytes }
+        ensures taken { self.new.taken ≡ self.old.taken }
+        ensures cause { result ≡ SourceFault.Failed → self.old.calls.faults < self.new.calls.faults }
+        ensures faults { self.old.calls.faults ≤ self.new.calls.faults }
+    {
+        match self.calls.refuse() {
+            Refusal::Failed => SourceFault::Failed,
+            Refusal::NoMemory => SourceFault::NoMemory,
+        }
+    }
+}
+
+impl Source for MemSource {
+    ghost left = { λ source. Some (drop source.taken source.bytes.items) };
+
+    ghost faults = { λ source. source.calls.faults };
+
+    fn take(&mut self, alloc: Global, most: u32) -> Result<Vec<u8>, SourceFault> {
+        if self.calls.next_fails() {
+            return Err(self.refuse());
+        }
+        let rest = &self.bytes[self.taken..];
+        let count = rest.len().min(most as usize);
+        let piece = Vec::from_slice(alloc, &rest[..count])?;
+        self.taken += count;
+        Ok(piece)
+    }
+}

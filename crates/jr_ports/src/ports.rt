@@ -1,0 +1,150 @@
+ghost use Rattle.std.specs.Prelude.{◌≡◌, ◌<◌, ◌≤◌, ◌⊎◌, ℕ, List, [], Option, Some, None, OnOk, OnErr, IfOk, IfSome, length, drop, map, string_bytes};
+ghost use Rattle.std.specs.List.Sorted.{IsPermutation};
+ghost use Rattle.jr_ports.specs.Folder.{File, Asked, IsListed, IsRead, names_of};
+ghost use Rattle.jr_ports.specs.Stream.{Gains, GainsPart, IsNext};
+
+use std::alloc::{AllocError, AllocFailed, Global};
+
+/// How many bytes of a file are read at most: one more than a class file may have.
+pub const MOST_READ: usize = 1_048_577;
+
+/// Why a folder gave no answer.
+#[derive(Clone, Copy, Debug, PartialEq, Eq)]
+pub enum DirFault {
+    /// The system refused; the folder's count of faults rose.
+    Failed,
+    /// There was no memory for the answer.
+    NoMemory,
+}
+
+/// Why a source gave no bytes.
+#[derive(Clone, Copy, Debug, PartialEq, Eq)]
+pub enum SourceFault {
+    /// The system refused; the source's count of faults rose.
+    Failed,
+    /// There was no memory for the bytes.
+    NoMemory,
+}
+
+/// Why a sink did not take all bytes.
+#[derive(Clone, Copy, Debug, PartialEq, Eq)]
+pub enum SinkFault {
+    /// The system refused; the sink's count of faults rose.
+    Failed,
+    /// There was no memory for the bytes.
+    NoMemory,
+}
+
+/// A folder of class files, which is asked for its names once, and then for files.
+pub trait ClassDir {
+    /// What it was asked for: nothing yet, or one folder with the names that it gave.
+    ghost asked: { Self → Option Asked };
+
+    /// How often it failed.
+    ghost faults: { Self → ℕ };
+
+    /// Its files, where it tells them.
+    ghost contents: { Self → Option (List File) };
+
+    /// The names of the files of the folder `dir`, in any order; where the folder tells its files, exactly
+    /// their names, each once. After a refusal it was asked for `dir` and gave no names, or, for want of
+    /// memory, it may still have been asked for nothing.
+    fn names(&mut self, alloc: Global, dir: &str) -> Result<Vec<String>, DirFault>
+        requires { asked self.old ≡ None }
+        ensures told { IfOk result (λ names. IfSome (contents self.old) (λ files. IsPermutation (names_of files) (map string_bytes names.items))) }
+        ensures asked { IfOk result (λ names. asked self.new ≡ Some (record { dir = dir.now; names = map string_bytes names.items })) }
+        ensures failed { result ≡ Err DirFault.Failed → asked self.new ≡ Some (record { dir = dir.now; names = [] }) }
+        ensures no_memory { result ≡ Err DirFault.NoMemory → (asked self.new ≡ None) ⊎ (asked self.new ≡ Some (record { dir = dir.now; names = [] })) }
+        ensures cause { result ≡ Err DirFault.Failed → faults self.old < faults self.new }
+        ensures faults { faults self.old ≤ faults self.new }
+        ensures contents { contents self.new ≡ contents self.old };
+
+    /// The bytes of a file of the folder that was asked for, under a name that it gave, and only the first
+    /// 1,048,577 of a longer one. What was asked stays as it was.
+    fn read(&mut self, alloc: Global, dir: &str, name: &str) -> Result<Vec<u8>, DirFault>
+        requires { IsListed (asked self.old) dir.now name.now }
+        ensures told { IfOk result (λ bytes. IfSome (contents self.old) (λ files. IsRead files name.now bytes.items)) }
+        ensures most { IfOk result (λ bytes. length bytes.items ≤ MOST_READ) }
+        ensures asked { asked self.new ≡ asked self.old }
+        ensures cause { result ≡ Err DirFault.Failed → faults self.old < faults self.new }
+        ensures faults { faults self.old ≤ faults self.new }
+        ensures contents { contents self.new ≡ contents self.old };
+}
+
+/// Input that is taken piece by piece.
+pub trait Source {
+    /// The bytes that are left, where the source tells them.
+    ghost left: { Self → Option (List ℕ) };
+
+    /// How often it failed.
+    ghost faults: { Self → ℕ };
+
+    /// The next bytes, at most `most` of them; none means the end of the input. A refusal takes nothing.
+    fn take(&mut self, alloc: Global, most: u32) -> Result<Vec<u8>, SourceFault>
+        requires { 0 < most }
+        ensures most { IfOk result (λ piece. length piece.items ≤ most) }
+        ensures next { IfOk result (λ piece. IfSome (left self.old) (λ bytes. IsNext bytes piece.items × (left self.new ≡ Some (drop (length piece.items) bytes)))) }
+        ensures err { OnErr result (left self.new ≡ left self.old) }
+        ensures cause { result ≡ Err SourceFault.Failed → faults self.old < faults self.new }
+        ensures faults { faults self.old ≤ faults self.new };
+}
+
+/// Output that is given piece by piece.
+pub trait Sink {
+    /// The bytes that it was given so far, where the sink tells them.
+    ghost given: { Self → Option (List ℕ) };
+
+    /// How often it failed.
+    ghost faults: { Self → ℕ };
+
+    /// Gives a piece. After a refusal a part of the piece, from its front, may have been taken.
+    fn put(&mut self, bytes: &[u8]) -> Result<(), SinkFault>
+        ensures ok { OnOk result (Gains (given self.old) (given self.new) bytes.now) }
+        ensures err { OnErr result (GainsPart (given self.old) (given self.new) bytes.now) }
+        ensures cause { result ≡ Err SinkFault.Failed → faults self.old < faults self.new }
+        ensures faults { faults self.old ≤ faults self.new };
+}
+
+impl From<AllocError> for DirFault {
+    ghost use Rattle.jr_ports.specs.declared.ports.DirFault.TheVariants.{NoMemory};
+    ghost use Rattle.std.specs.Prelude.{◌≡◌};
+
+    ghost from_gives = { λ _ fault. fault ≡ NoMemory };
+
+    fn from(_error: AllocError) -> DirFault {
+        DirFault::NoMemory
+    }
+}
+
+impl<T: Drop> From<AllocFailed<T>> for DirFault {
+    ghost use Rattle.jr_ports.specs.declared.ports.DirFault.TheVariants.{NoMemory};
+    ghost use Rattle.std.specs.Prelude.{◌≡◌};
+
+    ghost from_gives = { λ _ fault. fault ≡ NoMemory };
+
+    fn from(_error: AllocFailed<T>) -> DirFault {
+        DirFault::NoMemory
+    }
+}
+
+impl From<AllocError> for SourceFault {
+    ghost use Rattle.jr_ports.specs.declared.ports.SourceFault.TheVariants.{NoMemory};
+    ghost use Rattle.std.specs.Prelude.{◌≡◌};
+
+    ghost from_gives = { λ _ fault. fault ≡ NoMemory };
+
+    fn from(_error: AllocError) -> SourceFault {
+        SourceFault::NoMemory
+    }
+}
+
+impl From<AllocError> for SinkFault {
+    ghost use Rattle.jr_ports.specs.declared.ports.SinkFault.TheVariants.{NoMemory};
+    ghost use Rattle.std.specs.Prelude.{◌≡◌};
+
+    ghost from_gives = { λ _ fault. fault ≡ NoMemory };
+
+    fn from(_error: AllocError) -> SinkFault {
+        SinkFault::NoMemory
+    }
+}
