@@ -1,0 +1,10 @@
+pub mod Replies
+pub mod ThreadCode
+pub mod OrdinaryState
+pub mod OrdinaryStep
+pub mod Execution
+pub mod InPlaceList
+pub mod CleanCut
+pub mod Laws
+pub mod Script
+pub mod ScriptLaws

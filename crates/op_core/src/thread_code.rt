@@ -1,0 +1,107 @@
+ghost use Rattle.std.specs.Prelude.{◌≡◌, ◌≢◌, false, [], ◌∷◌, ◌<◌, Some, drop, OnOk, OnErr, IfOk, IfSome};
+ghost use Rattle.std.specs.Option.{option_map};
+ghost use Rattle.op_core.specs.ThreadCode.{leaves_any, quiet_step, quiet_steps};
+ghost use Rattle.op_core.specs.Replies.{FitsNext};
+
+use crate::{CodeStop, Next, NoMemory, Reply};
+
+/// The code of a Java thread, as a machine sees it: what it wants next, and how it goes on with
+/// each reply. It knows nothing of the memory that threads share.
+///
+/// Its saves are a stack of earlier local states, for a section that may have to be undone.
+pub trait ThreadCode: Sized {
+    ghost use Rattle.std.specs.Prelude.{List};
+    ghost use Rattle.op_core.specs.ThreadCode.{Code};
+
+    /// The local states.
+    ghost State: { Type 0 };
+
+    /// How a thread goes on from each of them.
+    ghost code: { Code State };
+
+    /// The local state now.
+    ghost state: { Self → State };
+
+    /// The saved local states, the last one first.
+    ghost saved: { Self → List State };
+
+    /// What the thread does next. Takes no memory.
+    fn next(&self) -> Next
+        ensures { result ≡ code.next (state self.now) };
+
+    /// Makes a silent step. The thread must be silent next, and the step must not end a frame that
+    /// was on top at a save. `Frames` comes exactly where the step would make a 1,025th frame.
+    /// After an error the thread is as before.
+    fn silent(&mut self) -> Result<(), CodeStop>
+        requires silent { code.next (state self.old) ≡ Next.Silent }
+        requires stays { leaves_any code (saved self.old) (state self.old) ≡ false }
+        ensures ok { OnOk result (quiet_step code (state self.old) ≡ Some (state self.new)) }
+        ensures saved { OnOk result (saved self.new ≡ saved self.old) }
+        ensures frames { result ≡ Err CodeStop.Frames → 1024 < code.frames (code.silent (state self.old)) }
+        ensures err { OnErr result (self.new ≡ self.old) };
+
+    /// Goes on with the reply to the operation that the thread wants, which it must fit. Takes no
+    /// memory.
+    fn reply(&mut self, reply: Reply)
+        requires { FitsNext (code.next (state self.old)) reply }
+        ensures state { state self.new ≡ code.reply (state self.old) reply }
+        ensures saved { saved self.new ≡ saved self.old };
+
+    /// Saves the local state, on top of the saves. After an error the thread is as before.
+    fn save(&mut self) -> Result<(), NoMemory>
+        ensures ok { OnOk result (saved self.new ≡ state self.old ∷ saved self.old) }
+        ensures state { OnOk result (state self.new ≡ state self.old) }
+        ensures err { OnErr result (self.new ≡ self.old) };
+
+    /// Goes back to the state of the last save, and takes that save off. There must be a save.
+    /// Takes no memory.
+    fn restore(&mut self)
+        requires { saved self.old ≢ [] }
+        ensures { saved self.old ≡ state self.new ∷ saved self.new };
+
+    /// Takes the last save off. There must be one. Takes no memory.
+    fn drop_save(&mut self)
+        requires { saved self.old ≢ [] }
+        ensures saved { saved self.new ≡ drop 1 (saved self.old) }
+        ensures state { state self.new ≡ state self.old };
+
+    /// Whether the next silent step ends the frame that was on top at any of the saves. Takes no
+    /// memory.
+    fn leaves(&self) -> bool
+        ensures { result ≡ leaves_any code (saved self.now) (state self.now) };
+
+    /// The first state of the thread that an object starts, with nothing saved.
+    fn child(&self, object: u32) -> Result<Self, NoMemory>
+        ensures state { IfOk result (λ child. state child ≡ code.child (state self.now) object) }
+        ensures saved { IfOk result (λ child. saved child ≡ []) };
+
+    /// The same local state with nothing saved, to try silent steps on.
+    fn copy(&self) -> Result<Self, NoMemory>
+        ensures state { IfOk result (λ copy. state copy ≡ state self.now) }
+        ensures saved { IfOk result (λ copy. saved copy ≡ []) };
+
+    /// How many words a new object of a class has at a length, which is 0 where the class is no
+    /// array. Takes no memory.
+    fn words(&self, class: u32, length: u32) -> u64
+        ensures { result ≡ code.words class length };
+}
+
+/// A thread code as it stands after exactly so many silent steps, none of which makes a 1,025th
+/// frame, with nothing saved; `None` where it doesn't come so far. The given code stays as it is.
+pub fn after_silent_steps<C: ThreadCode + Drop>(code: &C, count: u64) -> Result<Option<C>, NoMemory>
+    ensures state { IfOk result (λ after. option_map C.state after ≡ quiet_steps C.code count (C.state code.now)) }
+    ensures saved { IfOk result (λ after. IfSome after (λ c. C.saved c ≡ [])) }
+{
+    let mut after = code.copy()?;
+    for _made in 0..count {
+        match after.next() {
+            Next::Silent => match after.silent() {
+                Ok(()) => {}
+                Err(CodeStop::Frames) => return Ok(None),
+                Err(CodeStop::NoMemory) => return Err(NoMemory),
+            },
+            _ => return Ok(None),
+        }
+    }
+    Ok(Some(after))
+}
