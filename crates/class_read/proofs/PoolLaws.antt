@@ -2,10 +2,9 @@
 use Rattle.std.proofs.Common.{◌≡◌, ℕ, Bool, true, false, List, Option, None, Some, slice_get, ◌&&◌, refl, subst, ap, sym, ◌∙◌, [], ◌∷◌, length, ◌==◌, suc, arith}
 use Rattle.std.proofs.lemmas.Bool.Decides.{nat_tests}
 use Rattle.std.specs.Bool.{Decides}
-use Rattle.std.specs.Str.{bytes_eq}
 use Rattle.std.proofs.lemmas.Slice.Eq.{bytes_eq-Decides}
 use Rattle.class_walk.specs.declared.class.Constant.{Constant}
-use Rattle.class_walk.specs.declared.class.Constant.TheVariants.{Gap, Utf8, Integer, Float, Long, Double, Class, Str, Field, Method, IfaceMethod, Pair, Handle, MethodType, Dynamic}
+use Rattle.class_walk.specs.declared.class.Constant.TheVariants.{Utf8, Class, Field, Method, Pair}
 use Rattle.class_read.specs.Pool.{Reference, IsUtf8At, IsClassAt, IsPairAt, IsFieldAt, IsMethodAt}
 use Rattle.class_read.specs.PoolTest.{is_text, is_class, is_pair, is_field, is_method, has_field, has_method}
 

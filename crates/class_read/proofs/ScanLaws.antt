@@ -1,5 +1,5 @@
 -- Scanning code byte by byte finds exactly the code of statements.
-use Rattle.std.proofs.Common.{◌≡◌, ℕ, zero, suc, ◌+◌, ◌-◌, ◌*◌, ◌/◌, ◌%◌, ◌^◌, ◌<◌, ◌≤◌, Bool, true, false, ◌&&◌, ◌||◌, nat_le, ◌==◌, List, [], ◌∷◌, ◌++◌, length, get_or, fold, if◌then◌else◌, cond, arith, refl, sym, ◌∙◌, ap, subst, append_assoc}
+use Rattle.std.proofs.Common.{◌≡◌, ℕ, ◌+◌, ◌-◌, ◌*◌, ◌/◌, ◌%◌, ◌^◌, ◌<◌, ◌≤◌, Bool, true, false, List, [], ◌∷◌, ◌++◌, fold, if◌then◌else◌, arith, refl, ◌∙◌, ap, append_assoc}
 use Rattle.std.specs.List.{AllByRecursion, flat_map}
 use Rattle.std.proofs.lemmas.List.Sums.{fold-append}
 use Rattle.std.proofs.lemmas.Bool.Decides.{nat_tests}
@@ -7,8 +7,7 @@ use Rattle.class_walk.specs.Layout.{u2}
 use Rattle.class_read.specs.declared.scan.Scan.{Scan}
 use Rattle.class_read.specs.declared.scan.Scan.TheVariants.{Between, FieldHigh, FieldLow, Inside, OneByte, TwoBytes, LastByte, MethodHigh, MethodLow, Returned, Wrong}
 use Rattle.class_read.specs.Expression.{Operator, iadd, isub, imul, iand, ior, ixor, Expression, iconst, bipush, sipush, ineg, joined, opcode_of, code_of, IsExpression, Statement, statement, IsStatement}
-use Rattle.class_read.specs.Scan.{inside, between, step, depth_of, is_operator}
-use Rattle.class_read.proofs.Numbers.{u2-split, u2-joined}
+use Rattle.class_read.specs.Scan.{inside, between, step, depth_of}
 
 -- a fact of a choice, from the fact of either side
 pub by_test : (P : Scan → Type 0) (b : Bool) (x y : Scan) → (b ≡ true → P x) → (b ≡ false → P y) → P (if b then x else y)

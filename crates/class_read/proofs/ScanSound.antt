@@ -1,15 +1,14 @@
 -- What was scanned begins as the code of statements does.
-use Rattle.std.proofs.Common.{◌≡◌, ℕ, zero, suc, ◌+◌, ◌-◌, ◌*◌, ◌/◌, ◌%◌, ◌^◌, ◌<◌, ◌≤◌, Bool, true, false, ◌&&◌, ◌||◌, nat_le, ◌==◌, List, [], ◌∷◌, ◌++◌, length, fold, if◌then◌else◌, arith, refl, sym, ◌∙◌, ap, subst, append_assoc, append-nil, ◌⊎◌, inl, inr}
+use Rattle.std.proofs.Common.{◌≡◌, ℕ, suc, ◌+◌, ◌-◌, ◌*◌, ◌^◌, ◌<◌, ◌≤◌, Bool, true, false, ◌&&◌, ◌||◌, nat_le, ◌==◌, List, [], ◌∷◌, ◌++◌, length, fold, if◌then◌else◌, arith, refl, sym, ◌∙◌, ap, subst, append_assoc, append-nil, ◌⊎◌, inl, inr}
 use Rattle.std.specs.List.{AllByRecursion, flat_map}
-use Rattle.std.proofs.lemmas.List.Sums.{fold-append}
 use Rattle.std.proofs.lemmas.Bool.Decides.{nat_tests}
 use Rattle.std.proofs.lemmas.Grind.{flat_map-append}
 use Rattle.class_walk.specs.Layout.{u2}
 use Rattle.class_read.specs.declared.scan.Scan.{Scan}
 use Rattle.class_read.specs.declared.scan.Scan.TheVariants.{Between, FieldHigh, FieldLow, Inside, OneByte, TwoBytes, LastByte, MethodHigh, MethodLow, Returned, Wrong}
-use Rattle.class_read.specs.Expression.{Operator, iadd, isub, imul, iand, ior, ixor, Expression, iconst, bipush, sipush, ineg, joined, opcode_of, code_of, IsExpression, Statement, statement, IsStatement}
-use Rattle.class_read.specs.Scan.{inside, between, step, depth_of, is_operator}
-use Rattle.class_read.proofs.Numbers.{u2-split, u2-joined}
+use Rattle.class_read.specs.Expression.{Operator, iadd, isub, imul, iand, ior, ixor, Expression, iconst, bipush, sipush, ineg, joined, opcode_of, code_of, IsExpression, Statement, statement}
+use Rattle.class_read.specs.Scan.{inside, between, step, is_operator}
+use Rattle.class_read.proofs.Numbers.{u2-joined}
 use Rattle.class_read.proofs.ScanLaws.{IsRight}
 
 -- the codes of expressions, the last one first in the list

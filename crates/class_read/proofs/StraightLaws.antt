@@ -1,7 +1,6 @@
 -- A straight class has one name and one code.
-use Rattle.std.proofs.Common.{◌≡◌, ℕ, List, [], ◌∷◌, Option, Some, Result, Ok, Err, ap, sym, subst, ◌∙◌}
+use Rattle.std.proofs.Common.{◌≡◌, ℕ, List, [], ◌∷◌, Err, sym, subst}
 use Rattle.class_walk.specs.declared.class.Constant.{Constant}
-use Rattle.class_walk.specs.declared.class.Constant.TheVariants.{Utf8, Class}
 use Rattle.class_walk.specs.declared.class.RawClass.{RawClass}
 use Rattle.class_walk.specs.declared.class.RawMember.{RawMember}
 use Rattle.class_read.specs.declared.answer.StraightRefusal.{StraightRefusal}

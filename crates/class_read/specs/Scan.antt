@@ -1,5 +1,5 @@
 -- Straight code byte by byte: what may stand at each place of it. A step goes over one byte.
-use Rattle.std.specs.Prelude.{ℕ, zero, suc, ◌+◌, ◌-◌, ◌*◌, Bool, true, false, ◌==◌, ◌&&◌, ◌||◌, nat_le, if◌then◌else◌}
+use Rattle.std.specs.Prelude.{ℕ, ◌+◌, ◌-◌, ◌*◌, Bool, ◌==◌, ◌&&◌, ◌||◌, nat_le, if◌then◌else◌}
 use Rattle.class_read.specs.declared.scan.Scan.{Scan}
 use Rattle.class_read.specs.declared.scan.Scan.TheVariants.{Between, FieldHigh, FieldLow, Inside, OneByte, TwoBytes, LastByte, MethodHigh, MethodLow, Returned, Wrong}
 

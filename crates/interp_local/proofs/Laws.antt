@@ -1,16 +1,16 @@
 -- Executing the code of an expression pushes its value.
-use Rattle.std.proofs.Common.{◌≡◌, ℕ, zero, suc, ◌+◌, ◌-◌, ◌*◌, ◌/◌, ◌%◌, ◌^◌, ◌<◌, ◌≤◌, Bool, true, false, ◌&&◌, nat_le, ◌==◌, ℤ, pos, ◌-ℤ◌, List, [], ◌∷◌, ◌++◌, length, take, get_or, fold, if◌then◌else◌, arith, refl, sym, ◌∙◌, ap, append_assoc, append-nil}
+use Rattle.std.proofs.Common.{◌≡◌, ℕ, ◌+◌, ◌-◌, ◌*◌, ◌/◌, ◌%◌, ◌≤◌, Bool, true, false, ◌&&◌, nat_le, ℤ, pos, ◌-ℤ◌, List, [], ◌∷◌, ◌++◌, length, take, get_or, fold, if◌then◌else◌, arith, refl, sym, ◌∙◌, ap, append_assoc, append-nil}
 use Rattle.std.proofs.lemmas.List.{length-append}
 use Rattle.std.proofs.lemmas.Bool.{le-leb}
 use Rattle.std.proofs.lemmas.Int.{ints}
 use Rattle.std.proofs.Math.Seq.{take-append_seam, get_or-append_seam}
 use Rattle.std.specs.List.{AllByRecursion, flat_map}
-use Rattle.std.specs.Int.{w8, w16, w32, cast_signed, int_wrapping_neg}
+use Rattle.std.specs.Int.{w16, w32, cast_signed, int_wrapping_neg}
 use Rattle.std.proofs.lemmas.List.Sums.{fold-append}
 use Rattle.std.proofs.lemmas.Bool.Decides.{nat_tests}
 use Rattle.class_walk.specs.Layout.{u2}
 use Rattle.class_read.specs.Expression.{Operator, iadd, isub, imul, iand, ior, ixor, Expression, iconst, bipush, sipush, ineg, joined, opcode_of, applied, value_of, code_of, IsExpression, Statement, statement, IsStatement, IsMainCode, values_of}
-use Rattle.interp_local.specs.declared.evaluation.Expects.TheVariants.{Opcode, OneByte, HighByte, LowByte, TwoSkipped, OneSkipped}
+use Rattle.interp_local.specs.declared.evaluation.Expects.TheVariants.{Opcode, OneByte, HighByte, TwoSkipped}
 use Rattle.interp_local.specs.Evaluation.{Progress, applied_by, negated, joined_by, dropped, printed, executed, step, start}
 
 -- where the next byte is an opcode
@@ -137,9 +137,9 @@ code_of-executed (ineg e) stack values fits =
 code_of-executed (joined operator a b) stack values fits =
     fold-append step (at stack values) (code_of a ++ code_of b) (opcode_of operator ∷ [])
     ∙ ap (λ p. step p (opcode_of operator))
-        (fold-append step (at stack values) (code_of a) (code_of b)
-        ∙ ap (λ p. fold step p (code_of b)) (code_of-executed a stack values fits.0)
-        ∙ code_of-executed b (stack ++ value_of a ∷ []) values fits.1)
+    (fold-append step (at stack values) (code_of a) (code_of b)
+    ∙ ap (λ p. fold step p (code_of b)) (code_of-executed a stack values fits.0)
+    ∙ code_of-executed b (stack ++ value_of a ∷ []) values fits.1)
     ∙ executed_joined operator ((stack ++ value_of a ∷ []) ++ value_of b ∷ []) values
     ∙ ap (λ s. at s values) (joined_by-push (opcode_of operator) stack (value_of a) (value_of b) ∙ ap (λ v. stack ++ v ∷ []) (applied_by-opcode operator (value_of a) (value_of b)))
 
@@ -158,9 +158,9 @@ statement-executed : (s : Statement) (values : List ℤ) → IsStatement s → f
 statement-executed s values is =
     fold-append step (at [] values) (178 ∷ u2 s.field ++ code_of s.argument) (182 ∷ u2 s.method)
     ∙ ap (λ p. fold step p (182 ∷ u2 s.method))
-        (fold-append step (at [] values) (178 ∷ u2 s.field) (code_of s.argument)
-        ∙ ap (λ p. fold step p (code_of s.argument)) (field_executed s.field [] values)
-        ∙ code_of-executed s.argument [] values is.argument)
+    (fold-append step (at [] values) (178 ∷ u2 s.field) (code_of s.argument)
+    ∙ ap (λ p. fold step p (code_of s.argument)) (field_executed s.field [] values)
+    ∙ code_of-executed s.argument [] values is.argument)
     ∙ method_executed s.method [] values (value_of s.argument)
 
 return_executed : (values : List ℤ) → fold step (at [] values) (177 ∷ []) ≡ at [] values

@@ -4,6 +4,3 @@
 mod evaluation;
 
 pub use evaluation::run_straight;
-
-#[cfg(test)]
-mod tests;

@@ -8,11 +8,12 @@ use Rattle.jr_ports.specs.Folder.{File, Asked, AreDifferent, IsListed, IsOneOf, 
 use Rattle.jr_ports.specs.Memory.{files_of}
 
 pub IsOneOf-at : (files : List (String Global × Vec ℕ Global)) (i : ℕ) (f : String Global × Vec ℕ Global) (name : List ℕ) → i < length files → f ≡ get_or files i f → string_bytes f.0 ≡ name → IsOneOf (files_of files) name f.1.items
-IsOneOf-at files i f name below at same =
-    (record { name = string_bytes f.0; bytes = f.1.items }
-    , (i, rw length-map below, get_or-map (λ (g : String Global × Vec ℕ Global). let file : File = record { name = string_bytes g.0; bytes = g.1.items } in file) files i f _ below ∙ ap (λ (g : String Global × Vec ℕ Global). let file : File = record { name = string_bytes g.0; bytes = g.1.items } in file) (sym at))
-    , same
-    , refl)
+IsOneOf-at files i f name below at same = (
+  record { name = string_bytes f.0; bytes = f.1.items },
+  (i, rw length-map below, get_or-map (λ (g : String Global × Vec ℕ Global). let file : File = record { name = string_bytes g.0; bytes = g.1.items } in file) files i f _ below ∙ ap (λ (g : String Global × Vec ℕ Global). let file : File = record { name = string_bytes g.0; bytes = g.1.items } in file) (sym at)),
+  same,
+  refl,
+)
 
 pub names-none_more : (files : List (String Global × Vec ℕ Global)) (i : ℕ) (f : String Global × Vec ℕ Global) (name : List ℕ) → i < length files → f ≡ get_or files i f → (Contains (names_of (files_of (take i files))) name → ⊥) → (string_bytes f.0 ≡ name → ⊥) → Contains (names_of (files_of (take (i + 1) files))) name → ⊥
 names-none_more files i f name below at none other more =

@@ -1,4 +1,4 @@
-use Rattle.std.specs.Prelude.{◌≡◌, ℕ, List, [], Bool, if◌then◌else◌, Option, option_map, map, String, string_bytes, Vec}
+use Rattle.std.specs.Prelude.{ℕ, List, [], if◌then◌else◌, Option, option_map, map, String, string_bytes, Vec}
 use Rattle.std.specs.declared.alloc.Global.{Global}
 use Rattle.jr_ports.specs.Folder.{File, Asked, names_of}
 use Rattle.jr_ports.specs.declared.memory.dir.MemDir.{MemDir}

@@ -1,4 +1,4 @@
-use Rattle.std.specs.Prelude.{◌≡◌, ℕ, List, [], ◌++◌, Option, option_map, take, drop, length}
+use Rattle.std.specs.Prelude.{◌≡◌, ℕ, List, [], ◌++◌, Option, option_map, take, length}
 
 -- part is how the list begins
 abbrev pub IsPrefix : List ℕ → List ℕ → Type 0

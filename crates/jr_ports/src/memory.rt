@@ -10,7 +10,6 @@ pub use dir::{MemDir, names_differ};
 pub use sink::MemSink;
 pub use source::MemSource;
 
-
 /// Which calls of a memory form fail, and how many calls and faults there were.
 #[derive(Debug, Drop)]
 struct Calls {

@@ -19,10 +19,7 @@ pub struct MemDir {
 }
 
 /// The names of the files, in their order.
-fn names_of_files(
-    alloc: Global,
-    files: &[(String, Vec<u8>)],
-) -> Result<Vec<String>, AllocError>
+fn names_of_files(alloc: Global, files: &[(String, Vec<u8>)]) -> Result<Vec<String>, AllocError>
     ensures { IfOk result (λ names. map string_bytes names.items ≡ names_of (files_of files.now)) }
 {
     let mut names = Vec::new(alloc);

@@ -12,10 +12,12 @@ returns c =
     let Has : List Constant → Type 0 = λ p. IsClassAt p c.args.class.now.super_class (codes "java/lang/Object") in
     let is : c.is_class_at.result ≡ true = search rules in
     let empty : c.is_empty.result ≡ true = search rules in
-    let empty_too : c.is_empty-2.result ≡ true = search rules in
-    (λ t. record {
-      super_class = subst Has c.as_slice-pool.ensures (class_found _ _ _ c.is_class_at.result c.is_class_at.ensures is);
-      interfaces = none_of _ c.is_empty.result c.is_empty.ensures empty;
-      fields = none_of _ c.is_empty-2.result c.is_empty-2.ensures empty_too;
-      constants = subst Are c.as_slice-pool.ensures (c.are_straight.ensures.0 t);
-    }, λ h. c.are_straight.ensures.1 (subst Are (sym c.as_slice-pool.ensures) h.constants))
+    let empty_too : c.is_empty-2.result ≡ true = search rules in (
+      λ t. record {
+        super_class = subst Has c.as_slice-pool.ensures (class_found _ _ _ c.is_class_at.result c.is_class_at.ensures is);
+        interfaces = none_of _ c.is_empty.result c.is_empty.ensures empty;
+        fields = none_of _ c.is_empty-2.result c.is_empty-2.ensures empty_too;
+        constants = subst Are c.as_slice-pool.ensures (c.are_straight.ensures.0 t);
+      },
+      λ h. c.are_straight.ensures.1 (subst Are (sym c.as_slice-pool.ensures) h.constants),
+    )

@@ -1,5 +1,4 @@
-use Rattle.std.proofs.Common.{◌≡◌, ℕ, List, refl, arith, sym, ◌∙◌}
-use Rattle.std.specs.List.{AllByRecursion}
+use Rattle.std.proofs.Common.{refl, arith, sym, ◌∙◌}
 use Rattle.class_read.proofs.PrintsLaws.{PrintsSome-scanned, PrintsSome-found, all_bytes}
 use Rattle.class_read.proofs.scan.prints_values.Goals as goal
 

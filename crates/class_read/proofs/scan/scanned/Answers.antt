@@ -1,4 +1,4 @@
-use Rattle.std.proofs.Common.{◌≡◌, ◌≤◌, ◌+◌, arith, fold, sym, ◌∙◌, ap, get_or, take}
+use Rattle.std.proofs.Common.{◌≤◌, ◌+◌, arith, sym, ◌∙◌, ap, get_or}
 use Rattle.std.proofs.lemmas.List.Sums.{fold_more}
 use Rattle.class_read.specs.declared.scan.Scan.{Scan}
 use Rattle.class_read.specs.declared.scan.Scan.TheVariants.{Between}

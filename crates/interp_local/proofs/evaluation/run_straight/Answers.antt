@@ -1,4 +1,4 @@
-use Rattle.std.proofs.Common.{◌≡◌, ◌∙◌, ap, take, length, ◌≤◌, fold, List, ℕ}
+use Rattle.std.proofs.Common.{◌∙◌, ap, fold, List, ℕ}
 use Rattle.std.proofs.lemmas.List.{take_all}
 use Rattle.interp_local.specs.Evaluation.{Progress, step, start}
 use Rattle.interp_local.proofs.Laws.{values-executed}
@@ -7,7 +7,7 @@ use Rattle.interp_local.proofs.evaluation.run_straight.Goals as goal
 pub returns : goal.returns
 returns c =
     λ statements is.
-        c.from_vec.ensures
-        ∙ ap (λ (p : Progress). p.values) c.loop-byte.invariant
-        ∙ ap (λ (code : List ℕ). (fold step start code).values) (take_all c.loop-byte.byte-index c.args.code.now c.loop-byte-test.false)
-        ∙ values-executed c.args.code.now statements is
+    c.from_vec.ensures
+    ∙ ap (λ (p : Progress). p.values) c.loop-byte.invariant
+    ∙ ap (λ (code : List ℕ). (fold step start code).values) (take_all c.loop-byte.byte-index c.args.code.now c.loop-byte-test.false)
+    ∙ values-executed c.args.code.now statements is

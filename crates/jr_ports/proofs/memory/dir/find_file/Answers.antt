@@ -1,7 +1,6 @@
 use Rattle.std.proofs.Common.{◌≡◌, ◌≤◌, List, ℕ, length, string_bytes, sym, rules, subst}
 use Rattle.std.proofs.lemmas.List.{take_all}
-use Rattle.std.specs.List.{Contains}
-use Rattle.jr_ports.specs.Folder.{IsOneOf, names_of}
+use Rattle.jr_ports.specs.Folder.{IsOneOf}
 use Rattle.jr_ports.specs.Memory.{files_of}
 use Rattle.jr_ports.proofs.Files.{IsOneOf-at, names-none_more}
 use Rattle.jr_ports.proofs.memory.dir.find_file.Goals as goal

@@ -1,0 +1,4 @@
+pub mod Names
+pub mod Verdicts
+pub mod Streams
+pub mod Reported

@@ -1,0 +1,60 @@
+-- What a run of the program leaves on its streams.
+use Rattle.std.specs.Prelude.{◌≡◌, ℕ, ◌⊎◌, List, [], codes, Option, None, Some}
+use Rattle.jr_ports.specs.Folder.{File, Asked}
+use Rattle.jr_ports.specs.Stream.{IsPrefix}
+use Rattle.jrev_main.specs.declared.request.Request.TheVariants.{Pick}
+use Rattle.jrev_main.specs.declared.status.Status.{Status}
+use Rattle.jrev_main.specs.declared.status.Status.TheVariants as statuses
+use Rattle.jrev_main.specs.Request.{IsRequest}
+use Rattle.jrev_main.specs.Loading.{Given, IsTold}
+use Rattle.jrev_main.specs.Answer.{Answer, IsAnswer, line}
+
+-- These bytes were to be written on the standard error, and then the run to end with this status. Where the
+-- standard error fails, a part of them stands there, and the status is that of the failure.
+abbrev pub Said : List ℕ → Status → Type 0 → Status → List ℕ → Type 0
+Said whole meant err_fault status err =
+    ((status ≡ meant) × (err ≡ whole))
+    ⊎ ((status ≡ statuses.WriteFault) × err_fault × IsPrefix err whole)
+    ⊎ ((status ≡ statuses.Memory) × IsPrefix err whole)
+
+-- the answer is whole on the standard output
+abbrev pub IsWhole : Answer → Type 0 → Status → List ℕ → List ℕ → Type 0
+IsWhole answer err_fault status out err = (out ≡ answer.out) × Said answer.err answer.status err_fault status err
+
+-- the standard output failed in it, and that alone is said
+abbrev pub IsOutFault : Answer → Type 0 → Type 0 → Status → List ℕ → List ℕ → Type 0
+IsOutFault answer out_fault err_fault status out err =
+    out_fault × IsPrefix out answer.out × Said (line (codes "write fault")) statuses.WriteFault err_fault status err
+
+-- there was no memory for all of it, and that alone is said
+abbrev pub IsOutOfMemory : Answer → Type 0 → Status → List ℕ → List ℕ → Type 0
+IsOutOfMemory answer err_fault status out err =
+    IsPrefix out answer.out × Said (line (codes "no memory")) statuses.Memory err_fault status err
+
+abbrev pub Comes : Answer → Type 0 → Type 0 → Status → List ℕ → List ℕ → Type 0
+Comes answer out_fault err_fault status out err =
+    IsWhole answer err_fault status out err
+    ⊎ IsOutFault answer out_fault err_fault status out err
+    ⊎ IsOutOfMemory answer err_fault status out err
+
+-- the folder failed before the answer was known
+abbrev pub IsReadFault : Type 0 → Type 0 → Status → List ℕ → List ℕ → Type 0
+IsReadFault read_fault err_fault status out err =
+    read_fault × (out ≡ []) × Said (line (codes "read fault")) statuses.ReadFault err_fault status err
+
+-- there was no memory to find the answer
+abbrev pub IsNoMemory : Type 0 → Status → List ℕ → List ℕ → Type 0
+IsNoMemory err_fault status out err = (out ≡ []) × Said (line (codes "no memory")) statuses.Memory err_fault status err
+
+-- What a run with these words leaves: the answer to them over what the folder gave, or a fault of the folder or want
+-- of memory before that was known.
+abbrev pub Reports : List (List ℕ) → Option (List File) → Type 0 → Type 0 → Type 0 → Status → List ℕ → List ℕ → Type 0
+Reports words files read_fault out_fault err_fault status out err =
+    ((given : Given) × (answer : Answer) × IsTold files given × IsAnswer words given answer × Comes answer out_fault err_fault status out err)
+    ⊎ IsReadFault read_fault err_fault status out err
+    ⊎ IsNoMemory err_fault status out err
+
+-- a folder was asked for nothing, or for the folder of the words
+abbrev pub AsksOnly : List (List ℕ) → Option Asked → Type 0
+AsksOnly words None = Unit {0}
+AsksOnly words (Some asked) = (main : List ℕ) × IsRequest words (Pick asked.dir main)

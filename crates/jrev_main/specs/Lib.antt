@@ -1,0 +1,7 @@
+pub mod Status
+pub mod Request
+pub mod Loading
+pub mod Answer
+pub mod Headline
+pub mod Verdict
+pub mod Written

@@ -1,0 +1,42 @@
+-- Which class file is read of a folder.
+use Rattle.std.specs.Prelude.{◌≡◌, ℕ, ◌-◌, Bool, ◌&&◌, nat_lt, List, [], ◌∷◌, length, drop, filter, codes, Option, None, Some}
+use Rattle.std.specs.List.Sorted.{IsPermutation, IsSorted}
+use Rattle.std.specs.Cmp.Lexicographic.{slice_cmp}
+use Rattle.std.specs.Ordering.{nat_cmp}
+use Rattle.std.specs.Str.{bytes_eq}
+use Rattle.jr_ports.specs.Folder.{File, IsRead, names_of}
+use Rattle.jrev_main.specs.declared.loading.Loaded.{Loaded}
+use Rattle.jrev_main.specs.declared.loading.Loaded.TheVariants.{NoClass, OneClass, MoreClasses}
+
+-- a name that ends in .class, and is longer than that
+abbrev pub is_class_file : List ℕ → Bool
+is_class_file name = nat_lt 6 (length name) && bytes_eq (drop (length name - 6) name) (codes ".class")
+
+-- none of these names, or the only one, or the second of several
+abbrev pub IsFirstOf : List (List ℕ) → Loaded → Type 0
+IsFirstOf [] NoClass = Unit {0}
+IsFirstOf (only ∷ []) (OneClass name bytes) = name ≡ only
+IsFirstOf (first ∷ second ∷ rest) (MoreClasses name) = name ≡ second
+IsFirstOf _ _ = ⊥
+
+-- what is loaded where the folder gives these names: the class files are taken in the order of their bytes
+pub record IsLoaded (names : List (List ℕ)) (loaded : Loaded) : Type 0 where
+  pub sorted : List (List ℕ)
+  pub are : IsPermutation (filter is_class_file names) sorted
+  pub in_order : IsSorted (slice_cmp nat_cmp) sorted
+  pub first : IsFirstOf sorted loaded
+
+-- the bytes that were read are those of a file of that name
+abbrev pub IsReadOf : List File → Loaded → Type 0
+IsReadOf files (OneClass name bytes) = IsRead files name bytes
+IsReadOf files _ = Unit {0}
+
+-- what a folder gave: its names, and what was read of it
+pub record Given : Type 0 where
+  pub names : List (List ℕ)
+  pub loaded : Loaded
+
+-- it is what the folder tells, where it tells it
+abbrev pub IsTold : Option (List File) → Given → Type 0
+IsTold None given = Unit {0}
+IsTold (Some files) given = IsPermutation (names_of files) given.names × IsReadOf files given.loaded

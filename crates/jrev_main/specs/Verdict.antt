@@ -1,0 +1,12 @@
+use Rattle.jrev_main.specs.declared.verdict.Verdict.{Verdict}
+use Rattle.jrev_main.specs.declared.verdict.Verdict.TheVariants.{Usage, Help, Version, NoMain, Refused, Prints}
+use Rattle.jrev_main.specs.Answer.{Answer, usage, text, help_text, version_text, no_main, refused, prints}
+
+-- the answer of a verdict
+abbrev pub answer_of : Verdict → Answer
+answer_of Usage = usage
+answer_of Help = text help_text
+answer_of Version = text version_text
+answer_of NoMain = no_main
+answer_of (Refused file) = refused file
+answer_of (Prints values) = prints values

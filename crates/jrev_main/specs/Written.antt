@@ -1,0 +1,23 @@
+-- What was given to the two sinks in a call.
+use Rattle.std.specs.Prelude.{ℕ, List, Option}
+use Rattle.jr_ports.specs.Folder.{File}
+use Rattle.jr_ports.specs.Stream.{Gains}
+use Rattle.jrev_main.specs.declared.status.Status.{Status}
+use Rattle.jrev_main.specs.Answer.{Answer}
+use Rattle.jrev_main.specs.Headline.{Said, Comes, Reports}
+
+-- the standard error gained these bytes, or a part of them
+abbrev pub SaysOn : Option (List ℕ) → Option (List ℕ) → List ℕ → Status → Type 0 → Status → Type 0
+SaysOn before after whole meant err_fault status =
+    (bytes : List ℕ) × Gains before after bytes × Said whole meant err_fault status bytes
+
+-- both streams gained what the answer says
+abbrev pub ComesOn : Answer → Option (List ℕ) → Option (List ℕ) → Option (List ℕ) → Option (List ℕ) → Type 0 → Type 0 → Status → Type 0
+ComesOn answer out_before out_after err_before err_after out_fault err_fault status =
+    (out err : List ℕ) × Gains out_before out_after out × Gains err_before err_after err × Comes answer out_fault err_fault status out err
+
+-- both streams gained what a run with these words leaves
+abbrev pub ReportsOn : List (List ℕ) → Option (List File) → Option (List ℕ) → Option (List ℕ) → Option (List ℕ) → Option (List ℕ) → Type 0 → Type 0 → Type 0 → Status → Type 0
+ReportsOn words files out_before out_after err_before err_after read_fault out_fault err_fault status =
+    (out err : List ℕ) × Gains out_before out_after out × Gains err_before err_after err
+    × Reports words files read_fault out_fault err_fault status out err
