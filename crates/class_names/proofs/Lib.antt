@@ -1,0 +1,6 @@
+pub mod Cases
+pub mod NameLaws
+pub mod KindLaws
+pub mod ParameterLaws
+pub mod DescriptorLaws
+pub mod TextLaws

@@ -1,0 +1,10 @@
+use Rattle.std.proofs.Common.{Some, ap, ◌∙◌, option_map, ℕ}
+use Rattle.class_names.specs.Descriptor.{parameter_words_of}
+use Rattle.class_names.specs.Shape.{kind_of}
+use Rattle.class_names.proofs.DescriptorLaws.{one_method}
+use Rattle.class_names.proofs.descriptor.parameter_words.Goals as goal
+
+pub returns-in-Some-clause-only : goal.returns-in-Some-clause-only
+returns-in-Some-clause-only c parameters returned d =
+    let s = c.in-Some.ensures.found in
+    ap (λ (n : ℕ). Some n) (s.words ∙ ap parameter_words_of (one_method c.args.bytes.now s.kinds parameters (option_map kind_of c.in-Some.shape.returned) returned s.descriptor d).0)

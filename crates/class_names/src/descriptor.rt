@@ -1,0 +1,180 @@
+//! Reading descriptors (JVMS 4.3).
+
+ghost use Rattle.std.specs.Prelude.{◌≡◌, ◌≢◌, ◌↔◌, ◌≤◌, ◌++◌, ◌∷◌, ℕ, List, Option, None, Some, Ok, Err, IsTrue, IfOk, IfSome, IfNone, MatchOption, MatchResult, option_map};
+ghost use Rattle.class_names.specs.declared.kind.BaseKind.{BaseKind};
+ghost use Rattle.class_names.specs.declared.kind.Kind.{Kind};
+ghost use Rattle.class_names.specs.declared.kind.Descriptor.{Descriptor};
+ghost use Rattle.class_names.specs.Descriptor.{IsFieldDescriptor, IsMethodDescriptor, IsDescriptorOf, parameter_words_of, KindsAt, ParametersAt, IsReturn};
+ghost use Rattle.class_names.specs.Reading.{kind_at};
+ghost use Rattle.class_names.specs.Shape.{kind_of};
+ghost use Rattle.class_names.specs.MethodShape.{IsMethodShape};
+
+use crate::kind::{Descriptor, Kind, NameRefusal};
+use crate::shape::{KindShape, kind_shape};
+use rows::Rows;
+use std::alloc::{AllocError, Global};
+
+/// The kind of which the bytes are the descriptor.
+fn whole_kind(bytes: &[u8]) -> Option<KindShape<'_>>
+    ensures found { IfSome result (λ shape. IsFieldDescriptor bytes.now (kind_of shape)) }
+    ensures none { IfNone result ((kind : Kind) → ¬ IsFieldDescriptor bytes.now kind) }
+{
+    let (shape, rest) = kind_shape(bytes)?;
+    if rest.is_empty() { Some(shape) } else { None }
+}
+
+/// Whether bytes are a field descriptor: one of the letters `B`, `C`, `D`, `F`, `I`, `J`, `S` and `Z`, or an
+/// `L`, a class name and a `;`, or up to 255 `[` and one of these (JVMS 4.3.2).
+pub fn is_field_descriptor(bytes: &[u8]) -> bool
+    ensures { IsTrue result ↔ ((kind : Kind) × IsFieldDescriptor bytes.now kind) }
+{
+    whole_kind(bytes).is_some()
+}
+
+/// Whether bytes are the field descriptor of an array (JVMS 4.3.2), by which a constant names an array class
+/// (JVMS 4.4.1).
+pub fn is_array_descriptor(bytes: &[u8]) -> bool
+    ensures { IsTrue result ↔ ((dimensions : ℕ) × (base : BaseKind) × IsFieldDescriptor bytes.now (Kind.Array dimensions base)) }
+{
+    match whole_kind(bytes) {
+        Some(shape) => shape.dimensions > 0,
+        None => false,
+    }
+}
+
+/// What stands behind a byte at the front.
+fn after_byte(bytes: &[u8], byte: u8) -> Option<&[u8]>
+    ensures { MatchOption result ((rest : List ℕ) → bytes.now ≢ byte ∷ rest) (λ rest. bytes.now ≡ byte ∷ rest.now) }
+{
+    let (first, rest) = bytes.split_first()?;
+    if *first == byte { Some(rest) } else { None }
+}
+
+/// The words of the parameters that stand at the front, up to their `)`, and what stands behind it.
+fn parameters(bytes: &[u8]) -> Option<(u32, &[u8])>
+    ensures found { IfSome result (λ x. (kinds : List Kind) × ParametersAt bytes.now kinds x.1.now × (x.0 ≡ parameter_words_of kinds)) }
+    ensures none { IfNone result ((kinds : List Kind) (rest : List ℕ) → ¬ ParametersAt bytes.now kinds rest) }
+{
+    let mut words = 0;
+    let mut rest = bytes;
+    while let Some((shape, after)) = kind_shape(rest) {
+        words += shape.words();
+        if words > 255 {
+            return None;
+        }
+        rest = after;
+    }
+    let after = after_byte(rest, b')')?;
+    Some((words, after))
+}
+
+/// The kind of the result, which the bytes are up to their end: `None` in it where it is void.
+fn returned_shape(bytes: &[u8]) -> Option<Option<KindShape<'_>>>
+    ensures found { IfSome result (λ x. IsReturn bytes.now (option_map kind_of x)) }
+    ensures none { IfNone result ((returned : Option Kind) → ¬ IsReturn bytes.now returned) }
+{
+    if bytes == b"V".as_slice() {
+        return Some(None);
+    }
+    let shape = whole_kind(bytes)?;
+    Some(Some(shape))
+}
+
+/// A method descriptor as it stands: the words of its parameters, the bytes from the first parameter on, and
+/// the result.
+#[derive(Clone, Copy, Debug)]
+pub(crate) struct MethodShape<'a> {
+    words: u32,
+    parameters: &'a [u8],
+    returned: Option<KindShape<'a>>,
+}
+
+fn method_shape(bytes: &[u8]) -> Option<MethodShape<'_>>
+    ensures found { IfSome result (IsMethodShape bytes.now) }
+    ensures none { IfNone result ((parameters : List Kind) (returned : Option Kind) → ¬ IsMethodDescriptor bytes.now parameters returned) }
+{
+    let text = after_byte(bytes, b'(')?;
+    let (words, rest) = parameters(text)?;
+    let returned = returned_shape(rest)?;
+    Some(MethodShape {
+        words,
+        parameters: text,
+        returned,
+    })
+}
+
+/// How many words the parameters of a method descriptor take, a long or a double two and any other value
+/// one; the receiver isn't counted (JVMS 4.3.3). `None` where the bytes are no method descriptor.
+pub fn parameter_words(bytes: &[u8]) -> Option<u32>
+    ensures found { IfSome result (λ words. (parameters : List Kind) × (returned : Option Kind)
+        × IsMethodDescriptor bytes.now parameters returned × (words ≡ parameter_words_of parameters)) }
+    ensures only { (parameters : List Kind) (returned : Option Kind) →
+        IsMethodDescriptor bytes.now parameters returned → result ≡ Some (parameter_words_of parameters) }
+{
+    match method_shape(bytes) {
+        Some(shape) => Some(shape.words),
+        None => None,
+    }
+}
+
+/// Whether bytes are a method descriptor: field descriptors in parentheses, of at most 255 words, and a field
+/// descriptor or `V` (JVMS 4.3.3).
+pub fn is_method_descriptor(bytes: &[u8]) -> bool
+    ensures { IsTrue result ↔ ((parameters : List Kind) × (returned : Option Kind) × IsMethodDescriptor bytes.now parameters returned) }
+{
+    method_shape(bytes).is_some()
+}
+
+/// The kinds that stand one after the other at the front.
+fn kinds(alloc: Global, bytes: &[u8]) -> Result<Rows<Kind>, AllocError>
+    ensures { IfOk result (λ kinds. (rest : List ℕ) × KindsAt bytes.now kinds rest × (kind_at rest ≡ None)) }
+{
+    let mut kinds = Rows::new(alloc);
+    let mut rest = bytes;
+    while let Some((shape, after)) = kind_shape(rest) {
+        kinds.push(shape.kind(alloc)?)?;
+        rest = after;
+    }
+    Ok(kinds)
+}
+
+fn returned_kind(alloc: Global, shape: Option<KindShape<'_>>) -> Result<Option<Kind>, AllocError>
+    ensures { IfOk result (λ kind. kind ≡ option_map kind_of shape.entry) }
+{
+    match shape {
+        Some(shape) => Ok(Some(shape.kind(alloc)?)),
+        None => Ok(None),
+    }
+}
+
+impl MethodShape<'_> {
+    /// The descriptor with memory of its own.
+    fn descriptor(self, alloc: Global) -> Result<Descriptor, AllocError>
+        ensures { IfOk result (λ d. (kinds : List Kind) (after : List ℕ) → ParametersAt self.entry.parameters.now kinds after
+            → d ≡ Descriptor.Method kinds (option_map kind_of self.entry.returned)) }
+    {
+        let parameters = kinds(alloc, self.parameters)?;
+        let returned = returned_kind(alloc, self.returned)?;
+        Ok(Descriptor::Method(parameters, returned))
+    }
+}
+
+/// The descriptor that the bytes spell (JVMS 4.3). Of a method it counts the parameters alone and no
+/// receiver. Where the bytes are none, the answer is `Bad`, and no memory is taken.
+pub fn descriptor_of(alloc: Global, bytes: &[u8]) -> Result<Descriptor, NameRefusal>
+    // What is read is spelled so.
+    ensures found { IfOk result (IsDescriptorOf bytes.now) }
+    // What is spelled so is read, unless memory runs out.
+    ensures only { (descriptor : Descriptor) → IsDescriptorOf bytes.now descriptor →
+        MatchResult result (λ read. read ≡ descriptor) (λ refusal. refusal ≡ NameRefusal.NoMemory) }
+    // Bad exactly where nothing is spelled so.
+    ensures bad { (result ≡ Err NameRefusal.Bad) ↔ ((descriptor : Descriptor) → ¬ IsDescriptorOf bytes.now descriptor) }
+{
+    if let Some(shape) = method_shape(bytes) {
+        return Ok(shape.descriptor(alloc)?);
+    }
+    match whole_kind(bytes) {
+        Some(shape) => Ok(Descriptor::Field(shape.kind(alloc)?)),
+        None => Err(NameRefusal::Bad),
+    }
+}
