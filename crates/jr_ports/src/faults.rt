@@ -1,4 +1,4 @@
-ghost use Rattle.std.specs.Prelude.{◌≡◌, ◌<◌, ◌≤◌, ◌+◌};
+ghost use Rattle.std.specs.Prelude.{◌≡◌, ◌<◌, ◌≤◌, ◌+◌, ◌^◌};
 ghost use Rattle.std.specs.Bool.{OnTrue, OnFalse};
 
 use std::io::{Error, ErrorKind};
@@ -13,7 +13,7 @@ pub enum Refusal {
 /// Counts a fault; `false` where the count stands at its end, and then it stays.
 pub fn count_fault(faults: &mut u64) -> bool
     ensures counted { OnTrue result (faults.new ≡ faults.old + 1) }
-    ensures full { OnFalse result (faults.new ≡ faults.old) }
+    ensures full { OnFalse result ((faults.old + 1 ≡ 2 ^ 64) × (faults.new ≡ faults.old)) }
 {
     match faults.checked_add(1) {
         Some(more) => {

@@ -1,4 +1,4 @@
-ghost use Rattle.std.specs.Prelude.{◌≡◌, ◌<◌, ◌≤◌};
+ghost use Rattle.std.specs.Prelude.{◌≡◌, ◌+◌, ◌-◌, ◌^◌, ◌<◌, ◌≤◌, ◌↔◌, min, IsTrue, Contains};
 
 use crate::faults::{Refusal, count_fault};
 
@@ -21,7 +21,8 @@ struct Calls {
 
 impl Calls {
     fn new(fail: Vec<u32>) -> Self
-        ensures { result.faults ≡ 0 }
+        ensures fail { result.fail.items ≡ fail.items }
+        ensures none_yet { (result.made ≡ 0) × (result.faults ≡ 0) }
     {
         Calls {
             fail,
@@ -32,7 +33,9 @@ impl Calls {
 
     /// Counts one call more, and says whether it is one that fails.
     fn next_fails(&mut self) -> bool
-        ensures { self.new.faults ≡ self.old.faults }
+        ensures counted { self.new.made ≡ min (self.old.made + 1) (2 ^ 32 - 1) }
+        ensures fails { IsTrue result ↔ Contains self.old.fail.items self.new.made }
+        ensures others { (self.new.faults ≡ self.old.faults) × (self.new.fail.items ≡ self.old.fail.items) }
     {
         self.made = self.made.saturating_add(1);
         self.fail.contains(&self.made)

@@ -80,6 +80,7 @@ impl MemDir {
         requires { AreDifferent (names_of (files_of files.items)) }
         ensures files { result.files.items ≡ files.items }
         ensures fresh { asked_of result ≡ None }
+        ensures fail { (result.calls.fail.items ≡ fail.items) × (result.calls.made ≡ 0) × (result.calls.faults ≡ 0) }
     {
         MemDir {
             files,

@@ -16,7 +16,8 @@ pub struct MemSink {
 impl MemSink {
     /// A sink that was given nothing; `fail` lists the puts, counted from 1, that fail.
     pub fn new(alloc: Global, fail: Vec<u32>) -> Self
-        ensures { result.taken.items ≡ [] }
+        ensures empty { result.taken.items ≡ [] }
+        ensures fail { (result.calls.fail.items ≡ fail.items) × (result.calls.made ≡ 0) × (result.calls.faults ≡ 0) }
     {
         MemSink {
             taken: Vec::new(alloc),

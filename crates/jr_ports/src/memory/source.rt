@@ -19,6 +19,7 @@ impl MemSource {
     pub fn new(bytes: Vec<u8>, fail: Vec<u32>) -> Self
         ensures bytes { result.bytes.items ≡ bytes.items }
         ensures taken { result.taken ≡ 0 }
+        ensures fail { (result.calls.fail.items ≡ fail.items) × (result.calls.made ≡ 0) × (result.calls.faults ≡ 0) }
     {
         MemSource {
             bytes,
