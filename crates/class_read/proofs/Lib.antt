@@ -5,3 +5,16 @@ pub mod ScanSound
 pub mod PrintsLaws
 pub mod Lists
 pub mod StraightLaws
+pub mod RuleLaws
+pub mod PoolMarkLaws
+pub mod FindLaws
+pub mod FoundLaws
+pub mod PlaceLaws
+pub mod NumberLaws
+pub mod KeyLaws
+pub mod SignatureLaws
+pub mod MemberLaws
+pub mod SharpLaws
+pub mod ReadLaws
+pub mod SoundLaws
+pub mod TextLaws

@@ -1,0 +1,153 @@
+//! `class_show FILE` prints what is read of a class file, or why it is refused.
+#![tactic(auto)]
+
+ghost use Rattle.std.specs.Prelude.{List, ℕ};
+ghost use Rattle.class_read.specs.ClassFile.{IsFile};
+
+use class_read::{ClassFile, Constant, Member, NameRefusal, read_class, text_of};
+use std::env;
+use std::fs::File;
+use std::io::{self, Read};
+use std::process::ExitCode;
+use std::rt::{Env, Files};
+
+/// How many bytes of a file are read at most: one more than a class file may have.
+const MOST_READ: u64 = 1_048_577;
+
+/// Prints the text of a Utf8 entry, with escapes.
+fn show_text<R: Print + AllocGlobal>(rt: &R, file: &ClassFile, index: u16) -> io::Result<()>
+    requires { (bytes : List ℕ) × IsFile bytes file.now }
+{
+    match text_of(rt.alloc(), file, index) {
+        Ok(text) => {
+            let text = text.as_str();
+            println!(rt; "Utf8 {text:?}")
+        }
+        Err(NameRefusal::Bad) => println!(rt; "Utf8"),
+        Err(NameRefusal::NoMemory) => Err(io::Error::from(io::ErrorKind::OutOfMemory)),
+    }
+}
+
+/// Prints an entry of the pool that is no text.
+fn show_constant<R: Print>(rt: &R, constant: &Constant) -> io::Result<()> {
+    match constant {
+        Constant::Gap | Constant::Utf8(_) => println!(rt; ""),
+        Constant::Integer(value) => println!(rt; "Integer {value}"),
+        Constant::Float(bits) => println!(rt; "Float {bits:#010x}"),
+        Constant::Long(value) => println!(rt; "Long {value}"),
+        Constant::Double(bits) => println!(rt; "Double {bits:#018x}"),
+        Constant::Class(name) => println!(rt; "Class {name}"),
+        Constant::Str(text) => println!(rt; "String {text}"),
+        Constant::Field(class, pair) => println!(rt; "Fieldref {class} {pair}"),
+        Constant::Method(class, pair) => println!(rt; "Methodref {class} {pair}"),
+        Constant::IfaceMethod(class, pair) => println!(rt; "InterfaceMethodref {class} {pair}"),
+        Constant::Pair(name, descriptor) => println!(rt; "NameAndType {name} {descriptor}"),
+        Constant::Handle(kind, index) => println!(rt; "MethodHandle {kind} {index}"),
+        Constant::MethodType(descriptor) => println!(rt; "MethodType {descriptor}"),
+        Constant::Dynamic(bootstrap, pair) => println!(rt; "InvokeDynamic {bootstrap} {pair}"),
+    }
+}
+
+fn show_pool<R: Print + AllocGlobal>(rt: &R, file: &ClassFile) -> io::Result<()>
+    requires { (bytes : List ℕ) × IsFile bytes file.now }
+{
+    for (index, constant) in (0u16..).zip(file.pool.as_slice().iter()) {
+        match constant {
+            Constant::Gap => {}
+            Constant::Utf8(_) => {
+                print!(rt; "  {index} ")?;
+                show_text(rt, file, index)?;
+            }
+            _ => {
+                print!(rt; "  {index} ")?;
+                show_constant(rt, constant)?;
+            }
+        }
+    }
+    Ok(())
+}
+
+fn show_code<R: Print>(rt: &R, member: &Member) -> io::Result<()> {
+    let Some(code) = &member.code else {
+        return Ok(());
+    };
+    let (stack, locals) = (code.max_stack, code.max_locals);
+    let (bytes, maps) = (code.bytes.len(), code.maps.len());
+    println!(rt;
+        "    stack {stack}, locals {locals}, {bytes} bytes of code, {maps} bytes of stack maps"
+    )?;
+    for handler in code.handlers.as_slice() {
+        let (from, to, at, kind) = (handler.from, handler.to, handler.at, handler.kind);
+        println!(rt; "    handler from {from} to {to} at {at} kind {kind}")?;
+    }
+    Ok(())
+}
+
+fn show_members<R: Print>(rt: &R, heading: &str, members: &[Member]) -> io::Result<()> {
+    for member in members {
+        let (flags, name, descriptor) = (member.flags, member.name, member.descriptor);
+        print!(rt; "{heading} flags {flags:#06x} name {name} descriptor {descriptor}")?;
+        match member.constant {
+            Some(constant) => println!(rt; " constant {constant}")?,
+            None => println!(rt; "")?,
+        }
+        show_code(rt, member)?;
+    }
+    Ok(())
+}
+
+/// Prints what is kept of a class file.
+fn show<R: Print + AllocGlobal>(rt: &R, file: &ClassFile) -> io::Result<()>
+    requires { (bytes : List ℕ) × IsFile bytes file.now }
+{
+    let (major, flags) = (file.major, file.flags);
+    let (this_class, super_class) = (file.this_class, file.super_class);
+    println!(rt; "class {this_class} super {super_class} version {major} flags {flags:#06x}")?;
+    for interface in file.interfaces.as_slice() {
+        let interface = *interface;
+        println!(rt; "interface {interface}")?;
+    }
+    println!(rt; "pool")?;
+    show_pool(rt, file)?;
+    show_members(rt, "field", file.fields.as_slice())?;
+    show_members(rt, "method", file.methods.as_slice())
+}
+
+/// Reads and prints the file, and says whether it was accepted.
+fn show_file<R: Print + AllocGlobal + Files>(rt: &R, path: &str) -> io::Result<bool> {
+    let mut bytes = Vec::new(rt.alloc());
+    File::open(rt, path)?
+        .take(MOST_READ)
+        .read_to_end(&mut bytes)?;
+    match read_class(rt.alloc(), bytes.as_slice()) {
+        Ok(file) => {
+            show(rt, &file)?;
+            Ok(true)
+        }
+        Err(refusal) => {
+            println!(rt; "refused: {refusal}")?;
+            Ok(false)
+        }
+    }
+}
+
+/// Shows the file that the one word of the command line names.
+fn run<R: Print + AllocGlobal + Files + Env>(rt: &R) -> io::Result<bool> {
+    let mut words = env::args(rt)?.skip(1);
+    let (Some(path), None) = (words.next(), words.next()) else {
+        println!(rt; "usage: class_show FILE")?;
+        return Ok(false);
+    };
+    show_file(rt, path.as_str())
+}
+
+fn main(rt: HostRuntime) -> ExitCode {
+    match run(&rt) {
+        Ok(true) => ExitCode::SUCCESS,
+        Ok(false) => ExitCode::FAILURE,
+        Err(error) => {
+            let _ = eprintln!(rt; "class_show: {error}");
+            ExitCode::FAILURE
+        }
+    }
+}
