@@ -20,7 +20,7 @@ JAVA
     for class in "$folder"/*.class; do
         name=$(basename "$class")
         javap -v "$class" | sed -n 's/^ *#\([0-9]*\) = \([A-Za-z0-9]*\).*/\1 \2/p' >"$folder/wanted"
-        "$show" "$class" | sed -n 's/^  \([0-9]*\) \([A-Za-z0-9]*\) .*/\1 \2/p' >"$folder/seen"
+        "$show" "$class" | sed -n 's/^  \([0-9][0-9]*\) \([A-Za-z0-9]*\) .*/\1 \2/p' >"$folder/seen"
         if [ -s "$folder/seen" ] && cmp -s "$folder/wanted" "$folder/seen"; then
             echo "ok the pool of $name, as javap has it"
         else
