@@ -1,0 +1,3 @@
+pub mod Table
+pub mod Offsets
+pub mod Steps
