@@ -33,7 +33,7 @@ other_number n high i small =
     at (nat_eq i.number n) refl
 
 -- no instruction has a number from 202 on
-row_numbered-past : (n : ℕ) → 202 ≤ n → row_numbered n ≡ None
+pub row_numbered-past : (n : ℕ) → 202 ≤ n → row_numbered n ≡ None
 row_numbered-past n high =
     find-none (λ (i : Instruction). nat_eq i.number n) table
     (All-weaker (λ (i : Instruction). nat_lt i.number 202 ≡ true) (λ i. nat_eq i.number n ≡ false) (other_number n high) table numbers_are_small)
