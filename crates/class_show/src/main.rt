@@ -3,8 +3,13 @@
 
 ghost use Rattle.std.specs.Prelude.{List, ℕ};
 ghost use Rattle.class_read.specs.ClassFile.{IsFile};
+ghost use Rattle.code_decode.specs.Method.{StandsForFile};
+
+mod code;
 
 use class_read::{ClassFile, Constant, Member, NameRefusal, read_class, text_of};
+use code::show_codes;
+use code_decode::{CodeAt, decode_class};
 use std::env;
 use std::fs::File;
 use std::io::{self, Read};
@@ -67,22 +72,6 @@ fn show_pool<R: Print + AllocGlobal>(rt: &R, file: &ClassFile) -> io::Result<()>
     Ok(())
 }
 
-fn show_code<R: Print>(rt: &R, member: &Member) -> io::Result<()> {
-    let Some(code) = &member.code else {
-        return Ok(());
-    };
-    let (stack, locals) = (code.max_stack, code.max_locals);
-    let (bytes, maps) = (code.bytes.len(), code.maps.len());
-    println!(rt;
-        "    stack {stack}, locals {locals}, {bytes} bytes of code, {maps} bytes of stack maps"
-    )?;
-    for handler in code.handlers.as_slice() {
-        let (from, to, at, kind) = (handler.from, handler.to, handler.at, handler.kind);
-        println!(rt; "    handler from {from} to {to} at {at} kind {kind}")?;
-    }
-    Ok(())
-}
-
 fn show_members<R: Print>(rt: &R, heading: &str, members: &[Member]) -> io::Result<()> {
     for member in members {
         let (flags, name, descriptor) = (member.flags, member.name, member.descriptor);
@@ -91,7 +80,6 @@ fn show_members<R: Print>(rt: &R, heading: &str, members: &[Member]) -> io::Resu
             Some(constant) => println!(rt; " constant {constant}")?,
             None => println!(rt; "")?,
         }
-        show_code(rt, member)?;
     }
     Ok(())
 }
@@ -113,22 +101,43 @@ fn show<R: Print + AllocGlobal>(rt: &R, file: &ClassFile) -> io::Result<()>
     show_members(rt, "method", file.methods.as_slice())
 }
 
-/// Reads and prints the file, and says whether it was accepted.
-fn show_file<R: Print + AllocGlobal + Files>(rt: &R, path: &str) -> io::Result<bool> {
-    let mut bytes = Vec::new(rt.alloc());
-    File::open(rt, path)?
-        .take(MOST_READ)
-        .read_to_end(&mut bytes)?;
-    match read_class(rt.alloc(), bytes.as_slice()) {
+/// Prints the code of each method, and says whether it was accepted.
+fn show_decoded<R: Print + AllocGlobal>(rt: &R, file: ClassFile) -> io::Result<bool>
+    requires { StandsForFile file }
+{
+    match decode_class(rt.alloc(), file) {
+        Ok(unit) => {
+            show_codes(rt, &unit)?;
+            Ok(true)
+        }
+        Err(CodeAt { method, refusal }) => {
+            println!(rt; "refused: method {method} {refusal}")?;
+            Ok(false)
+        }
+    }
+}
+
+/// Prints what is read of the bytes of a file, and says whether it was accepted.
+fn show_bytes<R: Print + AllocGlobal>(rt: &R, bytes: &[u8]) -> io::Result<bool> {
+    match read_class(rt.alloc(), bytes) {
         Ok(file) => {
             show(rt, &file)?;
-            Ok(true)
+            show_decoded(rt, file)
         }
         Err(refusal) => {
             println!(rt; "refused: {refusal}")?;
             Ok(false)
         }
     }
+}
+
+/// Reads and prints the file, and says whether it was accepted.
+fn show_file<R: Print + AllocGlobal + Files>(rt: &R, path: &str) -> io::Result<bool> {
+    let mut bytes = Vec::new(rt.alloc());
+    File::open(rt, path)?
+        .take(MOST_READ)
+        .read_to_end(&mut bytes)?;
+    show_bytes(rt, bytes.as_slice())
 }
 
 /// Shows the file that the one word of the command line names.

@@ -1,0 +1,133 @@
+-- The code of a method, from that of its attribute.
+use Rattle.std.proofs.Common.{◌≡◌, ℕ, ◌+◌, ◌<◌, ◌≤◌, List, [], ◌∷◌, length, refl, sym, ap, subst, ◌∙◌, inl, inr, arith}
+use Rattle.std.specs.Prelude.{◌⊎◌, Some, slice_get, Result, Ok, Err, Option, IfOk, IfErr}
+use Rattle.std.proofs.lemmas.List.Sums.{sum_by-cons}
+use Rattle.std.proofs.lemmas.Option.{same_Some}
+use Rattle.class_walk.specs.declared.class.Constant.{Constant}
+use Rattle.class_walk.specs.declared.class.Constant.TheVariants.{Utf8}
+use Rattle.class_names.specs.Descriptor.{IsMethodDescriptor, parameter_words_of, words_of}
+use Rattle.class_names.specs.declared.kind.Kind.{Kind}
+use Rattle.class_names.specs.declared.kind.Kind.TheVariants.{Base, Array}
+use Rattle.class_names.specs.declared.kind.BaseKind.TheVariants as bases
+use Rattle.class_names.proofs.DescriptorLaws.{one_method}
+use Rattle.class_read.specs.declared.class_file.ClassFile.{ClassFile}
+use Rattle.class_read.specs.declared.class_file.CodeAttribute.{CodeAttribute}
+use Rattle.class_read.specs.declared.class_file.Member.{Member}
+use Rattle.class_read.specs.MemberRules.{receiver_words}
+use Rattle.class_read.specs.Pool.{IsUtf8At}
+use Rattle.code_decode.specs.declared.code.Code.{Code}
+use Rattle.code_decode.specs.declared.refusal.CodeRefusal.{CodeRefusal}
+use Rattle.code_decode.specs.declared.refusal.CodeRefusal.TheVariants.{NoMemory}
+use Rattle.code_decode.specs.Answer.{IsOnly, IsRefusal, IsAnswer, IsRead, IsRefused}
+use Rattle.code_decode.specs.Entry.{IsEntryCount}
+use Rattle.code_decode.specs.Code.{IsCode, CodeRefuses}
+use Rattle.code_decode.specs.Method.{IsMethodWith, IsMethodCode, MethodRefuses, IsCodeOf, CodeOfRefuses}
+
+same_text : (pool : List Constant) (i : ℕ) (x y : List ℕ) → IsUtf8At pool i x → IsUtf8At pool i y → x ≡ y
+same_text pool i x y a b =
+    let same : Utf8 x ≡ Utf8 y = same_Some (Utf8 x) (Utf8 y) (sym a ∙ b) in
+    cc
+
+-- a method begins with one number of values
+one_count : (pool : List Constant) (m : Member) (x y : ℕ) → IsEntryCount pool m x → IsEntryCount pool m y → x ≡ y
+one_count pool m x y (text, parameters, returned, at, is, count) (other, others, last, there, as_well, size) =
+    let P : List ℕ → Type 0 = λ t. IsMethodDescriptor t others last in
+    let same : parameters ≡ others = (one_method text parameters others returned last is (subst P (same_text pool m.descriptor other text there at) as_well)).0 in
+    count ∙ ap (λ ps. receiver_words m.flags + length ps) same ∙ sym size
+
+-- the answer for the attribute is that for the method
+pub with_entry : (pool : List Constant) (m : Member) (a : CodeAttribute) (entry : ℕ) (r : Result Code CodeRefusal) → IsEntryCount pool m entry → IsAnswer r (IsCode pool entry a) (CodeRefuses pool entry a) → IsAnswer r (IsMethodCode pool m a) (MethodRefuses pool m a)
+with_entry pool m a entry (Ok code) count answer = record {
+  right = (entry, count, answer.right);
+  only = λ d is. let P : ℕ → Type 0 = λ n. IsCode pool n a d in answer.only d (subst P (one_count pool m is.0 entry is.1 count) is.2);
+  accepted = λ e wrong. let P : ℕ → Type 0 = λ n. CodeRefuses pool n a e in answer.accepted e (subst P (one_count pool m wrong.0 entry wrong.1 count) wrong.2);
+}
+with_entry pool m a entry (Err e) count answer =
+    elim answer [
+      | inl no_memory ↦ inl no_memory
+      | inr refused ↦ inr record {
+        right = (entry, count, refused.right);
+        only = λ other wrong. let P : ℕ → Type 0 = λ n. CodeRefuses pool n a other in refused.only other (subst P (one_count pool m wrong.0 entry wrong.1 count) wrong.2);
+        none = λ d is. let P : ℕ → Type 0 = λ n. IsCode pool n a d in refused.none d (subst P (one_count pool m is.0 entry is.1 count) is.2);
+      }
+    ]
+
+same_member : (file : ClassFile) (n : ℕ) (m k : Member) (a b : CodeAttribute) → IsMethodWith file n m a → IsMethodWith file n k b → (k ≡ m) × (b ≡ a)
+same_member file n m k a b x y =
+    let member : k ≡ m = same_Some k m (sym y.0 ∙ x.0) in
+    let P : Member → Type 0 = λ z. z.code ≡ Some b in
+    (member, same_Some b a (sym (subst P member y.1) ∙ x.1))
+
+code_there : (file : ClassFile) (n : ℕ) (m : Member) (a : CodeAttribute) (d : Code) → IsMethodWith file n m a → IsCodeOf file n d → IsMethodCode file.pool m a d
+code_there file n m a d there (k, b, here, is) =
+    let same = same_member file n m k a b there here in
+    let P : Member → Type 0 = λ z. IsMethodCode file.pool z b d in
+    let Q : CodeAttribute → Type 0 = λ z. IsMethodCode file.pool m z d in
+    subst Q same.1 (subst P same.0 is)
+
+refused_there : (file : ClassFile) (n : ℕ) (m : Member) (a : CodeAttribute) (e : CodeRefusal) → IsMethodWith file n m a → CodeOfRefuses file n e → MethodRefuses file.pool m a e
+refused_there file n m a e there (k, b, here, wrong) =
+    let same = same_member file n m k a b there here in
+    let P : Member → Type 0 = λ z. MethodRefuses file.pool z b e in
+    let Q : CodeAttribute → Type 0 = λ z. MethodRefuses file.pool m z e in
+    subst Q same.1 (subst P same.0 wrong)
+
+-- the answer for the method is that for its number
+pub with_number : (file : ClassFile) (n : ℕ) (m : Member) (a : CodeAttribute) (r : Result Code CodeRefusal) → IsMethodWith file n m a → IsAnswer r (IsMethodCode file.pool m a) (MethodRefuses file.pool m a) → IsAnswer r (IsCodeOf file n) (CodeOfRefuses file n)
+with_number file n m a (Ok code) there answer = record {
+  right = (m, a, there, answer.right);
+  only = λ d is. answer.only d (code_there file n m a d there is);
+  accepted = λ e wrong. answer.accepted e (refused_there file n m a e there wrong);
+}
+with_number file n m a (Err e) there answer =
+    elim answer [
+      | inl no_memory ↦ inl no_memory
+      | inr refused ↦ inr record {
+        right = (m, a, there, refused.right);
+        only = λ other wrong. refused.only other (refused_there file n m a other there wrong);
+        none = λ d is. refused.none d (code_there file n m a d there is);
+      }
+    ]
+
+-- the clauses of an answer
+pub answer_found : {X : Type 0} (Is : X → Type 0) (Refuses : CodeRefusal → Type 0) (r : Result X CodeRefusal) → IsAnswer r Is Refuses → IfOk r Is
+answer_found Is Refuses (Ok x) answer = answer.right
+answer_found Is Refuses (Err e) answer = tt
+
+pub answer_only : {X : Type 0} (Is : X → Type 0) (Refuses : CodeRefusal → Type 0) (r : Result X CodeRefusal) → IsAnswer r Is Refuses → (x : X) → Is x → IsRead r x
+answer_only Is Refuses (Ok x) answer y is = answer.only y is
+answer_only Is Refuses (Err e) answer y is = elim answer [ inl no_memory ↦ no_memory | inr refused ↦ absurd (refused.none y is) ]
+
+pub answer_exact : {X : Type 0} (Is : X → Type 0) (Refuses : CodeRefusal → Type 0) (r : Result X CodeRefusal) → IsAnswer r Is Refuses → IfErr r (λ e. (e ≡ NoMemory) ⊎ Refuses e)
+answer_exact Is Refuses (Ok x) answer = tt
+answer_exact Is Refuses (Err e) answer = elim answer [ inl no_memory ↦ inl no_memory | inr refused ↦ inr refused.right ]
+
+pub answer_first : {X : Type 0} (Is : X → Type 0) (Refuses : CodeRefusal → Type 0) (r : Result X CodeRefusal) → IsAnswer r Is Refuses → (e : CodeRefusal) → Refuses e → IsRefused r e
+answer_first Is Refuses (Ok x) answer e wrong = answer.accepted e wrong
+answer_first Is Refuses (Err d) answer e wrong = elim answer [ inl no_memory ↦ inl no_memory | inr refused ↦ inr (refused.only e wrong) ]
+
+one_word : (kind : Kind) → 1 ≤ words_of kind
+one_word (Base base) = elim base as (λ b. 1 ≤ words_of (Base b)) [
+  | bases.Int ↦ omega arith
+  | bases.Byte ↦ omega arith
+  | bases.Char ↦ omega arith
+  | bases.Short ↦ omega arith
+  | bases.Boolean ↦ omega arith
+  | bases.Long ↦ omega arith
+  | bases.Float ↦ omega arith
+  | bases.Double ↦ omega arith
+  | bases.Class name ↦ omega arith
+]
+one_word (Array dimensions base) = omega arith
+
+-- no more parameters than words
+few_parameters : (parameters : List Kind) → length parameters ≤ parameter_words_of parameters
+few_parameters [] = omega arith
+few_parameters (kind ∷ parameters) =
+    let rest : length parameters ≤ parameter_words_of parameters = few_parameters parameters in
+    let word : 1 ≤ words_of kind = one_word kind in
+    let both : parameter_words_of (kind ∷ parameters) ≡ words_of kind + parameter_words_of parameters = sum_by-cons words_of kind parameters in
+    omega (arith, rest, word, both)
+
+pub parameters_fit : (text : List ℕ) (parameters : List Kind) (returned : Option Kind) → IsMethodDescriptor text parameters returned → length parameters ≤ 255
+parameters_fit text parameters returned is = omega (arith, few_parameters parameters, is.good.words)

@@ -1,0 +1,7 @@
+use Rattle.std.proofs.Common.{◌≡◌, ◌≤◌, ℕ, take, length}
+use Rattle.code_decode.specs.Handlers.{AreHandlers}
+use Rattle.code_decode.proofs.HandlerLaws.{AreHandlersTo}
+use Rattle.code_decode.proofs.handlers.handlers.Given as goal
+
+abbrev pub invariant-loop-number : goal.invariant-loop-number
+invariant-loop-number l = AreHandlersTo l.pool l.steps l.size l.table l.number l.handlers

@@ -1,0 +1,60 @@
+//! Why bytes aren't the code of a method.
+
+ghost use Rattle.std.specs.Prelude.{◌≡◌};
+ghost use Rattle.code_decode.specs.declared.refusal.CodeRefusal.TheVariants as refusals;
+
+use std::alloc::{AllocError, AllocFailed};
+use thiserror::Error;
+
+/// Why the code of a method was refused. The number is an offset in the code, but in `Handler` and `Frame`.
+#[derive(Clone, Copy, Debug, PartialEq, Eq, Error)]
+pub enum CodeRefusal {
+    /// At this offset stands a number above 201, which no instruction has (JVMS 6.2).
+    #[error("Opcode {0}")]
+    Opcode(u32),
+    /// The instruction at this offset isn't executed: float and double, jsr and ret, invokedynamic,
+    /// multianewarray, and constants that are no int, long, string or class with a name.
+    #[error("Unsupported {0}")]
+    Unsupported(u32),
+    /// The operands of the instruction at this offset go past the code's end.
+    #[error("Cut {0}")]
+    Cut(u32),
+    /// The instruction at this offset branches to an offset at which no instruction begins (JVMS 4.9.1).
+    #[error("Target {0}")]
+    Target(u32),
+    /// The handler of this number, from 0, is malformed (JVMS 4.7.3).
+    #[error("Handler {0}")]
+    Handler(u16),
+    /// The stack map frame of this number, from 0, is malformed (JVMS 4.7.4). Where bytes stand behind the last
+    /// frame, it is the count of frames.
+    #[error("Frame {0}")]
+    Frame(u16),
+    /// The code has no bytes, or more than 65,535 (JVMS 4.7.3).
+    #[error("Length")]
+    Length,
+    /// The keys of the switch at this offset don't rise, or its lowest is above its highest (JVMS 4.9.1).
+    #[error("Switch {0}")]
+    Switch(u32),
+    /// An operand of the instruction at this offset is none that it may have (JVMS 4.9.1).
+    #[error("Operand {0}")]
+    Operand(u32),
+    /// There was no memory.
+    #[error("NoMemory")]
+    NoMemory,
+}
+
+impl From<AllocError> for CodeRefusal {
+    ghost from_gives = { λ _ e. e ≡ refusals.NoMemory };
+
+    fn from(_error: AllocError) -> Self {
+        CodeRefusal::NoMemory
+    }
+}
+
+impl<T: Drop> From<AllocFailed<T>> for CodeRefusal {
+    ghost from_gives = { λ _ e. e ≡ refusals.NoMemory };
+
+    fn from(_error: AllocFailed<T>) -> Self {
+        CodeRefusal::NoMemory
+    }
+}

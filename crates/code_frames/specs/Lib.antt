@@ -1,0 +1,4 @@
+pub mod Locals
+pub mod StackMap
+pub mod Reading
+pub mod FrameNumbers

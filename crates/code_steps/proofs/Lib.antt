@@ -1,0 +1,9 @@
+pub mod Loop
+pub mod Fields
+pub mod TargetLaws
+pub mod PoolLaws
+pub mod OperandLaws
+pub mod LayoutLaws
+pub mod ArrayLaws
+pub mod TargetLoop
+pub mod RiseLaws

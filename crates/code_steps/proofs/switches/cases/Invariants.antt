@@ -1,0 +1,7 @@
+use Rattle.std.proofs.Common.{◌≡◌, ◌-◌}
+use Rattle.code_steps.specs.Reading.{items_at, case_at}
+use Rattle.code_steps.proofs.Loop.{with_front}
+use Rattle.code_steps.proofs.switches.cases.Given as goal
+
+abbrev pub invariant-loop : goal.invariant-loop
+invariant-loop l = with_front l.cases (items_at (case_at l.at) (l.count - l.counter) l.cursor) ≡ items_at (case_at l.at) l.count l.fn.cursor

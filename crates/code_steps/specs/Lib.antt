@@ -1,0 +1,5 @@
+pub mod Operands
+pub mod CodeArray
+pub mod Reading
+pub mod FirstFault
+pub mod Targets
