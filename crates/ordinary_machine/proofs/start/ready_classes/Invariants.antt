@@ -1,0 +1,7 @@
+use Rattle.std.proofs.Common.{◌≡◌, take}
+use Rattle.ordinary_machine.specs.Tables.{classes_in}
+use Rattle.ordinary_machine.specs.Start.{class_at_start}
+use Rattle.ordinary_machine.proofs.start.ready_classes.Given as goal
+
+abbrev pub invariant-loop-class : goal.invariant-loop-class
+invariant-loop-class l = classes_in l.classes ≡ class_at_start (take l.class-index l.ready)

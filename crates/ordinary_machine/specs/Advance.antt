@@ -1,0 +1,111 @@
+-- What `advance` answers for one thread, and what it leaves.
+use Rattle.std.specs.Prelude.{◌≡◌, ℕ, suc, ◌+◌, ◌<◌, ◌≤◌, ◌⊎◌, Some}
+use Rattle.op_core.specs.declared.Op.{Op}
+use Rattle.op_core.specs.declared.Op.TheVariants.{New, Enter, Start}
+use Rattle.op_core.specs.declared.Reply.{Reply}
+use Rattle.op_core.specs.declared.Reply.TheVariants.{Made, Number}
+use Rattle.op_core.specs.declared.Next.TheVariants.{Want}
+use Rattle.op_core.specs.declared.Next.TheVariants as next
+use Rattle.op_core.specs.declared.Event.{Event}
+use Rattle.op_core.specs.declared.Limits.{Limits}
+use Rattle.op_core.specs.declared.Limit.{Limit}
+use Rattle.op_core.specs.declared.Limit.TheVariants.{Heap, Threads, Frames, Depth}
+use Rattle.op_core.specs.ThreadCode.{Code, quiet_step}
+use Rattle.op_core.specs.OrdinaryState.{IsThere, IsOwner, count_of, live, HasEnded}
+use Rattle.op_core.specs.OrdinaryStep.{CanStep, IsFreeNumber, IsFreeReference, IsStep}
+use Rattle.ordinary_machine.specs.declared.advance.Advance.{Advance}
+use Rattle.ordinary_machine.specs.declared.advance.Advance.TheVariants.{Silent, Step, Waits, Ended, Spent}
+use Rattle.ordinary_machine.specs.Machine.{Machine, moved, with_thread_at, HasBegun}
+
+-- the object is there and has started no thread, and all thread numbers have been drawn
+abbrev pub IsOutOfNumbers : {S : Type 0} → Machine S → ℕ → Type 0
+IsOutOfNumbers m r = IsThere m.now.objects r × (m.now.starts r ≡ 0) × ((n : ℕ) → IsFreeNumber m.now.threads n → ⊥)
+
+-- the operation meets the limit of the heap, of thread numbers, or of a monitor's depth
+abbrev pub OpMeets : {S : Type 0} → Code S → Machine S → ℕ → Limits → Op → Limit → Type 0
+OpMeets code m t limits (New c n) Heap = limits.heap < m.taken + (2 + code.words c n)
+OpMeets code m t limits (Start r p) Threads = IsOutOfNumbers m r
+OpMeets code m t limits (Enter r) Depth = IsOwner t (m.now.monitors r) × (65535 ≤ count_of (m.now.monitors r))
+OpMeets _ _ _ _ _ _ = ⊥
+
+-- of the answers that the definition leaves open, the lowest: a new object's reference is the first
+-- one and all words taken so far, a new thread's number is the lowest free one
+abbrev pub IsLowest : {S : Type 0} → Machine S → Op → Reply → Type 0
+IsLowest m (New c n) (Made r) = r ≡ m.first + m.taken
+IsLowest m (Start r p) (Number n) = (k : ℕ) → IsFreeNumber m.now.threads k → n ≤ k
+IsLowest _ _ _ = Unit {0}
+
+-- no new object can have the lowest reference
+abbrev pub LacksReference : {S : Type 0} → Machine S → Op → Type 0
+LacksReference m (New c n) = IsFreeReference m.now.objects (m.first + m.taken) → ⊥
+LacksReference _ _ = ⊥
+
+-- the thread makes a silent step
+pub record IsSilentTo {S : Type 0} (code : Code S) (m : Machine S) (t : ℕ) (new : Machine S) : Type 0 where
+  pub from : S
+  pub behind : S
+  pub begun : m.now.threads t ≡ live from
+  pub quiet : quiet_step code from ≡ Some behind
+  pub leads : new ≡ with_thread_at m t (live behind) (suc (m.silents t))
+
+-- the wanted operation has a step, which is made
+pub record IsAnswered {S : Type 0} (code : Code S) (m : Machine S) (t : ℕ) (limits : Limits) (e : Event) (new : Machine S) : Type 0 where
+  pub place : S
+  pub begun : m.now.threads t ≡ live place
+  pub mine : e.thread ≡ t
+  pub silent : e.silent ≡ m.silents t
+  pub step : IsStep code m.now t place e.op e.reply
+  pub lowest : IsLowest m e.op e.reply
+  pub within : (limit : Limit) → OpMeets code m t limits e.op limit → ⊥
+  pub leads : new ≡ moved code m t place e.op e.reply
+
+-- the wanted operation has no step, for another cause than the number of threads
+pub record IsWaiting {S : Type 0} (code : Code S) (m : Machine S) (t : ℕ) (limits : Limits) : Type 0 where
+  pub place : S
+  pub op : Op
+  pub begun : m.now.threads t ≡ live place
+  pub wanted : code.next place ≡ Want op
+  pub cannot : CanStep m.now t op → ⊥
+  pub within : (limit : Limit) → OpMeets code m t limits op limit → ⊥
+
+-- the thread has ended, or its code has come to its end
+abbrev pub IsOver : {S : Type 0} → Code S → Machine S → ℕ → Type 0
+IsOver {S} code m t = HasEnded (m.now.threads t) ⊎ ((l : S) × (m.now.threads t ≡ live l) × (code.next l ≡ next.Ended))
+
+-- the silent step that comes next would make a 1,025th frame
+pub record IsOutOfFrames {S : Type 0} (code : Code S) (m : Machine S) (t : ℕ) : Type 0 where
+  pub place : S
+  pub begun : m.now.threads t ≡ live place
+  pub silent : code.next place ≡ next.Silent
+  pub many : 1024 < code.frames (code.silent place)
+
+-- the wanted operation meets the limit
+pub record IsAtLimit {S : Type 0} (code : Code S) (m : Machine S) (t : ℕ) (limits : Limits) (limit : Limit) : Type 0 where
+  pub place : S
+  pub op : Op
+  pub begun : m.now.threads t ≡ live place
+  pub wanted : code.next place ≡ Want op
+  pub meets : OpMeets code m t limits op limit
+
+abbrev pub Meets : {S : Type 0} → Code S → Machine S → ℕ → Limits → Limit → Type 0
+Meets code m t limits Frames = IsOutOfFrames code m t
+Meets code m t limits limit = IsAtLimit code m t limits limit
+
+-- Where each answer comes, and what the machine is after it.
+abbrev pub Advances : {S : Type 0} → Code S → Machine S → ℕ → Limits → Advance → Machine S → Type 0
+Advances code m t limits Silent new = IsSilentTo code m t new
+Advances code m t limits (Step e) new = IsAnswered code m t limits e new
+Advances code m t limits Waits new = IsWaiting code m t limits × (new ≡ m)
+Advances code m t limits Ended new = IsOver code m t × (new ≡ m)
+Advances code m t limits (Spent limit) new = Meets code m t limits limit × (new ≡ m)
+
+-- the thread has begun, and whatever the limits are, neither Waits nor Ended comes for it
+pub record IsEnabled {S : Type 0} (code : Code S) (m : Machine S) (t : ℕ) : Type 0 where
+  pub begun : HasBegun (m.now.threads t)
+  pub goes_on : (limits : Limits) → IsWaiting code m t limits → ⊥
+  pub more : IsOver code m t → ⊥
+
+-- the operation asks for a thread number where all have been drawn
+abbrev pub LacksNumber : {S : Type 0} → Machine S → Op → Type 0
+LacksNumber m (Start r p) = IsOutOfNumbers m r
+LacksNumber _ _ = ⊥

@@ -1,0 +1,80 @@
+-- What is proved of the definitions, for all thread codes.
+use Rattle.std.specs.Prelude.{◌≡◌, ◌≢◌, ℕ, Some, List, [], ◌∷◌, ◌++◌}
+use Rattle.op_core.specs.declared.Event.{Event}
+use Rattle.op_core.specs.declared.Limits.{Limits}
+use Rattle.op_core.specs.ThreadCode.{Code, quiet_steps}
+use Rattle.op_core.specs.OrdinaryState.{Thread, unused, live, ended, OrdinaryState}
+use Rattle.op_core.specs.Execution.{Leads, printed}
+use Rattle.ordinary_machine.specs.declared.advance.Advance.{Advance}
+use Rattle.ordinary_machine.specs.declared.advance.Advance.TheVariants.{Silent, Step, Waits, Ended, Spent}
+use Rattle.ordinary_machine.specs.declared.step.StepRefusal.{StepRefusal}
+use Rattle.ordinary_machine.specs.declared.step.StepRefusal.TheVariants.{NoMemory}
+use Rattle.ordinary_machine.specs.Machine.{Machine}
+use Rattle.ordinary_machine.specs.Step.{IsStepTo, Refuses, Replays, IsReplayed}
+use Rattle.ordinary_machine.specs.Advance.{Advances}
+
+-- at most one thing comes of an event, besides want of memory: a step that leads to one machine, or
+-- one cause of refusal
+pub record HasOneOutcome {S : Type 0} (code : Code S) (m : Machine S) (e : Event) : Type 0 where
+  pub one_machine : (new last : Machine S) → IsStepTo code m e new → IsStepTo code m e last → last ≡ new
+  pub no_refusal : (new : Machine S) (why : StepRefusal) → IsStepTo code m e new → Refuses code m.now e why → why ≡ NoMemory
+  pub one_refusal : (why other : StepRefusal) → why ≢ NoMemory → other ≢ NoMemory → Refuses code m.now e why → Refuses code m.now e other → other ≡ why
+
+abbrev pub EventsHaveOneOutcome : {S : Type 0} → Code S → Type 0
+EventsHaveOneOutcome {S} code = (m : Machine S) (e : Event) → HasOneOutcome code m e
+
+-- events that are steps one after another are an execution, with their threads' own lines
+abbrev pub ReplaysAreExecutions : {S : Type 0} → Code S → Type 0
+ReplaysAreExecutions {S} code = (m last : Machine S) (es : List Event) → Replays code m es last → IsReplayed code m.now es last.now
+
+-- where one answer of `advance` comes, no other does, and it leaves one machine
+abbrev pub AdvancesHaveOneAnswer : {S : Type 0} → Code S → Type 0
+AdvancesHaveOneAnswer {S} code = (m new last : Machine S) (t : ℕ) (limits : Limits) (a b : Advance)
+    → Advances code m t limits a new → Advances code m t limits b last → (b ≡ a) × (last ≡ new)
+
+-- one call of `advance`: for which thread, under which limits, and what it answered
+pub record Call : Type 0 where
+  pub thread : ℕ
+  pub limits : Limits
+  pub answer : Advance
+
+-- the calls come one after another
+abbrev pub Runs : {S : Type 0} → Code S → Machine S → List Call → Machine S → Type 0
+Runs code m [] last = last ≡ m
+Runs {S} code m (call ∷ calls) last = (next : Machine S) × Advances code m call.thread call.limits call.answer next × Runs code next calls last
+
+abbrev pub event_of : Advance → List Event
+event_of (Step e) = e ∷ []
+event_of Silent = []
+event_of Waits = []
+event_of Ended = []
+event_of (Spent limit) = []
+
+-- the events that the calls answered, in order
+abbrev pub events_of : List Call → List Event
+events_of [] = []
+events_of (call ∷ calls) = event_of call.answer ++ events_of calls
+
+-- a thread stands so many silent steps further
+abbrev pub StandsFurther : {S : Type 0} → Code S → Thread S → ℕ → Thread S → Type 0
+StandsFurther code (live from) n (live l) = quiet_steps code n from ≡ Some l
+StandsFurther code unused n unused = Unit {0}
+StandsFurther code (ended x) n (ended y) = y ≡ x
+StandsFurther _ _ _ _ = ⊥
+
+-- the machine has the state, but for the silent steps that it counts since each thread's last event
+pub record IsFurther {S : Type 0} (code : Code S) (s : OrdinaryState S) (m : Machine S) : Type 0 where
+  pub shared : record m.now { threads = s.threads } ≡ s
+  pub threads : (t : ℕ) → StandsFurther code (s.threads t) (m.silents t) (m.now.threads t)
+
+-- From a machine that counts no silent steps, the events that `advance` answers are an execution. It
+-- leads to the machine's state, but for silent steps since then, and prints what its lines grew by.
+pub record IsExecuted {S : Type 0} (code : Code S) (m : Machine S) (calls : List Call) (last : Machine S) : Type 0 where
+  pub state : OrdinaryState S
+  pub leads : Leads code m.now (events_of calls) state
+  pub further : IsFurther code state last
+  pub lines : last.now.lines ≡ m.now.lines ++ printed (events_of calls)
+
+abbrev pub AdvancesAreExecutions : {S : Type 0} → Code S → Type 0
+AdvancesAreExecutions {S} code = (m last : Machine S) (calls : List Call)
+    → m.silents ≡ (λ _. 0) → Runs code m calls last → IsExecuted code m calls last

@@ -1,0 +1,6 @@
+pub mod Tables
+pub mod Machine
+pub mod Step
+pub mod Start
+pub mod Advance
+pub mod Laws

@@ -1,0 +1,287 @@
+ghost use Rattle.std.specs.Prelude.{ℕ, ◌≡◌, ◌↔◌, ◌<◌, ◌≤◌, ◌+◌, IsTrue, IfOk, IfSome, IfNone, MatchOption, OnErr, OnOk, Some, suc};
+ghost use Rattle.op_core.specs.OrdinaryState.{live, IsOwner, count_of};
+ghost use Rattle.op_core.specs.OrdinaryStep.{CanStep, MayAnswer, IsFreeNumber};
+ghost use Rattle.ordinary_machine.specs.Machine.{machine_of, moved, with_thread_at, HasBegun};
+ghost use Rattle.op_core.specs.declared.Limit.{Limit};
+ghost use Rattle.ordinary_machine.specs.Advance.{IsOutOfNumbers, OpMeets, IsLowest, Advances, IsEnabled, LacksNumber, LacksReference};
+
+use crate::{ClassProgress, MonitorState, Ordinary, Standing};
+use op_core::{Event, Limit, Limits, Next, NoMemory, Op, Reply, ThreadCode, after_silent_steps};
+
+/// What a thread did, or why it did nothing.
+#[derive(Clone, Copy, PartialEq, Eq, Debug)]
+pub enum Advance {
+    /// It made a silent step.
+    Silent,
+    /// It made this step.
+    Step(Event),
+    /// What it wants has no step now.
+    Waits,
+    /// It has ended.
+    Ended,
+    /// What it wants meets this limit.
+    Spent(Limit),
+}
+
+impl<C: ThreadCode + Drop> Ordinary<C> {
+    fn silent_steps(&self, thread: u8) -> u64
+        ensures { result ≡ (machine_of C.state self.now).silents thread }
+    {
+        match self.threads.get(thread) {
+            Some(seat) => seat.silent,
+            None => 0,
+        }
+    }
+
+    fn is_deep(&self, thread: u8, reference: u32) -> bool
+        ensures { IsTrue result ↔ (IsOwner thread ((machine_of C.state self.now).now.monitors reference) × (65535 ≤ count_of ((machine_of C.state self.now).now.monitors reference))) }
+    {
+        self.objects.is_owner(thread, reference) && self.objects.monitor(reference).count() >= 65535
+    }
+
+    fn is_out_of_heap(&self, words: u64, limits: &Limits) -> bool
+        ensures { IsTrue result ↔ (limits.now.heap < (machine_of C.state self.now).taken + (2 + words)) }
+    {
+        let room = (limits.heap as u64).saturating_sub(self.taken);
+        room < 2 || room - 2 < words
+    }
+
+    fn is_out_of_numbers(&self, reference: u32) -> bool
+        ensures { IsTrue result ↔ IsOutOfNumbers (machine_of C.state self.now) reference }
+    {
+        self.objects.has(reference)
+            && self.objects.started(reference) == 0
+            && !self.has_free_number()
+    }
+
+    fn lacks_number(&self, op: Op) -> bool
+        ensures { IsTrue result ↔ LacksNumber (machine_of C.state self.now) op }
+    {
+        match op {
+            Op::Start(reference, _) => self.is_out_of_numbers(reference),
+            _ => false,
+        }
+    }
+
+    /// Whether the thread has begun, and `advance` answers neither Waits nor Ended for it.
+    pub fn is_enabled(&self, thread: u8) -> bool
+        ensures { IsTrue result ↔ IsEnabled C.code (machine_of C.state self.now) thread }
+    {
+        let Some(code) = self.live(thread) else {
+            return false;
+        };
+        match code.next() {
+            Next::Silent => true,
+            Next::Want(op) => self.can_step(thread, op) || self.lacks_number(op),
+            Next::Ended => false,
+        }
+    }
+
+    // The limit that an operation meets.
+    fn limit_of(&self, thread: u8, code: &C, op: Op, limits: &Limits) -> Option<Limit>
+        ensures { MatchOption result
+            ((limit : Limit) → OpMeets C.code (machine_of C.state self.now) thread limits.now op limit → ⊥)
+            (λ limit. OpMeets C.code (machine_of C.state self.now) thread limits.now op limit) }
+    {
+        match op {
+            Op::New(class, length) if self.is_out_of_heap(code.words(class, length), limits) =>
+                Some(Limit::Heap),
+            Op::Start(reference, _) if self.is_out_of_numbers(reference) => Some(Limit::Threads),
+            Op::Enter(reference) if self.is_deep(thread, reference) => Some(Limit::Depth),
+            _ => None,
+        }
+    }
+
+    fn lowest_number(&self) -> u8
+        requires { (n : ℕ) × IsFreeNumber (machine_of C.state self.now).now.threads n }
+        ensures free { IsFreeNumber (machine_of C.state self.now).now.threads result }
+        ensures lowest { (k : ℕ) → IsFreeNumber (machine_of C.state self.now).now.threads k → result ≤ k }
+    {
+        self.threads.free_number().unwrap_or(0)
+    }
+
+    fn choose_class(&self, thread: u8, reference: u32) -> Reply
+        requires { CanStep (machine_of C.state self.now).now thread (Op.ClassOf reference) }
+        ensures { MayAnswer (machine_of C.state self.now).now thread (Op.ClassOf reference) result }
+    {
+        match self.objects.get(reference) {
+            Some(object) => Reply::Class(object.class, object.length),
+            None => Reply::Class(0, 0),
+        }
+    }
+
+    // The first reference and all words taken so far, where a new object can have that one.
+    fn choose_object(&self, thread: u8, class: u32, length: u32) -> Option<Reply>
+        ensures none { IfNone result (LacksReference (machine_of C.state self.now) (Op.New class length)) }
+        ensures may { IfSome result (MayAnswer (machine_of C.state self.now).now thread (Op.New class length)) }
+        ensures lowest { IfSome result (IsLowest (machine_of C.state self.now) (Op.New class length)) }
+    {
+        let reference = (self.first as u64).checked_add(self.taken)?;
+        if reference == 0 || reference >= 0x1_0000_0000 {
+            return None;
+        }
+        let reference = reference as u32;
+        if self.objects.has(reference) {
+            return None;
+        }
+        Some(Reply::Made(reference))
+    }
+
+    fn choose_start(&self, thread: u8, reference: u32, priority: u8) -> Reply
+        requires { CanStep (machine_of C.state self.now).now thread (Op.Start reference priority) }
+        ensures may { MayAnswer (machine_of C.state self.now).now thread (Op.Start reference priority) result }
+        ensures lowest { IsLowest (machine_of C.state self.now) (Op.Start reference priority) result }
+    {
+        if self.objects.started(reference) > 0 {
+            Reply::Already
+        } else {
+            Reply::Number(self.lowest_number())
+        }
+    }
+
+    fn choose_init(&self, thread: u8, class: u32) -> Reply
+        requires { CanStep (machine_of C.state self.now).now thread (Op.Init class) }
+        ensures { MayAnswer (machine_of C.state self.now).now thread (Op.Init class) result }
+    {
+        match self.classes.get(class) {
+            ClassProgress::Unready => Reply::Claimed,
+            ClassProgress::Claimed(_) | ClassProgress::Ready => Reply::Ready,
+            ClassProgress::Bad => Reply::Bad,
+        }
+    }
+
+    fn choose_notified(&self, thread: u8, reference: u32) -> Reply
+        ensures { MayAnswer (machine_of C.state self.now).now thread (Op.Notify reference) result }
+    {
+        if self.objects.is_owner(thread, reference) {
+            Reply::Woken(self.threads.first_waiting(reference))
+        } else {
+            Reply::NotOwner
+        }
+    }
+
+    fn done_by_owner(&self, thread: u8, reference: u32) -> Reply
+        ensures exit { MayAnswer (machine_of C.state self.now).now thread (Op.Exit reference) result }
+        ensures wait { MayAnswer (machine_of C.state self.now).now thread (Op.Wait reference) result }
+    {
+        if self.objects.is_owner(thread, reference) {
+            Reply::Done
+        } else {
+            Reply::NotOwner
+        }
+    }
+
+    // What the operation answers, the lowest where there is a choice; `None` where no reference is left.
+    fn choose(&self, thread: u8, op: Op) -> Option<Reply>
+        requires { CanStep (machine_of C.state self.now).now thread op }
+        ensures none { IfNone result (LacksReference (machine_of C.state self.now) op) }
+        ensures may { IfSome result (MayAnswer (machine_of C.state self.now).now thread op) }
+        ensures lowest { IfSome result (IsLowest (machine_of C.state self.now) op) }
+    {
+        match op {
+            Op::ClassOf(reference) => Some(self.choose_class(thread, reference)),
+            Op::Read(reference, place) => Some(Reply::Value(self.objects.word(reference, place))),
+            Op::New(class, length) => self.choose_object(thread, class, length),
+            Op::Exit(reference) | Op::Wait(reference) => Some(self.done_by_owner(
+                thread, reference,
+            )),
+            Op::Notify(reference) => Some(self.choose_notified(thread, reference)),
+            Op::Start(reference, priority) => Some(self.choose_start(thread, reference, priority)),
+            Op::Init(class) => Some(self.choose_init(thread, class)),
+            Op::Write(_, _, _)
+            | Op::Enter(_)
+            | Op::Rewake(_)
+            | Op::Print(_)
+            | Op::Join(_)
+            | Op::InitDone(_, _)
+            | Op::End(_) => Some(Reply::Done),
+        }
+    }
+
+    // The thread stands at `code`, one silent step later.
+    fn move_silently(&mut self, thread: u8, code: C) -> Result<(), NoMemory>
+        requires { HasBegun ((machine_of C.state self.old).now.threads thread) }
+        ensures ok { OnOk result (machine_of C.state self.new ≡ with_thread_at (machine_of C.state self.old) thread (live (C.state code)) (suc ((machine_of C.state self.old).silents thread))) }
+        ensures err { OnErr result (machine_of C.state self.new ≡ machine_of C.state self.old) }
+    {
+        let silent = self.silent_steps(thread).checked_add(1).ok_or(NoMemory)?;
+        self.put_thread(thread, Standing::Live(code), silent);
+        Ok(())
+    }
+
+    // Makes the step of a thread that wants the operation at `code`.
+    fn answer(&mut self, thread: u8, code: C, op: Op) -> Result<Event, NoMemory>
+        requires begun { (machine_of C.state self.old).now.threads thread ≡ live (C.state code) }
+        requires wanted { C.code.next (C.state code) ≡ Next.Want op }
+        requires can { CanStep (machine_of C.state self.old).now thread op }
+        ensures event { IfOk result (λ e. (e.thread ≡ thread) × (e.silent ≡ (machine_of C.state self.old).silents thread) × (e.op ≡ op)) }
+        ensures answered { IfOk result (λ e. MayAnswer (machine_of C.state self.old).now thread op e.reply) }
+        ensures lowest { IfOk result (λ e. IsLowest (machine_of C.state self.old) op e.reply) }
+        ensures leads { IfOk result (λ e. machine_of C.state self.new ≡ moved C.code (machine_of C.state self.old) thread (C.state code) op e.reply) }
+        ensures err { OnErr result (machine_of C.state self.new ≡ machine_of C.state self.old) }
+    {
+        let silent = self.silent_steps(thread);
+        let Some(reply) = self.choose(thread, op) else {
+            return Err(NoMemory);
+        };
+        self.make(thread, code, op, reply)?;
+        Ok(Event {
+            thread,
+            silent,
+            op,
+            reply,
+        })
+    }
+
+    // What comes of the operation that a thread wants at `code`.
+    fn try_operation(
+        &mut self,
+        thread: u8,
+        code: C,
+        op: Op,
+        limits: &Limits,
+    ) -> Result<Advance, NoMemory>
+        requires begun { (machine_of C.state self.old).now.threads thread ≡ live (C.state code) }
+        requires wanted { C.code.next (C.state code) ≡ Next.Want op }
+        ensures ok { IfOk result (λ advance. Advances C.code (machine_of C.state self.old) thread limits.now advance (machine_of C.state self.new)) }
+        ensures err { OnErr result (machine_of C.state self.new ≡ machine_of C.state self.old) }
+    {
+        if let Some(limit) = self.limit_of(thread, &code, op, limits) {
+            return Ok(Advance::Spent(limit));
+        }
+        if !self.can_step(thread, op) {
+            return Ok(Advance::Waits);
+        }
+        let event = self.answer(thread, code, op)?;
+        Ok(Advance::Step(event))
+    }
+
+    /// Makes the next step of a thread that has begun, where it has one: a silent step, or that of
+    /// the operation that it wants, with the lowest reference or number where there is a choice. The
+    /// event's silent number counts the Silent answers since the thread's last step. The machine is
+    /// as before after any other answer, and after an error, which also comes where a count has no
+    /// room for one more, and where no object can have the lowest reference.
+    pub fn advance(&mut self, thread: u8, limits: &Limits) -> Result<Advance, NoMemory>
+        requires { HasBegun ((machine_of C.state self.old).now.threads thread) }
+        ensures ok { IfOk result (λ advance. Advances C.code (machine_of C.state self.old) thread limits.now advance (machine_of C.state self.new)) }
+        ensures err { OnErr result (machine_of C.state self.new ≡ machine_of C.state self.old) }
+    {
+        let Some(code) = self.live(thread) else {
+            return Ok(Advance::Ended);
+        };
+        match code.next() {
+            Next::Silent => match after_silent_steps(code, 1)? {
+                Some(code) => {
+                    self.move_silently(thread, code)?;
+                    Ok(Advance::Silent)
+                }
+                None => Ok(Advance::Spent(Limit::Frames)),
+            },
+            Next::Want(op) => {
+                let code = code.copy()?;
+                self.try_operation(thread, code, op, limits)
+            }
+            Next::Ended => Ok(Advance::Ended),
+        }
+    }
+}

@@ -1,0 +1,106 @@
+ghost use Rattle.std.specs.Prelude.{◌≡◌, ◌<◌, OnOk, OnErr, IsNone, IfOk, ◌+◌};
+ghost use Rattle.op_core.specs.OrdinaryStep.{IsFreeNumber};
+ghost use Rattle.op_core.specs.OrdinaryState.{IsThere, HasWord, live};
+ghost use Rattle.ordinary_machine.specs.Tables.{seat_at, monitor_of, waiting_of, class_state_of, standing_of};
+ghost use Rattle.ordinary_machine.specs.Machine.{machine_of, with_new_object, with_word_at, with_monitor_at, with_started_at, with_waiting_at, with_class_at, with_line, with_thread_at, HasBegun};
+
+use crate::{ClassProgress, HeapObject, MonitorState, Ordinary, Seat, Standing, WaitState, Words};
+use op_core::{Line, NoMemory, ThreadCode};
+
+impl<C: ThreadCode + Drop> Ordinary<C> {
+    pub(crate) fn put_monitor(&mut self, reference: u32, monitor: MonitorState)
+        requires { IsThere (machine_of C.state self.old).now.objects reference }
+        ensures { machine_of C.state self.new ≡ with_monitor_at (machine_of C.state self.old) reference (monitor_of monitor) }
+    {
+        self.objects.set_monitor(reference, monitor);
+    }
+
+    pub(crate) fn put_started(&mut self, reference: u32, number: u8)
+        requires { IsThere (machine_of C.state self.old).now.objects reference }
+        ensures { machine_of C.state self.new ≡ with_started_at (machine_of C.state self.old) reference number }
+    {
+        self.objects.set_started(reference, number);
+    }
+
+    pub(crate) fn put_word(&mut self, reference: u32, place: u32, value: u32)
+        requires { HasWord (machine_of C.state self.old).now.objects reference place }
+        ensures { machine_of C.state self.new ≡ with_word_at (machine_of C.state self.old) reference place value }
+    {
+        self.objects.set_word(reference, place, value);
+    }
+
+    pub(crate) fn put_waiting(&mut self, thread: u8, waiting: WaitState)
+        requires { HasBegun ((machine_of C.state self.old).now.threads thread) }
+        ensures { machine_of C.state self.new ≡ with_waiting_at (machine_of C.state self.old) thread (waiting_of waiting) }
+    {
+        self.threads.set_waiting(thread, waiting);
+    }
+
+    pub(crate) fn put_thread(&mut self, thread: u8, standing: Standing<C>, silent: u64)
+        requires { HasBegun ((machine_of C.state self.old).now.threads thread) }
+        ensures { machine_of C.state self.new ≡ with_thread_at (machine_of C.state self.old) thread (standing_of C.state standing) silent }
+    {
+        self.threads.set_standing(thread, standing, silent);
+    }
+
+    pub(crate) fn put_class(&mut self, class: u32, progress: ClassProgress) -> Result<(), NoMemory>
+        ensures ok { OnOk result (machine_of C.state self.new ≡ with_class_at (machine_of C.state self.old) class (class_state_of progress)) }
+        ensures err { OnErr result (machine_of C.state self.new ≡ machine_of C.state self.old) }
+    {
+        self.classes.set(class, progress)
+    }
+
+    pub(crate) fn put_line(&mut self, line: Line) -> Result<(), NoMemory>
+        ensures ok { OnOk result (machine_of C.state self.new ≡ with_line (machine_of C.state self.old) line) }
+        ensures err { OnErr result (machine_of C.state self.new ≡ machine_of C.state self.old) }
+    {
+        self.lines.push(line)?;
+        Ok(())
+    }
+
+    pub(crate) fn put_new_thread(&mut self, number: u8, code: C) -> Result<(), NoMemory>
+        requires { IsFreeNumber (machine_of C.state self.old).now.threads number }
+        ensures ok { OnOk result (machine_of C.state self.new ≡ with_thread_at (machine_of C.state self.old) number (live (C.state code)) 0) }
+        ensures err { OnErr result (machine_of C.state self.new ≡ machine_of C.state self.old) }
+    {
+        let seat = Seat {
+            standing: Standing::Live(code),
+            waiting: WaitState::Awake,
+            silent: 0,
+        };
+        self.threads.insert(number, seat)?;
+        Ok(())
+    }
+
+    // The words of memory that are taken with so many for one more object.
+    fn taken_with(&self, count: u64) -> Result<u64, NoMemory>
+        ensures { IfOk result (λ taken. taken ≡ self.now.taken + (2 + count)) }
+    {
+        let words = count.checked_add(2).ok_or(NoMemory)?;
+        self.taken.checked_add(words).ok_or(NoMemory)
+    }
+
+    pub(crate) fn put_object(
+        &mut self,
+        reference: u32,
+        class: u32,
+        length: u32,
+        count: u64,
+    ) -> Result<(), NoMemory>
+        requires { IsNone ((machine_of C.state self.old).now.objects reference) }
+        ensures ok { OnOk result (machine_of C.state self.new ≡ with_new_object (machine_of C.state self.old) reference class length count) }
+        ensures err { OnErr result (machine_of C.state self.new ≡ machine_of C.state self.old) }
+    {
+        let taken = self.taken_with(count)?;
+        let object = HeapObject {
+            class,
+            length,
+            words: Words::zeros(self.alloc, count)?,
+            monitor: MonitorState::Free,
+            started: 0,
+        };
+        self.objects.insert(reference, object)?;
+        self.taken = taken;
+        Ok(())
+    }
+}

@@ -1,0 +1,34 @@
+ghost use Rattle.std.specs.Prelude.{◌≡◌, ◌<◌, OnOk, IfErr, length, take, slice_get, Some, MatchOption, IfSome};
+ghost use Rattle.ordinary_machine.specs.Machine.{machine_of};
+ghost use Rattle.ordinary_machine.specs.Step.{Refuses, Replays, IsReplayed};
+
+use crate::{Ordinary, StepRefusal};
+use op_core::{Event, ThreadCode};
+
+/// The first event of a list whose step wasn't made, and why.
+#[derive(Clone, Copy, PartialEq, Eq, Debug)]
+pub struct ReplayRefusal {
+    /// How many events stand before it.
+    pub place: usize,
+    pub refusal: StepRefusal,
+}
+
+impl<C: ThreadCode + Drop> Ordinary<C> {
+    /// Makes the events' steps one after another. At the first that is refused it stops, and the
+    /// machine stands before that event.
+    pub fn replay(&mut self, events: &[Event]) -> Result<(), ReplayRefusal>
+        ensures steps { OnOk result (Replays C.code (machine_of C.state self.old) events.now (machine_of C.state self.new)) }
+        ensures execution { OnOk result (IsReplayed C.code (machine_of C.state self.old).now events.now (machine_of C.state self.new).now) }
+        ensures place { IfErr result (λ stop. stop.place < length events.now) }
+        ensures before { IfErr result (λ stop. Replays C.code (machine_of C.state self.old) (take stop.place events.now) (machine_of C.state self.new)) }
+        ensures refused { IfErr result (λ stop. IfSome (slice_get events.now stop.place) (λ e. Refuses C.code (machine_of C.state self.new).now e stop.refusal)) }
+    {
+        for (place, event) in events.iter().enumerate() {
+            match self.step(event) {
+                Ok(()) => {}
+                Err(refusal) => return Err(ReplayRefusal { place, refusal }),
+            }
+        }
+        Ok(())
+    }
+}

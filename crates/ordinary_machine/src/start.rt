@@ -1,0 +1,93 @@
+ghost use Rattle.std.specs.Prelude.{◌≡◌, IfOk, Some, None};
+ghost use Rattle.std.specs.Option.{option_map};
+ghost use Rattle.op_core.specs.OrdinaryState.{set_at};
+ghost use Rattle.ordinary_machine.specs.declared.threads.WaitState.TheVariants.{Awake};
+ghost use Rattle.ordinary_machine.specs.declared.threads.Standing.TheVariants.{Live};
+ghost use Rattle.ordinary_machine.specs.Tables.{object_at, classes_in, seat_at};
+ghost use Rattle.ordinary_machine.specs.Machine.{machine_of};
+ghost use Rattle.ordinary_machine.specs.Start.{fixed_at, heap_object, class_at_start, start_of};
+
+use crate::{
+    ClassProgress, Classes, HeapObject, MonitorState, Objects, Ordinary, Seat, Standing, Threads,
+    WaitState, Words,
+};
+use op_core::{NoMemory, Rows, ThreadCode};
+use std::alloc::Global;
+
+/// An object that is there from the start, as a class object or a string literal is.
+#[derive(Debug, Drop)]
+pub struct FixedObject {
+    pub reference: u32,
+    pub class: u32,
+    /// The length, 0 for an object that is no array.
+    pub length: u32,
+    /// The first value of each of its words.
+    pub words: Rows<u32>,
+}
+
+fn fixed_objects(alloc: Global, objects: &[FixedObject]) -> Result<Objects, NoMemory>
+    ensures { IfOk result (λ table. object_at table ≡ (λ r. option_map heap_object (fixed_at objects.now r))) }
+{
+    let mut table = Objects::new(alloc);
+    for object in objects {
+        let fixed = HeapObject {
+            class: object.class,
+            length: object.length,
+            words: Words::copy_of(alloc, object.words.as_slice())?,
+            monitor: MonitorState::Free,
+            started: 0,
+        };
+        table.insert(object.reference, fixed)?;
+    }
+    Ok(table)
+}
+
+fn ready_classes(alloc: Global, ready: &[u32]) -> Result<Classes, NoMemory>
+    ensures { IfOk result (λ classes. classes_in classes ≡ class_at_start ready.now) }
+{
+    let mut classes = Classes::new(alloc);
+    for class in ready {
+        classes.set(*class, ClassProgress::Ready)?;
+    }
+    Ok(classes)
+}
+
+fn main_thread<C: Drop>(alloc: Global, code: C) -> Result<Threads<C>, NoMemory>
+    ensures { IfOk result (λ threads. seat_at threads
+        ≡ set_at (λ _. None) 1 (Some (record { standing = Live code; waiting = Awake; silent = 0 }))) }
+{
+    let mut threads = Threads::new(alloc);
+    let seat = Seat {
+        standing: Standing::Live(code),
+        waiting: WaitState::Awake,
+        silent: 0,
+    };
+    threads.insert(1, seat)?;
+    Ok(threads)
+}
+
+impl<C: ThreadCode + Drop> Ordinary<C> {
+    /// A machine at the start of a program: with its fixed objects, of which the last counts where two
+    /// have one reference; with some classes ready; and with the first thread's code, at which thread 1
+    /// begins. `first` is the first reference that `advance` gives a new object: it is above 0, and
+    /// above the references of the fixed objects.
+    pub fn start(
+        alloc: Global,
+        objects: &[FixedObject],
+        ready: &[u32],
+        first: u32,
+        code: C,
+    ) -> Result<Self, NoMemory>
+        ensures { IfOk result (λ machine. machine_of C.state machine ≡ start_of objects.now ready.now first (C.state code)) }
+    {
+        Ok(Ordinary {
+            alloc,
+            objects: fixed_objects(alloc, objects)?,
+            classes: ready_classes(alloc, ready)?,
+            threads: main_thread(alloc, code)?,
+            lines: Rows::new(alloc),
+            first,
+            taken: 0,
+        })
+    }
+}

@@ -1,0 +1,68 @@
+ghost use Rattle.std.specs.Prelude.{◌≡◌, ◌<◌, OnOk, OnErr, IfOk, IfSome, slice_get, slice_set, length, replicate, ◌==◌};
+
+use op_core::NoMemory;
+use std::alloc::Global;
+use std::marker::Model;
+
+/// The 32-bit words of an object, by place.
+#[derive(Debug, Drop)]
+pub struct Words {
+    words: Vec<u32>,
+}
+
+impl Model for Words {
+    ghost use Rattle.std.specs.Prelude.{List, ℕ};
+
+    ghost Value = { List ℕ };
+
+    ghost view = { λ words. words.words.items };
+}
+
+impl Words {
+    /// A copy of some words.
+    pub fn copy_of(alloc: Global, words: &[u32]) -> Result<Self, NoMemory>
+        ensures { IfOk result (λ copy. copy ≡ words.now) }
+    {
+        let words = Vec::from_slice(alloc, words)?;
+        Ok(Words { words })
+    }
+
+    /// So many words, all 0.
+    pub fn zeros(alloc: Global, count: u64) -> Result<Self, NoMemory>
+        ensures { IfOk result (λ words. words ≡ replicate count 0) }
+    {
+        let words = vec![in alloc; 0; count as usize]?;
+        Ok(Words { words })
+    }
+
+    /// How many words there are.
+    pub fn len(&self) -> usize
+        ensures { result ≡ length self.now }
+    {
+        self.words.len()
+    }
+
+    /// Whether there are no words.
+    pub fn is_empty(&self) -> bool
+        ensures { result ≡ (length self.now == 0) }
+    {
+        self.words.is_empty()
+    }
+
+    /// The word at a place, or `None` past the end.
+    pub fn get(&self, place: u32) -> Option<u32>
+        ensures { result ≡ slice_get self.now place }
+    {
+        self.words.get(place as usize).copied()
+    }
+
+    /// Sets the word at a place. Past the end it does nothing.
+    pub fn set(&mut self, place: u32, value: u32)
+        ensures { self.new ≡ slice_set self.old place value }
+    {
+        let place = place as usize;
+        if place < self.words.len() {
+            self.words[place] = value;
+        }
+    }
+}
