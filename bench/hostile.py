@@ -87,6 +87,32 @@ def wide_frames():
     return class_file(methods=method(code, (), frames, 60001), method_count=1)
 
 
+LONG_CLASS = b"L" + b"a" * 65000 + b";"
+
+
+def one_long_descriptor():
+    # Fields with different names, all of one type with a long name.
+    names = [utf8(b"n%d" % i) for i in range(40000)]
+    fields = b"".join(u2(0, 10 + i, 9, 0) for i in range(40000))
+    return class_file([utf8(LONG_CLASS)] + names, fields=fields, field_count=40000)
+
+
+def long_method_descriptor():
+    # Methods with different names, all with one long descriptor; each has the code of one instruction.
+    names = [utf8(b"n%d" % i) for i in range(15000)]
+    content = u2(10, 10) + u4(1) + b"\xb1" + u2(0, 0)
+    tail = u2(7) + u4(len(content)) + content
+    methods = b"".join(u2(9, 10 + i, 9, 1) + tail for i in range(15000))
+    return class_file([utf8(b"(" + LONG_CLASS + b")V")] + names, methods=methods, method_count=15000)
+
+
+def interface_calls():
+    # One code that is full of invokeinterface, all of one method with a long descriptor.
+    entries = [utf8(b"(" + LONG_CLASS + b")V"), b"\x0c" + u2(5, 9), b"\x0b" + u2(2, 10)]
+    code = (b"\xb9" + u2(11) + b"\x02\x00") * 13000 + b"\xb1"
+    return class_file(entries, methods=method(code), method_count=1)
+
+
 def measure(name, bytes_of):
     with tempfile.NamedTemporaryFile(suffix=".class", delete=False) as file:
         file.write(bytes_of)
@@ -102,7 +128,8 @@ def measure(name, bytes_of):
 def main():
     if not os.path.exists(PROGRAM):
         sys.exit("build class_show first: cd crates/class_show && rt run")
-    for case in (many_fields, few_long_names, full_pool, many_attributes, long_code, many_switches, wide_frames):
+    for case in (many_fields, few_long_names, full_pool, many_attributes, long_code, many_switches, wide_frames, one_long_descriptor,
+                 long_method_descriptor, interface_calls):
         measure(case.__name__, case())
 
 

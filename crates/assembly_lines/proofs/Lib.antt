@@ -1,0 +1,6 @@
+pub mod Cases
+pub mod PieceLaws
+pub mod WordLaws
+pub mod NumberLaws
+pub mod TextLaws
+pub mod LineLaws

@@ -1,0 +1,9 @@
+use Rattle.std.proofs.Common.{◌≡◌, ◌≤◌, drop}
+use Rattle.assembly_lines.proofs.NumberLaws.{left_value}
+use Rattle.assembly_lines.proofs.number.digits_up_to.Given as goal
+
+abbrev pub invariant-loop-byte : goal.invariant-loop-byte
+invariant-loop-byte l = record {
+  fits : l.value ≤ l.limit;
+  left : left_value l.limit l.value (drop l.byte-index l.bytes) ≡ left_value l.limit 0 l.bytes;
+}

@@ -1,0 +1,29 @@
+-- Words of a line.
+use Rattle.std.specs.Prelude.{◌≡◌, ℕ, ◌==◌, Bool, false, not, List, [], ◌∷◌, ◌++◌, nat_le, ◌&&◌, ◌||◌, IsTrue}
+use Rattle.std.specs.List.{AllByRecursion}
+use Rattle.assembly_lines.specs.declared.word.Word.{Word}
+use Rattle.assembly_lines.specs.declared.word.Word.TheVariants.{Plain, Quoted}
+use Rattle.assembly_lines.specs.Piece.{ArePieces}
+
+-- an ASCII character that is neither a space nor the line's end
+abbrev pub is_plain_byte : ℕ → Bool
+is_plain_byte b = nat_le b 127 && not (b == 32 || b == 10)
+
+abbrev pub IsPlainByte : ℕ → Type 0
+IsPlainByte b = IsTrue (is_plain_byte b)
+
+-- One such character or more, of which the first is no quote.
+abbrev pub IsPlain : List ℕ → Type 0
+IsPlain [] = ⊥
+IsPlain (b ∷ bytes) = ((b == 34) ≡ false) × IsTrue (is_plain_byte b) × AllByRecursion IsPlainByte bytes
+
+-- A quoted text has its pieces between two quotes.
+abbrev pub Spells : List ℕ → Word → Type 0
+Spells bytes (Plain name) = (bytes ≡ name) × IsPlain name
+Spells bytes (Quoted units) = (pieces : List ℕ) × (bytes ≡ 34 ∷ (pieces ++ 34 ∷ [])) × ArePieces pieces units
+
+-- One space stands between two words.
+abbrev pub AreWords : List ℕ → List Word → Type 0
+AreWords text [] = ⊥
+AreWords text (word ∷ []) = Spells text word
+AreWords text (word ∷ next ∷ words) = (first : List ℕ) × (rest : List ℕ) × (text ≡ first ++ 32 ∷ rest) × Spells first word × AreWords rest (next ∷ words)
