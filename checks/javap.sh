@@ -79,7 +79,7 @@ JAVA
         sed -n 's,//.*,,; s/[{,]/ /g; s/^ *\(-*[0-9]*\|default\): */\1: /p' |
             sed 's/  */ /g; s/ $//; s/\(invokeinterface #[0-9]*\) [0-9]*/\1/'
     }
-    for class in "$folder"/Sample.class "$folder"/Steps.class; do
+    for class in "$folder"/Sample\$Inner.class "$folder"/Steps.class; do
         name=$(basename "$class")
         javap -c -p "$class" | instructions >"$folder/wanted"
         "$show" "$class" | sed -n '/^code of method/,$p' | instructions >"$folder/seen"
