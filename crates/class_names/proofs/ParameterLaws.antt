@@ -2,7 +2,7 @@
 use Rattle.std.proofs.Common.{◌≡◌, ℕ, ◌+◌, ◌≤◌, ◌<◌, List, [], ◌∷◌, ◌++◌, length, flat_map, Some, None, refl, sym, ap, ◌∙◌, append_assoc, arith, length-append, replicate}
 use Rattle.std.proofs.lemmas.List.{append-nil}
 use Rattle.std.proofs.lemmas.List.Concat.{flat_map-append}
-use Rattle.std.proofs.lemmas.List.Sums.{sum_by-append}
+use Rattle.std.proofs.lemmas.List.Sums.{sum_by-append, sum_by-cons}
 use Rattle.std.specs.List.{AllByRecursion}
 use Rattle.class_names.specs.declared.kind.Kind.{Kind}
 use Rattle.class_names.specs.declared.kind.Kind.TheVariants.{Base, Array}
@@ -74,18 +74,38 @@ reads_more bytes kinds rest kind behind r some =
           ∙ ap (λ (xs : List ℕ). xs ++ behind) (sym (flat_map-append kind_text kinds (kind ∷ []) ∙ ap (λ (xs : List ℕ). flat_map kind_text kinds ++ xs) (append-nil (kind_text kind))))));
     }
 
+one_word : (kind : Kind) → 1 ≤ words_of kind
+one_word (Base Int) = omega arith
+one_word (Base Byte) = omega arith
+one_word (Base Char) = omega arith
+one_word (Base Short) = omega arith
+one_word (Base Boolean) = omega arith
+one_word (Base Long) = omega arith
+one_word (Base Float) = omega arith
+one_word (Base Double) = omega arith
+one_word (Base (Class name)) = omega arith
+one_word (Array dimensions base) = omega arith
+
+-- each parameter takes a word at least
+pub no_more_than_words : (kinds : List Kind) → length kinds ≤ parameter_words_of kinds
+no_more_than_words [] = omega arith
+no_more_than_words (kind ∷ kinds) =
+    let together : parameter_words_of (kind ∷ kinds) ≡ words_of kind + parameter_words_of kinds = sum_by-cons words_of kind kinds in
+    omega (arith, together, one_word kind, no_more_than_words kinds)
+
 -- what the loop over the parameters keeps
-pub record WordsSoFar (bytes rest : List ℕ) (words : ℕ) : Type 0 where
+pub record WordsSoFar (bytes rest : List ℕ) (count words : ℕ) : Type 0 where
   pub kinds : List Kind
   pub reads : KindsAt bytes kinds rest
+  pub number : count ≡ length kinds
   pub counted : words ≡ parameter_words_of kinds
   pub few : words ≤ 255
 
-pub words_none : (bytes : List ℕ) → WordsSoFar bytes bytes 0
-words_none bytes = record { kinds = []; reads = record { each = tt; spelled = refl }; counted = refl; few = omega arith }
+pub words_none : (bytes : List ℕ) → WordsSoFar bytes bytes 0 0
+words_none bytes = record { kinds = []; reads = record { each = tt; spelled = refl }; number = refl; counted = refl; few = omega arith }
 
-pub words_more : (bytes rest : List ℕ) (words : ℕ) (kind : Kind) (behind : List ℕ) → WordsSoFar bytes rest words → kind_at rest ≡ Some (kind, behind) → words + words_of kind ≤ 255 → WordsSoFar bytes behind (words + words_of kind)
-words_more bytes rest words kind behind so_far some few =
+pub words_more : (bytes rest : List ℕ) (count words : ℕ) (kind : Kind) (behind : List ℕ) → WordsSoFar bytes rest count words → kind_at rest ≡ Some (kind, behind) → words + words_of kind ≤ 255 → WordsSoFar bytes behind (count + 1) (words + words_of kind)
+words_more bytes rest count words kind behind so_far some few =
     let counted = so_far.counted in
     let together = sum_by-append words_of so_far.kinds (kind ∷ []) in
     let one : parameter_words_of (kind ∷ []) ≡ words_of kind = omega arith in
@@ -93,14 +113,19 @@ words_more bytes rest words kind behind so_far some few =
     record {
       kinds = so_far.kinds ++ kind ∷ [];
       reads = reads_more bytes so_far.kinds rest kind behind so_far.reads some;
+      number = omega (arith, so_far.number, length-append so_far.kinds (kind ∷ []));
       counted = total;
       few = few;
     }
 
+-- no more parameters than words
+pub few_kinds : (bytes rest : List ℕ) (count words : ℕ) → WordsSoFar bytes rest count words → (count ≤ words) × (words ≤ 255)
+few_kinds bytes rest count words so_far = (omega (arith, so_far.number, so_far.counted, no_more_than_words so_far.kinds), so_far.few)
+
 -- too many words
-pub words_many : (bytes rest : List ℕ) (words : ℕ) (kind : Kind) (behind : List ℕ) → WordsSoFar bytes rest words → kind_at rest ≡ Some (kind, behind) → 255 < words + words_of kind
+pub words_many : (bytes rest : List ℕ) (count words : ℕ) (kind : Kind) (behind : List ℕ) → WordsSoFar bytes rest count words → kind_at rest ≡ Some (kind, behind) → 255 < words + words_of kind
     → (kinds : List Kind) (after : List ℕ) → ParametersAt bytes kinds after → ⊥
-words_many bytes rest words kind behind so_far some many kinds after p =
+words_many bytes rest count words kind behind so_far some many kinds after p =
     let l = leaves so_far.kinds kinds rest after so_far.reads.each p.each (sym so_far.reads.spelled ∙ p.spelled) in
     let o = one_more l.more rest after kind behind l.others some in
     let all : kinds ≡ so_far.kinds ++ (kind ∷ o.others) = l.whole ∙ ap (λ (ks : List Kind). so_far.kinds ++ ks) o.whole in
@@ -112,12 +137,13 @@ words_many bytes rest words kind behind so_far some many kinds after p =
     omega arith
 
 -- the end
-pub words_all : (bytes rest : List ℕ) (words : ℕ) (after : List ℕ) → WordsSoFar bytes rest words → rest ≡ 41 ∷ after → (kinds : List Kind) × ParametersAt bytes kinds after × (words ≡ parameter_words_of kinds)
-words_all bytes rest words after so_far is =
-    (so_far.kinds, record { each = so_far.reads.each; words = let e = so_far.counted in let f = so_far.few in omega arith; spelled = so_far.reads.spelled ∙ ap (λ (xs : List ℕ). flat_map kind_text so_far.kinds ++ xs) is }, so_far.counted)
+pub words_all : (bytes rest : List ℕ) (count words : ℕ) (after : List ℕ) → WordsSoFar bytes rest count words → rest ≡ 41 ∷ after
+    → (kinds : List Kind) × ParametersAt bytes kinds after × (count ≡ length kinds) × (words ≡ parameter_words_of kinds)
+words_all bytes rest count words after so_far is =
+    (so_far.kinds, record { each = so_far.reads.each; words = let e = so_far.counted in let f = so_far.few in omega arith; spelled = so_far.reads.spelled ∙ ap (λ (xs : List ℕ). flat_map kind_text so_far.kinds ++ xs) is }, so_far.number, so_far.counted)
 
-pub words_open : (bytes rest : List ℕ) (words : ℕ) → WordsSoFar bytes rest words → kind_at rest ≡ None → ((after : List ℕ) → rest ≡ 41 ∷ after → ⊥) → (kinds : List Kind) (after : List ℕ) → ParametersAt bytes kinds after → ⊥
-words_open bytes rest words so_far none unclosed kinds after p =
+pub words_open : (bytes rest : List ℕ) (count words : ℕ) → WordsSoFar bytes rest count words → kind_at rest ≡ None → ((after : List ℕ) → rest ≡ 41 ∷ after → ⊥) → (kinds : List Kind) (after : List ℕ) → ParametersAt bytes kinds after → ⊥
+words_open bytes rest count words so_far none unclosed kinds after p =
     let l = leaves so_far.kinds kinds rest after so_far.reads.each p.each (sym so_far.reads.spelled ∙ p.spelled) in
     unclosed after (no_more l.more rest after l.others none).1
 

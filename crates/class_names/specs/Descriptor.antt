@@ -1,11 +1,12 @@
 -- Descriptors (JVMS 4.3).
-use Rattle.std.specs.Prelude.{◌≡◌, ℕ, zero, suc, ◌≤◌, List, [], ◌∷◌, ◌++◌, replicate, flat_map, sum_by, Option, Some, None, IfSome}
+use Rattle.std.specs.Prelude.{◌≡◌, ℕ, zero, suc, ◌≤◌, List, [], ◌∷◌, ◌++◌, length, replicate, flat_map, sum_by, Option, Some, None, IfSome}
 use Rattle.std.specs.List.{AllByRecursion}
 use Rattle.class_names.specs.Names.{IsClassName}
 use Rattle.class_names.specs.declared.kind.BaseKind.{BaseKind}
 use Rattle.class_names.specs.declared.kind.BaseKind.TheVariants.{Int, Byte, Char, Short, Boolean, Long, Float, Double, Class}
 use Rattle.class_names.specs.declared.kind.Kind.{Kind}
 use Rattle.class_names.specs.declared.kind.Kind.TheVariants.{Base, Array}
+use Rattle.class_names.specs.declared.kind.ParameterSize.{ParameterSize}
 use Rattle.class_names.specs.declared.kind.Descriptor.{Descriptor}
 use Rattle.class_names.specs.declared.kind.Descriptor.TheVariants.{Field, Method}
 
@@ -55,6 +56,9 @@ words_of _ = 1
 
 abbrev pub parameter_words_of : List Kind → ℕ
 parameter_words_of parameters = sum_by words_of parameters
+
+abbrev pub size_of : List Kind → ParameterSize
+size_of parameters = record { count = length parameters; words = parameter_words_of parameters }
 
 -- The kind of what is returned, or V where nothing is (JVMS 4.3.3).
 abbrev pub return_text : Option Kind → List ℕ

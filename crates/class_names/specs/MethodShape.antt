@@ -2,7 +2,7 @@
 use Rattle.std.specs.Prelude.{◌≡◌, ℕ, List, option_map}
 use Rattle.class_names.specs.declared.kind.Kind.{Kind}
 use Rattle.class_names.specs.declared.descriptor.MethodShape.{MethodShape}
-use Rattle.class_names.specs.Descriptor.{IsMethodDescriptor, ParametersAt, parameter_words_of}
+use Rattle.class_names.specs.Descriptor.{IsMethodDescriptor, ParametersAt, size_of}
 use Rattle.class_names.specs.Shape.{kind_of}
 
 -- The shape is of the bytes, which are a method descriptor.
@@ -11,4 +11,4 @@ pub record IsMethodShape (bytes : List ℕ) (shape : MethodShape) : Type 0 where
   pub after : List ℕ
   pub at : ParametersAt shape.parameters.now kinds after
   pub descriptor : IsMethodDescriptor bytes kinds (option_map kind_of shape.returned)
-  pub words : shape.words ≡ parameter_words_of kinds
+  pub size : shape.size ≡ size_of kinds

@@ -4,12 +4,12 @@ ghost use Rattle.std.specs.Prelude.{◌≡◌, ◌≢◌, ◌↔◌, ◌≤◌, 
 ghost use Rattle.class_names.specs.declared.kind.BaseKind.{BaseKind};
 ghost use Rattle.class_names.specs.declared.kind.Kind.{Kind};
 ghost use Rattle.class_names.specs.declared.kind.Descriptor.{Descriptor};
-ghost use Rattle.class_names.specs.Descriptor.{IsFieldDescriptor, IsMethodDescriptor, IsDescriptorOf, parameter_words_of, KindsAt, ParametersAt, IsReturn};
+ghost use Rattle.class_names.specs.Descriptor.{IsFieldDescriptor, IsMethodDescriptor, IsDescriptorOf, size_of, KindsAt, ParametersAt, IsReturn};
 ghost use Rattle.class_names.specs.Reading.{kind_at};
 ghost use Rattle.class_names.specs.Shape.{kind_of};
 ghost use Rattle.class_names.specs.MethodShape.{IsMethodShape};
 
-use crate::kind::{Descriptor, Kind, NameRefusal};
+use crate::kind::{Descriptor, Kind, NameRefusal, ParameterSize};
 use crate::shape::{KindShape, kind_shape};
 use rows::Rows;
 use std::alloc::{AllocError, Global};
@@ -50,11 +50,12 @@ fn after_byte(bytes: &[u8], byte: u8) -> Option<&[u8]>
     if *first == byte { Some(rest) } else { None }
 }
 
-/// The words of the parameters that stand at the front, up to their `)`, and what stands behind it.
-fn parameters(bytes: &[u8]) -> Option<(u32, &[u8])>
-    ensures found { IfSome result (λ x. (kinds : List Kind) × ParametersAt bytes.now kinds x.1.now × (x.0 ≡ parameter_words_of kinds)) }
+/// The size of the parameters that stand at the front, up to their `)`, and what stands behind it.
+fn parameters(bytes: &[u8]) -> Option<(ParameterSize, &[u8])>
+    ensures found { IfSome result (λ x. (kinds : List Kind) × ParametersAt bytes.now kinds x.1.now × (x.0 ≡ size_of kinds)) }
     ensures none { IfNone result ((kinds : List Kind) (rest : List ℕ) → ¬ ParametersAt bytes.now kinds rest) }
 {
+    let mut count = 0_u32;
     let mut words = 0;
     let mut rest = bytes;
     while let Some((shape, after)) = kind_shape(rest) {
@@ -62,10 +63,15 @@ fn parameters(bytes: &[u8]) -> Option<(u32, &[u8])>
         if words > 255 {
             return None;
         }
+        count += 1;
         rest = after;
     }
     let after = after_byte(rest, b')')?;
-    Some((words, after))
+    let size = ParameterSize {
+        count: count as u8,
+        words: words as u8,
+    };
+    Some((size, after))
 }
 
 /// The kind of the result, which the bytes are up to their end: `None` in it where it is void.
@@ -80,11 +86,11 @@ fn returned_shape(bytes: &[u8]) -> Option<Option<KindShape<'_>>>
     Some(Some(shape))
 }
 
-/// A method descriptor as it stands: the words of its parameters, the bytes from the first parameter on, and
+/// A method descriptor as it stands: the size of its parameters, the bytes from the first parameter on, and
 /// the result.
 #[derive(Clone, Copy, Debug)]
 pub(crate) struct MethodShape<'a> {
-    words: u32,
+    size: ParameterSize,
     parameters: &'a [u8],
     returned: Option<KindShape<'a>>,
 }
@@ -94,25 +100,25 @@ fn method_shape(bytes: &[u8]) -> Option<MethodShape<'_>>
     ensures none { IfNone result ((parameters : List Kind) (returned : Option Kind) → ¬ IsMethodDescriptor bytes.now parameters returned) }
 {
     let text = after_byte(bytes, b'(')?;
-    let (words, rest) = parameters(text)?;
+    let (size, rest) = parameters(text)?;
     let returned = returned_shape(rest)?;
     Some(MethodShape {
-        words,
+        size,
         parameters: text,
         returned,
     })
 }
 
-/// How many words the parameters of a method descriptor take, a long or a double two and any other value
-/// one; the receiver isn't counted (JVMS 4.3.3). `None` where the bytes are no method descriptor.
-pub fn parameter_words(bytes: &[u8]) -> Option<u32>
-    ensures found { IfSome result (λ words. (parameters : List Kind) × (returned : Option Kind)
-        × IsMethodDescriptor bytes.now parameters returned × (words ≡ parameter_words_of parameters)) }
+/// How many parameters a method descriptor has and how many words they take; the receiver isn't counted
+/// (JVMS 4.3.3). `None` where the bytes are no method descriptor.
+pub fn parameter_size(bytes: &[u8]) -> Option<ParameterSize>
+    ensures found { IfSome result (λ size. (parameters : List Kind) × (returned : Option Kind)
+        × IsMethodDescriptor bytes.now parameters returned × (size ≡ size_of parameters)) }
     ensures only { (parameters : List Kind) (returned : Option Kind) →
-        IsMethodDescriptor bytes.now parameters returned → result ≡ Some (parameter_words_of parameters) }
+        IsMethodDescriptor bytes.now parameters returned → result ≡ Some (size_of parameters) }
 {
     match method_shape(bytes) {
-        Some(shape) => Some(shape.words),
+        Some(shape) => Some(shape.size),
         None => None,
     }
 }

@@ -40,6 +40,15 @@ pub enum Descriptor {
     Method(Rows<Kind>, Option<Kind>),
 }
 
+/// How much the parameters of a method are; the receiver isn't counted.
+#[derive(Clone, Copy, Debug, PartialEq, Eq)]
+pub struct ParameterSize {
+    /// How many there are.
+    pub count: u8,
+    /// How many words they take, a long or a double two and any other value one: at most 255 (JVMS 4.3.3).
+    pub words: u8,
+}
+
 /// Why there is no descriptor or text.
 #[derive(Clone, Copy, Debug, PartialEq, Eq)]
 pub enum NameRefusal {

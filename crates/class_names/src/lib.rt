@@ -2,7 +2,7 @@
 //!
 //! [`is_class_name`], [`is_member_name`] and [`is_method_name`] test names. [`descriptor_of`] reads the
 //! descriptor of a field or a method. [`is_field_descriptor`], [`is_array_descriptor`],
-//! [`is_method_descriptor`] and [`parameter_words`] look at one without taking memory.
+//! [`is_method_descriptor`] and [`parameter_size`] look at one without taking memory.
 //! [`is_modified_utf8`] tests the bytes of a constant, and [`decode_text`] gives their text.
 #![tactic(auto)]
 
@@ -14,9 +14,9 @@ mod names;
 mod shape;
 
 pub use descriptor::{
-    descriptor_of, is_array_descriptor, is_field_descriptor, is_method_descriptor, parameter_words,
+    descriptor_of, is_array_descriptor, is_field_descriptor, is_method_descriptor, parameter_size,
 };
-pub use kind::{BaseKind, Descriptor, Kind, NameRefusal};
+pub use kind::{BaseKind, Descriptor, Kind, NameRefusal, ParameterSize};
 pub use laws::{bytes_have_one_descriptor, bytes_have_one_text};
 pub use modified_utf8::{decode_text, is_modified_utf8};
 pub use names::{is_class_name, is_member_name, is_method_name};

@@ -90,7 +90,10 @@ fn kind_of(kind: &Kind) -> (u8, &'static str) {
 #[test]
 fn example_of_a_method_descriptor(rt: HostRuntime) -> Result<(), Fail> {
     let bytes = b"(IDLjava/lang/Thread;)Ljava/lang/Object;";
-    assert_eq!(rt; parameter_words(bytes), Some(4));
+    assert_eq!(rt;
+        parameter_size(bytes),
+        Some(ParameterSize { count: 3, words: 4 })
+    );
     let read = descriptor_of(rt.alloc(), bytes).ok().ok_or("refused")?;
     let Descriptor::Method(parameters, returned) = read else {
         return Err(Fail::from("a field"));
@@ -112,7 +115,10 @@ fn example_of_a_method_descriptor(rt: HostRuntime) -> Result<(), Fail> {
 fn compiled_method_descriptor(rt: HostRuntime) -> Result<(), Fail> {
     let bytes = b"(J[Ljava/lang/String;ZBCSF[[I)Ljava/lang/Runnable;";
     assert!(rt; is_method_descriptor(bytes));
-    assert_eq!(rt; parameter_words(bytes), Some(9));
+    assert_eq!(rt;
+        parameter_size(bytes),
+        Some(ParameterSize { count: 8, words: 9 })
+    );
     let read = descriptor_of(rt.alloc(), bytes).ok().ok_or("refused")?;
     let Descriptor::Method(parameters, _) = read else {
         return Err(Fail::from("a field"));
@@ -200,11 +206,23 @@ fn limits_of_dimensions_and_words(rt: HostRuntime) -> Result<(), Fail> {
     let more = repeated(rt.alloc(), b"", b'[', 256, b"I")?;
     assert!(rt; !is_field_descriptor(&more));
     let most = repeated(rt.alloc(), b"(", b'J', 127, b"I)V")?;
-    assert_eq!(rt; parameter_words(&most), Some(255));
+    assert_eq!(rt;
+        parameter_size(&most),
+        Some(ParameterSize {
+            count: 128,
+            words: 255
+        })
+    );
     let more = repeated(rt.alloc(), b"(", b'J', 128, b")V")?;
-    assert_eq!(rt; parameter_words(&more), None);
+    assert_eq!(rt; parameter_size(&more), None);
     let most = repeated(rt.alloc(), b"(", b'I', 255, b")V")?;
-    assert_eq!(rt; parameter_words(&most), Some(255));
+    assert_eq!(rt;
+        parameter_size(&most),
+        Some(ParameterSize {
+            count: 255,
+            words: 255
+        })
+    );
     let more = repeated(rt.alloc(), b"([", b'I', 256, b")V")?;
     assert!(rt; !is_method_descriptor(&more));
     Ok(())

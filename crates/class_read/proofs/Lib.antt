@@ -18,3 +18,4 @@ pub mod SharpLaws
 pub mod ReadLaws
 pub mod SoundLaws
 pub mod TextLaws
+mod TextUseLaws

@@ -1,5 +1,7 @@
--- A loop that looks at each item of a list.
-use Rattle.std.proofs.Common.{◌≡◌, ℕ, zero, suc, arith, ◌+◌, ◌<◌, ◌≤◌, List, [], ◌∷◌, ◌++◌, length, take, get_or, sym, ◌∙◌, ap, subst}
+-- Items of lists, one by one.
+use Rattle.std.proofs.Common.{◌≡◌, ℕ, zero, suc, arith, ◌+◌, ◌<◌, ◌≤◌, List, [], ◌∷◌, ◌++◌, length, take, get_or, refl, sym, ◌∙◌, ap, subst, inl, inr}
+use Rattle.std.specs.Prelude.{◌⊎◌, Some, slice_get}
+use Rattle.std.proofs.lemmas.Option.{same_Some}
 use Rattle.std.proofs.lemmas.List.{take_more, take_all}
 use Rattle.std.specs.List.{AllByRecursion}
 
@@ -23,3 +25,14 @@ all_at P (y ∷ ys) (suc i) x below at all = all_at P ys i x (omega arith) at al
 
 pub all_of_taken : {X : Type 0} (P : X → Type 0) (xs : List X) (i : ℕ) → length xs ≤ i → AllByRecursion P (take i xs) → AllByRecursion P xs
 all_of_taken P xs i past all = subst (AllByRecursion P) (take_all i xs past) all
+
+-- an item behind others
+pub slice_get-push : {X : Type 0} (xs : List X) (x y : X) (k : ℕ) → slice_get (xs ++ x ∷ []) k ≡ Some y → (slice_get xs k ≡ Some y) ⊎ ((k ≡ length xs) × (x ≡ y))
+slice_get-push [] x y zero e = inr (refl, same_Some x y e)
+slice_get-push [] x y (suc k) e = absurd cc
+slice_get-push (z ∷ xs) x y zero e = inl e
+slice_get-push (z ∷ xs) x y (suc k) e =
+    elim (slice_get-push xs x y k e) [
+      | inl there ↦ inl there
+      | inr last ↦ inr (ap suc last.0, last.1)
+    ]

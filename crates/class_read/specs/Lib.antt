@@ -13,3 +13,4 @@ pub mod MemberRules
 pub mod ClassRules
 pub mod Sound
 pub mod ClassFile
+pub mod TextUses

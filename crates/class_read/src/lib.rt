@@ -18,6 +18,7 @@ mod reading;
 mod refusal;
 mod repeats;
 mod scan;
+mod text_uses;
 mod texts;
 
 pub use answer::{Straight, StraightRefusal};
@@ -27,6 +28,7 @@ pub use class_walk::{Constant, RawHandler};
 pub use read::read_class;
 pub use reading::straight;
 pub use refusal::ReadRefusal;
+pub use text_uses::{Pool, TextUse};
 pub use texts::text_of;
 
 #[cfg(test)]

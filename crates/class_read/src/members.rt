@@ -1,90 +1,105 @@
 //! The rules of fields and methods (JVMS 4.5, 4.6).
 
-ghost use Rattle.std.specs.Prelude.{◌≡◌, ◌↔◌, ◌^◌, IsTrue, map};
+ghost use Rattle.std.specs.Prelude.{◌≡◌, ◌^◌, map, codes, is_some};
 ghost use Rattle.class_names.specs.Names.{IsMemberName, IsMethodName};
-ghost use Rattle.class_read.specs.AttributeRules.{AllEndBelow};
-ghost use Rattle.class_read.specs.MemberRules.{IsTypeOfMethod, text_rules, text_at_rules, lone_field_rules, lone_method_rules, field_rules, method_rules, field_of, method_of, HasSmallMethods};
-ghost use Rattle.class_read.specs.Pool.{IsUtf8At};
+ghost use Rattle.class_read.specs.AttributeRules.{AllEndBelow, named, field_attributes_rules, method_attributes_rules, constant_of, code_of_method};
+ghost use Rattle.class_read.specs.MemberRules.{IsTypeOfMethod, text_at_rules, text_rules, lone_field_rules, lone_method_rules, field_rules, method_rules, field_of, method_of, HasSmallMethods};
 ghost use Rattle.class_read.specs.PoolRules.{IsFieldType};
 ghost use Rattle.class_read.specs.Repeats.{IsFirstRepeat};
 ghost use Rattle.class_read.specs.Rules.{Keeps, Gives, each};
+ghost use Rattle.class_read.specs.TextUses.{IsUseAt, may_take};
 
 use crate::attributes::{field_constant, method_code};
 use crate::class_file::{CodeAttribute, Member};
 use crate::flags::{STATIC, are_field_flags, are_method_flags, has, wants_code};
 use crate::refusal::ReadRefusal;
-use class_names::{is_field_descriptor, is_member_name, is_method_name, parameter_words};
-use class_walk::{Constant, RawMember};
+use crate::text_uses::{Pool, TextUse};
+use class_names::ParameterSize;
+use class_walk::RawMember;
 use rows::Rows;
 use std::alloc::Global;
 
-/// The text that stands at an index.
-fn text_at(pool: &[Constant], index: u16) -> Result<&[u8], ReadRefusal>
-    ensures { Gives result (text_at_rules pool.now index) (λ text. IsUtf8At pool.now index text.now) }
+/// What the text at an index may be used as.
+fn use_at(pool: &Pool<'_>, index: u16) -> Result<TextUse, ReadRefusal>
+    ensures { Gives result (text_at_rules pool.now index) (IsUseAt pool.now index) }
 {
-    match pool.get(usize::from(index)) {
-        Some(Constant::Utf8(text)) => Ok(text.as_slice()),
-        _ => Err(ReadRefusal::PoolIndex(index)),
+    match pool.text_use(index) {
+        Some(found) => Ok(found),
+        None => Err(ReadRefusal::PoolIndex(index)),
     }
 }
 
-/// Whether bytes are the descriptor of a method with these flags.
-fn is_type_of_method(flags: u16, text: &[u8]) -> bool
-    ensures { IsTrue result ↔ IsTypeOfMethod flags text.now }
+/// Whether a method with these flags may have parameters of this size.
+fn may_take(flags: u16, parameters: Option<ParameterSize>) -> bool
+    ensures { result ≡ may_take flags parameters }
 {
     let receiver = if has(flags, STATIC) { 0 } else { 1 };
-    match parameter_words(text) {
-        Some(words) => words <= 255 - receiver,
+    match parameters {
+        Some(size) => size.words <= 255 - receiver,
         None => false,
     }
 }
 
-fn check_field_name(pool: &[Constant], index: u16) -> Result<(), ReadRefusal>
+fn check_field_name(pool: &Pool<'_>, index: u16) -> Result<(), ReadRefusal>
     ensures { Keeps result (text_rules IsMemberName pool.now index) }
 {
-    let text = text_at(pool, index)?;
-    if !is_member_name(text) {
+    let found = use_at(pool, index)?;
+    if !found.is_member_name {
         return Err(ReadRefusal::BadDescriptor(index));
     }
     Ok(())
 }
 
-fn check_field_type(pool: &[Constant], index: u16) -> Result<(), ReadRefusal>
+fn check_field_type(pool: &Pool<'_>, index: u16) -> Result<(), ReadRefusal>
     ensures { Keeps result (text_rules IsFieldType pool.now index) }
 {
-    let text = text_at(pool, index)?;
-    if !is_field_descriptor(text) {
+    let found = use_at(pool, index)?;
+    if !found.is_field_type {
         return Err(ReadRefusal::BadDescriptor(index));
     }
     Ok(())
 }
 
-fn check_method_name(pool: &[Constant], index: u16) -> Result<(), ReadRefusal>
+fn check_method_name(pool: &Pool<'_>, index: u16) -> Result<(), ReadRefusal>
     ensures { Keeps result (text_rules IsMethodName pool.now index) }
 {
-    let text = text_at(pool, index)?;
-    if !is_method_name(text) {
+    let found = use_at(pool, index)?;
+    if !found.is_method_name {
         return Err(ReadRefusal::BadDescriptor(index));
     }
     Ok(())
 }
 
-fn check_method_type(pool: &[Constant], flags: u16, index: u16) -> Result<(), ReadRefusal>
+fn check_method_type(pool: &Pool<'_>, flags: u16, index: u16) -> Result<(), ReadRefusal>
     ensures { Keeps result (text_rules (IsTypeOfMethod flags) pool.now index) }
 {
-    let text = text_at(pool, index)?;
-    if !is_type_of_method(flags, text) {
+    let found = use_at(pool, index)?;
+    if !may_take(flags, found.parameters) {
         return Err(ReadRefusal::BadDescriptor(index));
     }
     Ok(())
+}
+
+fn constant_of_field(pool: &Pool<'_>, field: &RawMember) -> Result<Option<u16>, ReadRefusal>
+    ensures { Gives result (field_attributes_rules pool.now field.now) (λ constant. constant ≡ constant_of pool.now field.now) }
+{
+    field_constant(pool.constants(), field)
+}
+
+fn code_of_method(
+    alloc: Global,
+    pool: &Pool<'_>,
+    method: &RawMember,
+) -> Result<Option<CodeAttribute>, ReadRefusal>
+    requires { AllEndBelow method.now.attributes (2 ^ 32) }
+    ensures { Gives result (method_attributes_rules pool.now method.now)
+        (λ code. (code ≡ code_of_method pool.now method.now) × (is_some code ≡ is_some (named pool.now (codes "Code") method.now.attributes))) }
+{
+    method_code(alloc, pool.constants(), method)
 }
 
 /// Checks a field, but for whether it repeats another, and gives what is kept of it.
-fn lone_field(
-    pool: &[Constant],
-    is_interface: bool,
-    field: &RawMember,
-) -> Result<Member, ReadRefusal>
+fn lone_field(pool: &Pool<'_>, is_interface: bool, field: &RawMember) -> Result<Member, ReadRefusal>
     ensures { Gives result (lone_field_rules pool.now is_interface field.now) (λ member. member ≡ field_of pool.now field.now) }
 {
     check_field_name(pool, field.name)?;
@@ -92,7 +107,7 @@ fn lone_field(
     if !are_field_flags(is_interface, field.flags) {
         return Err(ReadRefusal::Flags);
     }
-    let constant = field_constant(pool, field)?;
+    let constant = constant_of_field(pool, field)?;
     Ok(Member {
         flags: field.flags,
         name: field.name,
@@ -103,7 +118,7 @@ fn lone_field(
 }
 
 /// Checks a method, but for whether it repeats another, and gives what is kept of it.
-fn lone_method(alloc: Global, pool: &[Constant], method: &RawMember) -> Result<Member, ReadRefusal>
+fn lone_method(alloc: Global, pool: &Pool<'_>, method: &RawMember) -> Result<Member, ReadRefusal>
     requires { AllEndBelow method.now.attributes (2 ^ 32) }
     ensures { Gives result (lone_method_rules pool.now method.now) (λ member. member ≡ method_of pool.now method.now) }
 {
@@ -112,7 +127,7 @@ fn lone_method(alloc: Global, pool: &[Constant], method: &RawMember) -> Result<M
     if !are_method_flags(method.flags) {
         return Err(ReadRefusal::Flags);
     }
-    let code = method_code(alloc, pool, method)?;
+    let code = code_of_method(alloc, pool, method)?;
     if code.is_some() != wants_code(method.flags) {
         return Err(ReadRefusal::Member(method.at));
     }
@@ -128,7 +143,7 @@ fn lone_method(alloc: Global, pool: &[Constant], method: &RawMember) -> Result<M
 /// Checks the fields, of which this one is the first that repeats another.
 pub fn fields(
     alloc: Global,
-    pool: &[Constant],
+    pool: &Pool<'_>,
     is_interface: bool,
     members: &[RawMember],
     repeat: Option<usize>,
@@ -151,7 +166,7 @@ pub fn fields(
 /// Checks the methods, of which this one is the first that repeats another.
 pub fn methods(
     alloc: Global,
-    pool: &[Constant],
+    pool: &Pool<'_>,
     members: &[RawMember],
     repeat: Option<usize>,
 ) -> Result<Rows<Member>, ReadRefusal>

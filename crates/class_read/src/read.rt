@@ -18,6 +18,7 @@ use crate::members::{fields, methods};
 use crate::pool::check_pool;
 use crate::refusal::ReadRefusal;
 use crate::repeats::first_repeat;
+use crate::text_uses::Pool;
 use class_walk::{Constant, RawAttribute, RawClass, RawMember, WalkFault, WalkRefusal, walk};
 use rows::Rows;
 use std::alloc::Global;
@@ -51,22 +52,22 @@ fn check_class_attributes(
 /// Checks the fields, and gives what is kept of them.
 fn kept_fields(
     alloc: Global,
-    pool: &[Constant],
+    pool: &Pool<'_>,
     is_interface: bool,
     members: &Rows<RawMember>,
 ) -> Result<Rows<Member>, ReadRefusal>
-    requires { length pool.now < 2 ^ 16 }
+    requires count { length pool.now < 2 ^ 16 }
     ensures { Gives result (fields_rules pool.now is_interface members.now) (λ kept. kept ≡ map (field_of pool.now) members.now) }
 {
     let members = members.as_slice();
-    let repeat = first_repeat(alloc, pool, members)?;
+    let repeat = first_repeat(alloc, pool.constants(), members)?;
     fields(alloc, pool, is_interface, members, repeat)
 }
 
 /// Checks the methods, and gives what is kept of them.
 fn kept_methods(
     alloc: Global,
-    pool: &[Constant],
+    pool: &Pool<'_>,
     members: &Rows<RawMember>,
 ) -> Result<Rows<Member>, ReadRefusal>
     requires count { length pool.now < 2 ^ 16 }
@@ -74,14 +75,14 @@ fn kept_methods(
     ensures { Gives result (methods_rules pool.now members.now) (λ kept. kept ≡ map (method_of pool.now) members.now) }
 {
     let members = members.as_slice();
-    let repeat = first_repeat(alloc, pool, members)?;
+    let repeat = first_repeat(alloc, pool.constants(), members)?;
     methods(alloc, pool, members, repeat)
 }
 
 /// Checks what stands behind the header, and gives what is kept of the fields and of the methods.
 fn kept_members(
     alloc: Global,
-    pool: &[Constant],
+    pool: &Pool<'_>,
     class: &RawClass,
 ) -> Result<(Rows<Member>, Rows<Member>), ReadRefusal>
     requires count { length pool.now < 2 ^ 16 }
@@ -90,23 +91,24 @@ fn kept_members(
 {
     let fields = kept_fields(alloc, pool, has(class.flags, INTERFACE), &class.fields)?;
     let methods = kept_methods(alloc, pool, &class.methods)?;
-    check_class_attributes(pool, &class.attributes)?;
+    check_class_attributes(pool.constants(), &class.attributes)?;
     Ok((fields, methods))
 }
 
 /// Checks a class, and gives what is kept of its fields and of its methods.
 fn checked_members(
     alloc: Global,
-    pool: &[Constant],
+    constants: &[Constant],
     class: &RawClass,
 ) -> Result<(Rows<Member>, Rows<Member>), ReadRefusal>
-    requires count { length pool.now < 2 ^ 16 }
+    requires count { length constants.now < 2 ^ 16 }
     requires small { HasSmallMethods class.now.methods }
-    ensures { Gives result (class_rules_over pool.now class.now) (λ kept. AreMembersOf pool.now class.now kept) }
+    ensures { Gives result (class_rules_over constants.now class.now) (λ kept. AreMembersOf constants.now class.now kept) }
 {
-    check_pool(alloc, pool)?;
-    check_header(pool, class)?;
-    kept_members(alloc, pool, class)
+    check_pool(alloc, constants)?;
+    let pool = Pool::new(alloc, constants)?;
+    check_header(&pool, class)?;
+    kept_members(alloc, &pool, class)
 }
 
 /// What is kept of a class.

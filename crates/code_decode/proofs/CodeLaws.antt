@@ -1,5 +1,5 @@
 -- A code from its parts.
-use Rattle.std.proofs.Common.{◌≡◌, ℕ, List, length, refl, sym, ap, subst, ◌∙◌, inl, inr}
+use Rattle.std.proofs.Common.{◌≡◌, ℕ, List, length, refl, sym, subst, inl, inr}
 use Rattle.std.specs.Prelude.{◌⊎◌}
 use Rattle.class_walk.specs.declared.class.Constant.{Constant}
 use Rattle.class_read.specs.declared.class_file.CodeAttribute.{CodeAttribute}

@@ -1,5 +1,5 @@
 -- What a class file says of its methods.
-use Rattle.std.proofs.Common.{◌≡◌, ◌+◌, ◌<◌, ◌^◌, ℕ, zero, suc, Bool, true, false, cond, List, [], ◌∷◌, ◌++◌, length, map, sym, ap, subst, ◌∙◌, refl, arith, lit<, add-one, Ok}
+use Rattle.std.proofs.Common.{◌≡◌, ◌+◌, ◌<◌, ◌^◌, ℕ, zero, suc, Bool, true, false, cond, List, [], ◌∷◌, ◌++◌, length, sym, ap, subst, ◌∙◌, refl, arith, lit<, add-one, Ok}
 use Rattle.std.specs.Prelude.{Some, None, Option, slice_get, option_map, codes, find}
 use Rattle.std.specs.List.{flat_map}
 use Rattle.std.proofs.lemmas.List.{length-map}
@@ -18,7 +18,7 @@ use Rattle.class_read.specs.declared.class_file.ClassFile.{ClassFile}
 use Rattle.class_read.specs.declared.class_file.CodeAttribute.{CodeAttribute}
 use Rattle.class_read.specs.declared.class_file.Member.{Member}
 use Rattle.class_read.specs.AttributeRules.{code_in, code_of_method, code_attribute, named, is_named}
-use Rattle.class_read.specs.ClassFile.{IsFile, class_of}
+use Rattle.class_read.specs.ClassFile.{class_of}
 use Rattle.class_read.specs.MemberRules.{method_of}
 use Rattle.code_decode.specs.Entry.{HasMethodType}
 use Rattle.code_decode.specs.Method.{StandsForFile, IsMethodWith}

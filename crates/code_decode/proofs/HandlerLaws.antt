@@ -1,10 +1,11 @@
 -- The handlers of a table, entry by entry.
-use Rattle.std.proofs.Common.{◌≡◌, ◌+◌, ◌<◌, ◌≤◌, ℕ, zero, suc, List, [], ◌∷◌, ◌++◌, length, get_or, take, refl, sym, ap, subst, ◌∙◌, arith, inl, inr, length-append}
-use Rattle.std.specs.Prelude.{Option, Some, None, slice_get, ◌⊎◌, ◌↔◌}
+use Rattle.std.proofs.Common.{◌≡◌, ◌+◌, ◌<◌, ℕ, zero, suc, List, [], ◌∷◌, ◌++◌, length, refl, sym, ap, subst, ◌∙◌, arith, inl, inr, length-append}
+use Rattle.std.specs.Prelude.{Some, slice_get, ◌⊎◌}
 use Rattle.std.proofs.lemmas.Bool.{cases_lt}
-use Rattle.std.proofs.lemmas.Option.{same_Some, slice_get-get_or, slice_get_within, slice_get_past}
+use Rattle.std.proofs.lemmas.Option.{same_Some, slice_get_within}
 use Rattle.class_walk.specs.declared.class.Constant.{Constant}
 use Rattle.class_walk.specs.declared.class.RawHandler.{RawHandler}
+use Rattle.class_read.proofs.Lists.{slice_get-push}
 use Rattle.instructions.specs.declared.what.Instr.{Instr}
 use Rattle.instructions.specs.declared.what.Target.{Target}
 use Rattle.code_decode.specs.declared.code.Handler.{Handler}
@@ -23,17 +24,6 @@ pub record AreHandlersTo (pool : List Constant) (steps : List (Instr Target)) (s
 
 pub none_yet : (pool : List Constant) (steps : List (Instr Target)) (size : ℕ) (table : List RawHandler) → AreHandlersTo pool steps size table 0 []
 none_yet pool steps size table = record { count = refl; each = λ k raw h at there. cc }
-
--- an item behind others
-pub slice_get-push : {X : Type 0} (xs : List X) (x y : X) (k : ℕ) → slice_get (xs ++ x ∷ []) k ≡ Some y → (slice_get xs k ≡ Some y) ⊎ ((k ≡ length xs) × (x ≡ y))
-slice_get-push [] x y zero e = inr (refl, same_Some x y e)
-slice_get-push [] x y (suc k) e = absurd cc
-slice_get-push (z ∷ xs) x y zero e = inl e
-slice_get-push (z ∷ xs) x y (suc k) e =
-    elim (slice_get-push xs x y k e) [
-      | inl there ↦ inl there
-      | inr last ↦ inr (ap suc last.0, last.1)
-    ]
 
 pub one_more : (pool : List Constant) (steps : List (Instr Target)) (size : ℕ) (table : List RawHandler) (n : ℕ) (handlers : List Handler) (raw : RawHandler) (h : Handler) → AreHandlersTo pool steps size table n handlers → slice_get table n ≡ Some raw → IsHandler pool steps size raw h → AreHandlersTo pool steps size table (n + 1) (handlers ++ h ∷ [])
 one_more pool steps size table n handlers raw h before at is = record {

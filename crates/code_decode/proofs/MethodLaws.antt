@@ -1,25 +1,24 @@
 -- The code of a method, from that of its attribute.
-use Rattle.std.proofs.Common.{◌≡◌, ℕ, ◌+◌, ◌<◌, ◌≤◌, List, [], ◌∷◌, length, refl, sym, ap, subst, ◌∙◌, inl, inr, arith}
-use Rattle.std.specs.Prelude.{◌⊎◌, Some, slice_get, Result, Ok, Err, Option, IfOk, IfErr}
-use Rattle.std.proofs.lemmas.List.Sums.{sum_by-cons}
+use Rattle.std.proofs.Common.{◌≡◌, ℕ, ◌+◌, List, length, refl, sym, ap, subst, ◌∙◌, inl, inr}
+use Rattle.std.specs.Prelude.{◌⊎◌, Some, None, Result, Ok, Err, IfOk, IfErr}
 use Rattle.std.proofs.lemmas.Option.{same_Some}
 use Rattle.class_walk.specs.declared.class.Constant.{Constant}
 use Rattle.class_walk.specs.declared.class.Constant.TheVariants.{Utf8}
-use Rattle.class_names.specs.Descriptor.{IsMethodDescriptor, parameter_words_of, words_of}
-use Rattle.class_names.specs.declared.kind.Kind.{Kind}
-use Rattle.class_names.specs.declared.kind.Kind.TheVariants.{Base, Array}
-use Rattle.class_names.specs.declared.kind.BaseKind.TheVariants as bases
+use Rattle.class_names.specs.Descriptor.{IsMethodDescriptor, size_of}
+use Rattle.class_names.specs.declared.kind.ParameterSize.{ParameterSize}
 use Rattle.class_names.proofs.DescriptorLaws.{one_method}
 use Rattle.class_read.specs.declared.class_file.ClassFile.{ClassFile}
 use Rattle.class_read.specs.declared.class_file.CodeAttribute.{CodeAttribute}
 use Rattle.class_read.specs.declared.class_file.Member.{Member}
 use Rattle.class_read.specs.MemberRules.{receiver_words}
 use Rattle.class_read.specs.Pool.{IsUtf8At}
+use Rattle.class_read.specs.TextUses.{IsUseOf, IsUseAt}
+use Rattle.class_read.specs.declared.text_uses.TextUse.{TextUse}
 use Rattle.code_decode.specs.declared.code.Code.{Code}
 use Rattle.code_decode.specs.declared.refusal.CodeRefusal.{CodeRefusal}
 use Rattle.code_decode.specs.declared.refusal.CodeRefusal.TheVariants.{NoMemory}
-use Rattle.code_decode.specs.Answer.{IsOnly, IsRefusal, IsAnswer, IsRead, IsRefused}
-use Rattle.code_decode.specs.Entry.{IsEntryCount}
+use Rattle.code_decode.specs.Answer.{IsAnswer, IsRead, IsRefused}
+use Rattle.code_decode.specs.Entry.{HasMethodType, IsEntryCount}
 use Rattle.code_decode.specs.Code.{IsCode, CodeRefuses}
 use Rattle.code_decode.specs.Method.{IsMethodWith, IsMethodCode, MethodRefuses, IsCodeOf, CodeOfRefuses}
 
@@ -34,6 +33,19 @@ one_count pool m x y (text, parameters, returned, at, is, count) (other, others,
     let P : List ℕ → Type 0 = λ t. IsMethodDescriptor t others last in
     let same : parameters ≡ others = (one_method text parameters others returned last is (subst P (same_text pool m.descriptor other text there at) as_well)).0 in
     count ∙ ap (λ ps. receiver_words m.flags + length ps) same ∙ sym size
+
+-- the descriptor of a method has parameters of one size
+pub with_size : (pool : List Constant) (m : Member) (u : TextUse) (size : ParameterSize) → IsUseAt pool m.descriptor u → u.parameters ≡ Some size → IsEntryCount pool m (receiver_words m.flags + size.count)
+with_size pool m u size at e =
+    let p = at.2.parameters size e in
+    (at.0, p.0, p.1, at.1, p.2, ap (λ (s : ParameterSize). receiver_words m.flags + s.count) p.3)
+
+pub without_size : (pool : List Constant) (m : Member) (u : TextUse) → HasMethodType pool m → IsUseAt pool m.descriptor u → u.parameters ≡ None → ⊥
+without_size pool m u has at e =
+    let P : List ℕ → Type 0 = λ t. IsUseOf t u in
+    let is = subst P (same_text pool m.descriptor at.0 has.0 at.1 has.1) at.2 in
+    let some = is.only (size_of has.2.0) (has.2.0, has.2.1, has.2.2, refl) in
+    absurd cc
 
 -- the answer for the attribute is that for the method
 pub with_entry : (pool : List Constant) (m : Member) (a : CodeAttribute) (entry : ℕ) (r : Result Code CodeRefusal) → IsEntryCount pool m entry → IsAnswer r (IsCode pool entry a) (CodeRefuses pool entry a) → IsAnswer r (IsMethodCode pool m a) (MethodRefuses pool m a)
@@ -105,29 +117,3 @@ answer_exact Is Refuses (Err e) answer = elim answer [ inl no_memory ↦ inl no_
 pub answer_first : {X : Type 0} (Is : X → Type 0) (Refuses : CodeRefusal → Type 0) (r : Result X CodeRefusal) → IsAnswer r Is Refuses → (e : CodeRefusal) → Refuses e → IsRefused r e
 answer_first Is Refuses (Ok x) answer e wrong = answer.accepted e wrong
 answer_first Is Refuses (Err d) answer e wrong = elim answer [ inl no_memory ↦ inl no_memory | inr refused ↦ inr (refused.only e wrong) ]
-
-one_word : (kind : Kind) → 1 ≤ words_of kind
-one_word (Base base) = elim base as (λ b. 1 ≤ words_of (Base b)) [
-  | bases.Int ↦ omega arith
-  | bases.Byte ↦ omega arith
-  | bases.Char ↦ omega arith
-  | bases.Short ↦ omega arith
-  | bases.Boolean ↦ omega arith
-  | bases.Long ↦ omega arith
-  | bases.Float ↦ omega arith
-  | bases.Double ↦ omega arith
-  | bases.Class name ↦ omega arith
-]
-one_word (Array dimensions base) = omega arith
-
--- no more parameters than words
-few_parameters : (parameters : List Kind) → length parameters ≤ parameter_words_of parameters
-few_parameters [] = omega arith
-few_parameters (kind ∷ parameters) =
-    let rest : length parameters ≤ parameter_words_of parameters = few_parameters parameters in
-    let word : 1 ≤ words_of kind = one_word kind in
-    let both : parameter_words_of (kind ∷ parameters) ≡ words_of kind + parameter_words_of parameters = sum_by-cons words_of kind parameters in
-    omega (arith, rest, word, both)
-
-pub parameters_fit : (text : List ℕ) (parameters : List Kind) (returned : Option Kind) → IsMethodDescriptor text parameters returned → length parameters ≤ 255
-parameters_fit text parameters returned is = omega (arith, few_parameters parameters, is.good.words)

@@ -1,6 +1,6 @@
 -- What the readers of a code's parts answer, as one answer.
 use Rattle.std.proofs.Common.{◌≡◌, ◌+◌, ◌<◌, ◌≤◌, ◌^◌, ℕ, ℤ, List, [], ◌∷◌, length, map, refl, sym, ap, ◌∙◌, inl, inr, arith, Ok, Err, Result}
-use Rattle.std.specs.Prelude.{◌⊎◌, IfOk, IfErr}
+use Rattle.std.specs.Prelude.{◌⊎◌}
 use Rattle.std.proofs.lemmas.List.{length-map}
 use Rattle.class_walk.specs.declared.class.Constant.{Constant}
 use Rattle.instructions.specs.declared.what.Instr.{Instr}
@@ -14,7 +14,6 @@ use Rattle.code_frames.specs.declared.types.MapFrame.{MapFrame}
 use Rattle.code_frames.specs.declared.refusal.FrameRefusal.{FrameRefusal}
 use Rattle.code_frames.specs.declared.refusal.FrameRefusal.TheVariants as frames_refusals
 use Rattle.code_frames.specs.StackMap.{IsStackMap, IsFirstBadFrame}
-use Rattle.code_decode.specs.declared.refusal.CodeRefusal.{CodeRefusal}
 use Rattle.code_decode.specs.declared.refusal.CodeRefusal.TheVariants as refusals
 use Rattle.code_decode.specs.Answer.{IsOnly, IsRefusal}
 use Rattle.code_decode.specs.Code.{fault_refusal, StepsRefuse, FramesRefuse}

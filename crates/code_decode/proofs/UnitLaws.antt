@@ -1,19 +1,17 @@
 -- The codes of a class, method by method.
-use Rattle.std.proofs.Common.{◌≡◌, ◌+◌, ◌<◌, ◌≤◌, ℕ, zero, suc, List, [], ◌∷◌, ◌++◌, length, take, refl, sym, ap, subst, ◌∙◌, inl, inr, arith, Ok, Err, Result, length-append}
-use Rattle.std.specs.Prelude.{◌⊎◌, Option, Some, None, slice_get, IfOk, IfErr}
-use Rattle.std.proofs.lemmas.Bool.{cases_lt}
+use Rattle.std.proofs.Common.{◌≡◌, ◌+◌, ◌<◌, ℕ, List, [], ◌∷◌, ◌++◌, length, refl, sym, ap, subst, ◌∙◌, inl, inr, arith, length-append}
+use Rattle.std.specs.Prelude.{Option, Some, None, slice_get}
 use Rattle.std.proofs.lemmas.Option.{same_Some, slice_get_within}
 use Rattle.class_read.specs.declared.class_file.ClassFile.{ClassFile}
 use Rattle.class_read.specs.declared.class_file.Member.{Member}
 use Rattle.code_decode.specs.declared.code.Code.{Code}
-use Rattle.code_decode.specs.declared.code.ClassUnit.{ClassUnit}
 use Rattle.code_decode.specs.declared.code.CodeAt.{CodeAt}
 use Rattle.code_decode.specs.declared.refusal.CodeRefusal.{CodeRefusal}
-use Rattle.code_decode.specs.declared.refusal.CodeRefusal.TheVariants.{NoMemory}
-use Rattle.code_decode.specs.Answer.{IsOnly, IsRefusal, IsAnswer, IsRead, IsRefused}
+use Rattle.code_decode.specs.Answer.{IsOnly, IsRefusal}
 use Rattle.code_decode.specs.Method.{IsCodeOf, CodeOfRefuses}
-use Rattle.code_decode.specs.Unit.{IsCodeEntry, AreCodes, IsUnit, ClassRefuses, IsUnitRead, IsRefusedAt, AreOnly, IsFirstRefused, AreCodesRead}
-use Rattle.code_decode.proofs.HandlerLaws.{slice_get-push, same_items, item_at, sides}
+use Rattle.code_decode.specs.Unit.{IsCodeEntry, AreOnly, IsFirstRefused}
+use Rattle.class_read.proofs.Lists.{slice_get-push}
+use Rattle.code_decode.proofs.HandlerLaws.{same_items, item_at, sides}
 
 -- a method that has a code has no entry without one
 no_code : (file : ClassFile) (n : ℕ) (code : Code) → IsCodeOf file n code → IsCodeEntry file n None → ⊥

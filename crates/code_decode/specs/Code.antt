@@ -1,7 +1,6 @@
 -- The code of a method (JVMS 4.7.3), and the first that is wrong with it.
 use Rattle.std.specs.Prelude.{◌≡◌, ℕ, ◌⊎◌, List, length}
 use Rattle.class_walk.specs.declared.class.Constant.{Constant}
-use Rattle.class_walk.specs.declared.class.RawHandler.{RawHandler}
 use Rattle.class_read.specs.declared.class_file.CodeAttribute.{CodeAttribute}
 use Rattle.instructions.specs.declared.what.Instr.{Instr}
 use Rattle.instructions.specs.declared.what.Target.{Target}

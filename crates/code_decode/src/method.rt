@@ -14,24 +14,31 @@ use crate::entry::entry_count;
 use crate::handlers::handlers;
 use crate::parts::{frames, steps};
 use crate::refusal::CodeRefusal;
-use class_read::{ClassFile, CodeAttribute, Constant, Member};
+use class_read::{ClassFile, CodeAttribute, Member, Pool};
 use std::alloc::Global;
 
 /// The code that an attribute stands for, in a method that begins with so many values.
 fn code(
     alloc: Global,
-    pool: &[Constant],
+    pool: &Pool<'_>,
     entry: u16,
     attribute: &CodeAttribute,
 ) -> Result<Code, CodeRefusal>
     requires { length attribute.now.handlers < 2 ^ 16 }
     ensures { IsAnswer result (IsCode pool.now entry attribute.now) (CodeRefuses pool.now entry attribute.now) }
 {
+    let constants = pool.constants();
     let bytes = attribute.bytes.as_slice();
     let steps = steps(alloc, pool, bytes)?;
     let size = bytes.len() as u32;
-    let handlers = handlers(alloc, pool, &steps, size, attribute.handlers.as_slice())?;
-    let frames = frames(alloc, pool, &steps, entry, attribute.maps.as_slice())?;
+    let handlers = handlers(
+        alloc,
+        constants,
+        &steps,
+        size,
+        attribute.handlers.as_slice(),
+    )?;
+    let frames = frames(alloc, constants, &steps, entry, attribute.maps.as_slice())?;
     Ok(Code {
         max_stack: attribute.max_stack,
         max_locals: attribute.max_locals,
@@ -44,7 +51,7 @@ fn code(
 /// The code of a method that has this attribute.
 fn method_code(
     alloc: Global,
-    pool: &[Constant],
+    pool: &Pool<'_>,
     method: &Member,
     attribute: &CodeAttribute,
 ) -> Result<Code, CodeRefusal>
@@ -52,19 +59,25 @@ fn method_code(
     requires count { length attribute.now.handlers < 2 ^ 16 }
     ensures { IsAnswer result (IsMethodCode pool.now method.now attribute.now) (MethodRefuses pool.now method.now attribute.now) }
 {
-    let entry = entry_count(alloc, pool, method)?;
+    let entry = entry_count(pool, method);
     code(alloc, pool, entry, attribute)
 }
 
-/// The code of a method, by its number in the class.
-pub fn code_of(alloc: Global, file: &ClassFile, method: u16) -> Result<Code, CodeRefusal>
+/// The code of a method, by its number in the class, whose constant pool is this one.
+pub fn code_of(
+    alloc: Global,
+    pool: &Pool<'_>,
+    file: &ClassFile,
+    method: u16,
+) -> Result<Code, CodeRefusal>
+    requires pool { pool.now ≡ file.now.pool }
     requires file { StandsForFile file.now }
     requires code { HasCode file.now method }
     ensures { IsAnswer result (IsCodeOf file.now method) (CodeOfRefuses file.now method) }
 {
     match file.methods.get(usize::from(method)) {
         Some(member) => match &member.code {
-            Some(attribute) => method_code(alloc, file.pool.as_slice(), member, attribute),
+            Some(attribute) => method_code(alloc, pool, member, attribute),
             None => unreachable!(),
         },
         None => unreachable!(),
@@ -87,5 +100,6 @@ pub fn decode(alloc: Global, file: &ClassFile, method: u16) -> Result<Code, Code
     // The first that is wrong is refused, unless memory runs out.
     ensures first { (e : CodeRefusal) → CodeOfRefuses file.now method e → IsRefused result e }
 {
-    code_of(alloc, file, method)
+    let pool = Pool::new(alloc, file.pool.as_slice())?;
+    code_of(alloc, &pool, file, method)
 }

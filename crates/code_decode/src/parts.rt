@@ -7,7 +7,7 @@ ghost use Rattle.code_decode.specs.Answer.{IsAnswer};
 ghost use Rattle.code_decode.specs.Code.{fault_refusal, StepsRefuse, FramesRefuse};
 
 use crate::refusal::CodeRefusal;
-use class_read::Constant;
+use class_read::{Constant, Pool};
 use code_frames::{FrameRefusal, Frames, read_frames};
 use code_steps::{StepFault, StepRefusal, read_steps};
 use instructions::Steps;
@@ -28,7 +28,7 @@ fn fault_refusal(fault: StepFault) -> CodeRefusal
 }
 
 /// The instructions of a code.
-pub fn steps(alloc: Global, pool: &[Constant], code: &[u8]) -> Result<Steps, CodeRefusal>
+pub fn steps(alloc: Global, pool: &Pool<'_>, code: &[u8]) -> Result<Steps, CodeRefusal>
     ensures { IsAnswer result (IsCodeArray pool.now code.now) (StepsRefuse pool.now code.now) }
 {
     match read_steps(alloc, pool, code) {

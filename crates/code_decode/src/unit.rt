@@ -11,12 +11,18 @@ ghost use Rattle.code_decode.specs.Unit.{IsCodeEntry, AreCodesRead, IsUnit, Clas
 use crate::code::{ClassUnit, Code, CodeAt};
 use crate::method::code_of;
 use crate::refusal::CodeRefusal;
-use class_read::ClassFile;
+use class_read::{ClassFile, Pool};
 use rows::Rows;
 use std::alloc::Global;
 
 /// The code of a method, if it has one.
-fn code_entry(alloc: Global, file: &ClassFile, method: u16) -> Result<Option<Code>, CodeRefusal>
+fn code_entry(
+    alloc: Global,
+    pool: &Pool<'_>,
+    file: &ClassFile,
+    method: u16,
+) -> Result<Option<Code>, CodeRefusal>
+    requires pool { pool.now ≡ file.now.pool }
     requires file { StandsForFile file.now }
     requires method { method < length file.now.methods }
     ensures { IsAnswer result (IsCodeEntry file.now method) (CodeOfRefuses file.now method) }
@@ -24,7 +30,7 @@ fn code_entry(alloc: Global, file: &ClassFile, method: u16) -> Result<Option<Cod
     match file.methods.get(usize::from(method)) {
         Some(member) => match &member.code {
             Some(_) => {
-                let code = code_of(alloc, file, method)?;
+                let code = code_of(alloc, pool, file, method)?;
                 Ok(Some(code))
             }
             None => Ok(None),
@@ -34,13 +40,14 @@ fn code_entry(alloc: Global, file: &ClassFile, method: u16) -> Result<Option<Cod
 }
 
 /// The codes of the methods, by number.
-fn codes(alloc: Global, file: &ClassFile) -> Result<Rows<Option<Code>>, CodeAt>
-    requires { StandsForFile file.now }
+fn codes(alloc: Global, pool: &Pool<'_>, file: &ClassFile) -> Result<Rows<Option<Code>>, CodeAt>
+    requires pool { pool.now ≡ file.now.pool }
+    requires file { StandsForFile file.now }
     ensures { AreCodesRead result file.now }
 {
     let mut codes = Rows::new(alloc);
     for method in 0..file.methods.len() as u16 {
-        let code = match code_entry(alloc, file, method) {
+        let code = match code_entry(alloc, pool, file, method) {
             Ok(code) => code,
             Err(refusal) => return Err(CodeAt { method, refusal }),
         };
@@ -53,6 +60,20 @@ fn codes(alloc: Global, file: &ClassFile) -> Result<Rows<Option<Code>>, CodeAt>
         }
     }
     Ok(codes)
+}
+
+/// The codes of the methods. What the texts of the pool are is found once for all of them.
+fn all_codes(alloc: Global, file: &ClassFile) -> Result<Rows<Option<Code>>, CodeAt>
+    requires { StandsForFile file.now }
+    ensures { AreCodesRead result file.now }
+{
+    match Pool::new(alloc, file.pool.as_slice()) {
+        Ok(pool) => codes(alloc, &pool, file),
+        Err(error) => Err(CodeAt {
+            method: 0,
+            refusal: CodeRefusal::from(error),
+        }),
+    }
 }
 
 /// Reads the code of each method of a class.
@@ -70,6 +91,6 @@ pub fn decode_class(alloc: Global, file: ClassFile) -> Result<ClassUnit, CodeAt>
     // The first is refused, unless memory runs out.
     ensures first { (at : CodeAt) → ClassRefuses file at → IsRefusedAt result at }
 {
-    let codes = codes(alloc, &file)?;
+    let codes = all_codes(alloc, &file)?;
     Ok(ClassUnit { file, codes })
 }

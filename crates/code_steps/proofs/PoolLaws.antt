@@ -1,11 +1,16 @@
 -- What is looked up in the pool is what stands there.
-use Rattle.std.proofs.Common.{◌≡◌, ◌≢◌, ℕ, Bool, true, false, cond, List, Option, Some, None, Result, Ok, Err, refl, sym, ap, subst, ◌∙◌, inl, inr}
+use Rattle.std.proofs.Common.{◌≡◌, ◌≢◌, ℕ, Bool, true, false, cond, List, Option, Some, None, Result, Ok, Err, refl, sym, ap, subst, ◌∙◌, ◌+◌, arith, inl, inr}
 use Rattle.std.specs.Prelude.{ℤ, ◌↔◌, slice_get, not, ◌&&◌, ◌==◌, codes, bytes_eq, IsTrue, ◌⊎◌}
-use Rattle.std.proofs.lemmas.Bool.{not-true, not_from_false, false_from_ne_true, eqb-true}
+use Rattle.std.proofs.lemmas.Bool.{not-true, not_from_false, false_from_ne_true, eqb-true, eq-eqb}
 use Rattle.std.proofs.lemmas.Slice.Eq.{bytes_eq-Decides}
 use Rattle.class_walk.specs.declared.class.Constant.{Constant}
 use Rattle.class_walk.specs.declared.class.Constant.TheVariants as constants
+use Rattle.class_names.specs.declared.kind.ParameterSize.{ParameterSize}
+use Rattle.class_names.specs.Descriptor.{parameter_words_of, size_of}
 use Rattle.class_read.specs.Pool.{IsClassAt, IsPairAt}
+use Rattle.class_read.specs.PoolRules.{IsText}
+use Rattle.class_read.specs.TextUses.{IsUseOf, IsUseAt}
+use Rattle.class_read.specs.declared.text_uses.TextUse.{TextUse}
 use Rattle.instructions.specs.declared.operation.Call.{Call as CallKind}
 use Rattle.instructions.specs.declared.operation.Call.TheVariants as calls
 use Rattle.instructions.specs.declared.operation.ClassUse.{ClassUse}
@@ -15,8 +20,8 @@ use Rattle.instructions.specs.declared.what.What.{What}
 use Rattle.instructions.specs.declared.what.What.TheVariants.{Constant as Loaded, LongConstant, Field, Call, Class}
 use Rattle.code_steps.specs.declared.fault.StepFault.{StepFault}
 use Rattle.code_steps.specs.declared.fault.StepFault.TheVariants.{Unsupported, Operand}
-use Rattle.code_steps.specs.Operands.{has_dimensions, IsLoadable, IsLong, IsField, MayCall, IsMethodFor, IsInterfaceCall, MayUse, IsClassFor, IsElementCode}
-use Rattle.code_steps.specs.Reading.{text_of, class_name_in, member_in, both_texts, loaded_class, constant_in, constant_of, long_constant_in, long_constant_of, field_in, field_of, may_call, named_call, call_in, call_of, may_use, class_named, class_of, new_array_of, interface_pair_in, IsInterfaceMember}
+use Rattle.code_steps.specs.Operands.{has_dimensions, IsCount, IsLoadable, IsLong, IsField, MayCall, IsMethodFor, IsInterfaceCall, MayUse, IsClassFor, IsElementCode}
+use Rattle.code_steps.specs.Reading.{text_of, class_name_in, member_in, both_texts, loaded_class, constant_in, constant_of, long_constant_in, long_constant_of, field_in, field_of, may_call, named_call, call_in, call_of, may_use, class_named, class_of, new_array_of, interface_pair_in, has_words, IsCountIn, IsInterfaceMember}
 use Rattle.code_steps.proofs.Fields.{ok_is, guard_ok, passes_ok}
 
 some_is : {A : Type 0} (x y : A) → Some x ≡ Some y → x ≡ y
@@ -215,6 +220,35 @@ element_again at code what (inr (inr (inr (inr (inl a))))) = rw (a.0, a.1) refl
 element_again at code what (inr (inr (inr (inr (inr a))))) = rw (a.0, a.1) refl
 
 -- ---- invokeinterface
+
+has_so_many : (text : List ℕ) (u : TextUse) (count : ℕ) (o : Option ParameterSize) → IsUseOf text u → u.parameters ≡ o → IsTrue (has_words o count) → IsCount text count
+has_so_many text u count None is e t = absurd cc
+has_so_many text u count (Some size) is e t =
+    let p = is.parameters size e in
+    let words : size.words ≡ parameter_words_of p.0 = ap (λ (s : ParameterSize). s.words) p.3 in
+    (p.0, p.1, p.2, omega (arith, eqb-true count (size.words + 1) t, words))
+
+so_many_again : (text : List ℕ) (u : TextUse) (count : ℕ) → IsUseOf text u → IsCount text count → IsTrue (has_words u.parameters count)
+so_many_again text u count is m =
+    let found : u.parameters ≡ Some (size_of m.0) = is.only (size_of m.0) (m.0, m.1, m.2, refl) in
+    rw found (eq-eqb count (parameter_words_of m.0 + 1) m.3)
+
+-- the words of the descriptor at an index
+pub counted : (pool : List Constant) (index count : ℕ) (u : TextUse) → IsUseAt pool index u → IsTrue (has_words u.parameters count) ↔ IsCountIn (text_of (slice_get pool index)) count
+counted pool index count u at =
+    rw (at.1) (has_so_many at.0 u count u.parameters at.2 refl, so_many_again at.0 u count at.2)
+
+pub not_counted : (pool : List Constant) (index count : ℕ) → (IsText pool index → ⊥) → IsTrue false ↔ IsCountIn (text_of (slice_get pool index)) count
+not_counted pool index count none = (λ t. absurd cc, λ m. absurd (none (there (text_of (slice_get pool index)) refl m)))
+  where
+    there : (o : Option (List ℕ)) → text_of (slice_get pool index) ≡ o → IsCountIn o count → IsText pool index
+    there None e m = absurd m
+    there (Some text) e m = (text, text_is (slice_get pool index) text e)
+
+-- a member whose name is there
+pub named_member : (name : List ℕ) (descriptor : Option (List ℕ)) (count last : ℕ) → (IsTrue (may_call calls.Virtual name) × IsCountIn descriptor count × (last ≡ 0)) ↔ IsInterfaceMember (both_texts (Some name) descriptor) count last
+named_member name None count last = (λ m. m.1, λ m. absurd m)
+named_member name (Some descriptor) count last = (λ m. m, λ m. m)
 
 interface_found : (pool : List Constant) (index class pair count last : ℕ) (o : Option (List ℕ × List ℕ)) → slice_get pool index ≡ Some (constants.IfaceMethod class pair) → member_in pool (slice_get pool pair) ≡ o
     → IsInterfaceMember o count last → IsInterfaceCall pool index count last

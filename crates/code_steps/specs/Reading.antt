@@ -1,9 +1,10 @@
 -- Reading an instruction from its front, with the first fault that is met.
-use Rattle.std.specs.Prelude.{◌≡◌, ℕ, zero, suc, ◌+◌, ℤ, ◌-ℤ◌, Bool, true, not, List, [], ◌∷◌, length, take, drop, Option, Some, None, Result, Ok, Err, slice_get, nat_lt, int_lt, ◌==◌, ◌&&◌, if◌then◌else◌, MatchBool, codes, bytes_eq, IsTrue, unsigned_abs}
+use Rattle.std.specs.Prelude.{◌≡◌, ℕ, zero, suc, ◌+◌, ℤ, ◌-ℤ◌, Bool, true, false, not, List, [], ◌∷◌, length, take, drop, Option, Some, None, Result, Ok, Err, slice_get, nat_lt, int_lt, ◌==◌, ◌&&◌, if◌then◌else◌, MatchBool, codes, bytes_eq, IsTrue, unsigned_abs}
 use Rattle.std.specs.Int.{w8, w16, w32, cast_signed}
 use Rattle.byteorder.specs.Endian.{big_number}
 use Rattle.class_walk.specs.declared.class.Constant.{Constant}
 use Rattle.class_walk.specs.declared.class.Constant.TheVariants as constants
+use Rattle.class_names.specs.declared.kind.ParameterSize.{ParameterSize}
 use Rattle.instructions.specs.declared.form.Form.{Form}
 use Rattle.instructions.specs.declared.form.Form.TheVariants as forms
 use Rattle.instructions.specs.declared.operation.Call.{Call as CallKind}
@@ -150,6 +151,15 @@ class_of pool purpose at index = class_named purpose at index (class_name_in poo
 abbrev pub interface_pair_in : Option Constant → Option ℕ
 interface_pair_in (Some (constants.IfaceMethod _ pair)) = Some pair
 interface_pair_in _ = None
+
+-- parameters of this size, and a receiver, take so many words
+abbrev pub has_words : Option ParameterSize → ℕ → Bool
+has_words None count = false
+has_words (Some size) count = count == size.words + 1
+
+abbrev pub IsCountIn : Option (List ℕ) → ℕ → Type 0
+IsCountIn None count = ⊥
+IsCountIn (Some descriptor) count = IsCount descriptor count
 
 -- invokeinterface may call this member with this count and this last byte
 abbrev pub IsInterfaceMember : Option (List ℕ × List ℕ) → ℕ → ℕ → Type 0

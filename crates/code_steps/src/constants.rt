@@ -2,11 +2,12 @@
 
 ghost use Rattle.std.specs.Prelude.{◌≡◌, ◌↔◌, IsTrue, slice_get, bytes_eq, codes, option_map};
 ghost use Rattle.class_walk.specs.declared.class.Constant.{Constant};
-ghost use Rattle.code_steps.specs.Operands.{has_dimensions, IsCount, IsInterfaceCall};
-ghost use Rattle.code_steps.specs.Reading.{text_of, class_name_in, member_in, both_texts, loaded_class, constant_of, long_constant_of, field_of, may_call, named_call, call_of, may_use, class_named, class_of, interface_pair_in, IsInterfaceMember, new_array_of};
+ghost use Rattle.code_steps.specs.Operands.{has_dimensions, IsInterfaceCall};
+ghost use Rattle.code_steps.specs.Reading.{text_of, class_name_in, member_in, both_texts, loaded_class, constant_of, long_constant_of, field_of, may_call, named_call, call_of, may_use, class_named, class_of, interface_pair_in, has_words, IsCountIn, IsInterfaceMember, new_array_of};
 
 use crate::fault::StepFault;
-use class_names::parameter_words;
+use class_names::ParameterSize;
+use class_read::Pool;
 use class_walk::Constant;
 use instructions::{Call, ClassUse, FieldAccess, PrimitiveType, What};
 
@@ -214,12 +215,22 @@ pub fn new_array(at: u32, code: u8) -> Result<What<i64>, StepFault>
     }
 }
 
-/// Whether the parameters of a method descriptor and a receiver take so many words.
-fn is_count(descriptor: &[u8], count: u8) -> bool
-    ensures { IsTrue result ↔ IsCount descriptor.now count }
+/// Whether parameters of this size and a receiver take so many words.
+fn has_words(parameters: Option<ParameterSize>, count: u8) -> bool
+    ensures { result ≡ has_words parameters count }
 {
-    match parameter_words(descriptor) {
-        Some(words) => u32::from(count) == words + 1,
+    match parameters {
+        Some(size) => u16::from(count) == u16::from(size.words) + 1,
+        None => false,
+    }
+}
+
+/// Whether the parameters of the method descriptor at an index and a receiver take so many words.
+fn is_count(pool: &Pool<'_>, descriptor: u16, count: u8) -> bool
+    ensures { IsTrue result ↔ IsCountIn (text_of (slice_get pool.now descriptor)) count }
+{
+    match pool.text_use(descriptor) {
+        Some(text) => has_words(text.parameters, count),
         None => false,
     }
 }
@@ -234,24 +245,36 @@ fn interface_pair(pool: &[Constant], index: u16) -> Option<u16>
     }
 }
 
-/// Whether invokeinterface may call a member, with this count and this last byte.
-fn is_interface_member(member: Option<(&[u8], &[u8])>, count: u8, last: u8) -> bool
-    ensures { IsTrue result ↔ IsInterfaceMember (option_map (λ x. (x.0.now, x.1.now)) member.entry) count last }
+/// Whether invokeinterface may call a member of this name and descriptor, with this count and this last byte.
+fn is_interface_member(pool: &Pool<'_>, name: u16, descriptor: u16, count: u8, last: u8) -> bool
+    ensures { IsTrue result ↔ IsInterfaceMember (both_texts (text_of (slice_get pool.now name)) (text_of (slice_get pool.now descriptor))) count last }
 {
-    match member {
-        Some((name, descriptor)) => {
-            may_call(Call::Virtual, name) && is_count(descriptor, count) && last == 0
+    match text(pool.constants(), name) {
+        Some(name) => {
+            may_call(Call::Virtual, name) && is_count(pool, descriptor, count) && last == 0
         }
         None => false,
     }
 }
 
+/// Whether invokeinterface may call the member at an index, with this count and this last byte.
+fn is_interface_pair(pool: &Pool<'_>, pair: u16, count: u8, last: u8) -> bool
+    ensures { IsTrue result ↔ IsInterfaceMember (member_in pool.now (slice_get pool.now pair)) count last }
+{
+    match pool.constants().get(usize::from(pair)) {
+        Some(Constant::Pair(name, descriptor)) => {
+            is_interface_member(pool, *name, *descriptor, count, last)
+        }
+        _ => false,
+    }
+}
+
 /// Whether these are the index, the count and the last byte of an invokeinterface.
-pub fn is_interface_call(pool: &[Constant], index: u16, count: u8, last: u8) -> bool
+pub fn is_interface_call(pool: &Pool<'_>, index: u16, count: u8, last: u8) -> bool
     ensures { IsTrue result ↔ IsInterfaceCall pool.now index count last }
 {
-    match interface_pair(pool, index) {
-        Some(pair) => is_interface_member(member(pool, pair), count, last),
+    match interface_pair(pool.constants(), index) {
+        Some(pair) => is_interface_pair(pool, pair, count, last),
         None => false,
     }
 }

@@ -9,7 +9,7 @@ use crate::constants::{call, class, constant, field, is_interface_call, long_con
 use crate::cursor::{Cursor, far_target, near_target};
 use crate::fault::{StepFault, StepRefusal};
 use crate::switches::{lookup_switch, table_switch};
-use class_walk::Constant;
+use class_read::Pool;
 use instructions::{Form, Row, What, row};
 use std::alloc::Global;
 
@@ -47,7 +47,7 @@ fn wide(at: u32, cursor: &mut Cursor<'_>) -> Result<What<i64>, StepRefusal>
 }
 
 fn interface_call(
-    pool: &[Constant],
+    pool: &Pool<'_>,
     at: u32,
     cursor: &mut Cursor<'_>,
 ) -> Result<What<i64>, StepRefusal>
@@ -66,7 +66,7 @@ fn interface_call(
 #[tactic(auto, unfolding(crate::specs::Reading::ReadsOperands))]
 fn operands(
     alloc: Global,
-    pool: &[Constant],
+    pool: &Pool<'_>,
     at: u32,
     form: Form,
     cursor: &mut Cursor<'_>,
@@ -80,9 +80,9 @@ fn operands(
         Form::FixedLocal(access, local) => Ok(What::Local(access, local)),
         Form::ByteInt => Ok(What::Int(i32::from(cursor.u8(at)?.cast_signed()))),
         Form::ShortInt => Ok(What::Int(i32::from(cursor.u16(at)?.cast_signed()))),
-        Form::ByteConstant => Ok(constant(pool, at, u16::from(cursor.u8(at)?))?),
-        Form::Constant => Ok(constant(pool, at, cursor.u16(at)?)?),
-        Form::LongConstant => Ok(long_constant(pool, at, cursor.u16(at)?)?),
+        Form::ByteConstant => Ok(constant(pool.constants(), at, u16::from(cursor.u8(at)?))?),
+        Form::Constant => Ok(constant(pool.constants(), at, cursor.u16(at)?)?),
+        Form::LongConstant => Ok(long_constant(pool.constants(), at, cursor.u16(at)?)?),
         Form::Local(access) => Ok(What::Local(access, u16::from(cursor.u8(at)?))),
         Form::Increment => {
             let local = u16::from(cursor.u8(at)?);
@@ -93,10 +93,10 @@ fn operands(
         Form::FarBranch(test) => Ok(What::Branch(test, far_target(at, cursor.u32(at)?))),
         Form::TableSwitch => table_switch(alloc, at, cursor),
         Form::LookupSwitch => lookup_switch(alloc, at, cursor),
-        Form::Field(access) => Ok(field(pool, access, at, cursor.u16(at)?)?),
-        Form::Call(kind) => Ok(call(pool, kind, at, cursor.u16(at)?)?),
+        Form::Field(access) => Ok(field(pool.constants(), access, at, cursor.u16(at)?)?),
+        Form::Call(kind) => Ok(call(pool.constants(), kind, at, cursor.u16(at)?)?),
         Form::InterfaceCall => interface_call(pool, at, cursor),
-        Form::Class(purpose) => Ok(class(pool, purpose, at, cursor.u16(at)?)?),
+        Form::Class(purpose) => Ok(class(pool.constants(), purpose, at, cursor.u16(at)?)?),
         Form::NewArray => Ok(new_array(at, cursor.u8(at)?)?),
         Form::Wide => wide(at, cursor),
     }
@@ -106,7 +106,7 @@ fn operands(
 #[tactic(auto, unfolding(crate::specs::Reading::ReadsInstruction))]
 pub fn instruction(
     alloc: Global,
-    pool: &[Constant],
+    pool: &Pool<'_>,
     at: u32,
     cursor: &mut Cursor<'_>,
 ) -> Result<What<i64>, StepRefusal>

@@ -12,7 +12,7 @@ use crate::cursor::Cursor;
 use crate::fault::{StepFault, StepRefusal};
 use crate::operands::instruction;
 use crate::targets::steps;
-use class_walk::Constant;
+use class_read::Pool;
 use instructions::{Instr, Offsets, Steps};
 use rows::Rows;
 use std::alloc::Global;
@@ -24,7 +24,7 @@ const MAX_LENGTH: usize = 65535;
 /// offsets.
 fn instructions(
     alloc: Global,
-    pool: &[Constant],
+    pool: &Pool<'_>,
     code: &[u8],
 ) -> Result<(Rows<Instr<i64>>, Offsets), StepRefusal>
     requires { IsSized code.now }
@@ -44,7 +44,7 @@ fn instructions(
     Ok((steps, offsets))
 }
 
-fn whole(alloc: Global, pool: &[Constant], code: &[u8]) -> Result<Steps, StepRefusal>
+fn whole(alloc: Global, pool: &Pool<'_>, code: &[u8]) -> Result<Steps, StepRefusal>
     ensures found { IfOk result (λ steps. IsCodeArray pool.now code.now steps) }
     ensures exact { IfErr result (IsFaultOf (IsFirstFault pool.now code.now)) }
 {
@@ -61,7 +61,7 @@ fn whole(alloc: Global, pool: &[Constant], code: &[u8]) -> Result<Steps, StepRef
 /// The fault is the first one: the length of the code, then instruction by instruction what is wrong with
 /// its number, its operands and what they want of the pool, and where nothing is, instruction by instruction
 /// a target that is no instruction. `NoMemory` may come anywhere.
-pub fn read_steps(alloc: Global, pool: &[Constant], code: &[u8]) -> Result<Steps, StepRefusal>
+pub fn read_steps(alloc: Global, pool: &Pool<'_>, code: &[u8]) -> Result<Steps, StepRefusal>
     // What is read is the code array.
     ensures found { IfOk result (λ steps. IsCodeArray pool.now code.now steps) }
     // What is a code array is read, unless memory runs out.

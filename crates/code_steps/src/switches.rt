@@ -43,6 +43,7 @@ fn keys_between(low: i32, high: i32) -> u64
     u64::from(high.abs_diff(low)) + 1
 }
 
+/// The operands of a tableswitch at this offset: its targets are those of the keys from the lowest on.
 #[tactic(auto, unfolding(crate::specs::Reading::table_switch_at))]
 pub fn table_switch(
     alloc: Global,
@@ -104,6 +105,7 @@ fn rise(cases: &[Case<i64>]) -> bool
     cases.is_sorted_by(|a, b| is_below(*a, *b))
 }
 
+/// The operands of a lookupswitch at this offset. Its keys rise.
 #[tactic(auto, unfolding(crate::specs::Reading::lookup_switch_at))]
 pub fn lookup_switch(
     alloc: Global,

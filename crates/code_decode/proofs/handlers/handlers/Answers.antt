@@ -1,4 +1,4 @@
-use Rattle.std.proofs.Common.{◌≡◌, ◌<◌, Some, inr, arith, length, get_or}
+use Rattle.std.proofs.Common.{◌≡◌, Some, inr, arith, length, get_or}
 use Rattle.std.specs.Prelude.{slice_get}
 use Rattle.std.proofs.lemmas.Option.{slice_get-get_or}
 use Rattle.class_walk.specs.declared.class.RawHandler.{RawHandler}

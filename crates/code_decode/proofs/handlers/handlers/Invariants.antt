@@ -1,5 +1,3 @@
-use Rattle.std.proofs.Common.{◌≡◌, ◌≤◌, ℕ, take, length}
-use Rattle.code_decode.specs.Handlers.{AreHandlers}
 use Rattle.code_decode.proofs.HandlerLaws.{AreHandlersTo}
 use Rattle.code_decode.proofs.handlers.handlers.Given as goal
 

@@ -1,4 +1,4 @@
-use Rattle.std.proofs.Common.{inl, inr}
+use Rattle.std.proofs.Common.{inr}
 use Rattle.code_decode.proofs.PartLaws.{frames_read, frames_bad}
 use Rattle.code_decode.proofs.parts.frames.Goals as goal
 

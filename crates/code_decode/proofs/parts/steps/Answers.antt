@@ -1,4 +1,4 @@
-use Rattle.std.proofs.Common.{inl, inr}
+use Rattle.std.proofs.Common.{inr}
 use Rattle.code_decode.proofs.PartLaws.{steps_read, steps_faulty}
 use Rattle.code_decode.proofs.parts.steps.Goals as goal
 

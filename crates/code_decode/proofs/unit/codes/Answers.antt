@@ -18,6 +18,6 @@ loop-method-preserved c =
 
 pub returns : goal.returns
 returns c =
-    let few = few_methods c.args.file.now c.requires in
+    let few = few_methods c.args.file.now c.requires.file in
     let all : c.loop-method.method ≡ length c.args.file.now.methods = omega arith in
     all_read c.args.file.now c.loop-method.method c.loop-method.codes c.loop-method.invariant all
