@@ -1,5 +1,5 @@
 -- What a choice and an option say of their parts.
-use Rattle.std.proofs.Common.{◌≡◌, ◌≢◌, ℕ, Bool, true, false, cond, eqb, List, [], ◌∷◌, length, Option, Some, None, option_map, ◌⊎◌, inl, inr, refl, ap, sym, ◌∙◌, arith}
+use Rattle.std.proofs.Common.{◌≡◌, ◌≢◌, Bool, true, false, cond, eqb, List, [], ◌∷◌, length, Option, Some, None, option_map, ◌⊎◌, inl, inr, refl, ap, sym, ◌∙◌, arith}
 use Rattle.std.proofs.lemmas.Bool.{eqb-true}
 use Rattle.std.specs.Option.{option_and_then}
 use Rattle.std.proofs.lemmas.Option.{same_Some}
@@ -22,10 +22,10 @@ first_same {A} {B} x y e = ap (λ (p : A × B). p.0) (same_Some x y e)
 pub second_same : {A B : Type 0} (x y : A × B) → Some x ≡ Some y → x.1 ≡ y.1
 second_same {A} {B} x y e = ap (λ (p : A × B). p.1) (same_Some x y e)
 
-pub empty_is : (xs : List ℕ) (b : Bool) → b ≡ eqb (length xs) 0 → b ≡ true → xs ≡ []
+pub empty_is : {A : Type 0} (xs : List A) (b : Bool) → b ≡ eqb (length xs) 0 → b ≡ true → xs ≡ []
 empty_is [] b e t = refl
 empty_is (x ∷ xs) b e t = absurd (let h : length (x ∷ xs) ≡ 0 = eqb-true _ _ (sym e ∙ t) in omega arith)
 
-pub full_is : (xs : List ℕ) (b : Bool) → b ≡ eqb (length xs) 0 → b ≡ false → xs ≢ []
+pub full_is : {A : Type 0} (xs : List A) (b : Bool) → b ≡ eqb (length xs) 0 → b ≡ false → xs ≢ []
 full_is [] b e f = λ _. cc
 full_is (x ∷ xs) b e f = λ h. cc

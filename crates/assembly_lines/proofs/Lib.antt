@@ -3,4 +3,11 @@ pub mod PieceLaws
 pub mod WordLaws
 pub mod NumberLaws
 pub mod TextLaws
+pub mod FrontLaws
+pub mod EachLaws
+pub mod RowLaws
+pub mod SwitchLaws
+pub mod OperandLaws
+pub mod OperationLaws
+pub mod FrameLaws
 pub mod LineLaws

@@ -1,5 +1,5 @@
 -- Reading the words of a line gives what they say.
-use Rattle.std.proofs.Common.{◌≡◌, ℕ, ℤ, Bool, true, false, cond, List, [], ◌∷◌, ◌⊎◌, Option, Some, None, Result, Ok, Err, option_map, refl, sym, ap, ◌∙◌, subst, inl, inr, IfOk, MatchResult, codes}
+use Rattle.std.proofs.Common.{◌≡◌, ℕ, ℤ, Bool, true, false, cond, List, [], ◌∷◌, ◌++◌, ◌⊎◌, Option, Some, None, Result, Ok, Err, option_map, refl, sym, ap, ◌∙◌, subst, inl, inr, IfOk, MatchResult, codes}
 use Rattle.std.specs.Str.{bytes_eq}
 use Rattle.std.proofs.lemmas.Option.{same_Some}
 use Rattle.assembly_lines.specs.declared.word.LineRefusal.{LineRefusal}
@@ -10,49 +10,22 @@ use Rattle.assembly_lines.specs.declared.line.FieldValue.{FieldValue}
 use Rattle.assembly_lines.specs.declared.line.FieldValue.TheVariants as values
 use Rattle.assembly_lines.specs.declared.line.Room.{Room}
 use Rattle.assembly_lines.specs.declared.line.Line.{Line}
-use Rattle.assembly_lines.specs.declared.line.Line.TheVariants.{Class, Super, Implements, Field, Method, End, Label, Handler}
+use Rattle.assembly_lines.specs.declared.line.Line.TheVariants.{Class, Super, Implements, Field, Method, End, Label, Handler, Instruction, Frame}
 use Rattle.assembly_lines.specs.Numbers.{integer_up_to}
-use Rattle.assembly_lines.specs.Words.{AreWords}
-use Rattle.assembly_lines.specs.Lines.{word, IsShort, SaysValue, Says, IsLine}
-use Rattle.assembly_lines.specs.ReadingLine.{◌>>=◌, Fails, Gives, plain_at, only, only_plain, only_word, behind, short, class_flags, class_at, super_at, implements_at, header_at, is_int_descriptor, value_of, constant_at, value_at, field_at, frame_room_at, room_at, method_at, handler_class, handler_at, label_of, word_line, keyword_line, line_with, line_at}
+use Rattle.assembly_lines.specs.Words.{AreWords, word}
+use Rattle.assembly_lines.specs.Lines.{IsShort, SaysValue, Says, IsLine}
+use Rattle.assembly_lines.specs.Front.{◌>>=◌, Fails, Gives, Answers, plain_at, only, only_plain, only_word, behind, short}
+use Rattle.assembly_lines.specs.ReadingLine.{class_flags, class_at, super_at, implements_at, header_at, is_int_descriptor, value_of, constant_at, value_at, field_at, frame_room_at, room_at, method_at, handler_class, handler_at, label_of, word_line, keyword_line, line_with}
 use Rattle.assembly_lines.proofs.Cases.{chosen, mapped}
+use Rattle.assembly_lines.proofs.FrontLaws.{bound, plain_takes, only_takes, word_takes, behind_takes, answers, refuses}
+use Rattle.assembly_lines.specs.ReadingFrames.{frame_at}
+use Rattle.instructions.specs.Table.{Instruction as Row, row_named}
+use Rattle.assembly_lines.specs.declared.operation.Operation.{Operation}
+use Rattle.assembly_lines.specs.Operands.{SaysOperation}
 use Rattle.assembly_lines.proofs.WordLaws.{one_list}
-use Rattle.assembly_lines.proofs.TextLaws.{text_same, text_other, int_again, int_takes, label_again, label_takes}
-
-bound : {A B : Type 0} (o : Option A) (f : A → Option B) (y : B) → (o >>= f) ≡ Some y → (x : A) × (o ≡ Some x) × (f x ≡ Some y)
-bound None f y e = absurd cc
-bound (Some x) f y e = (x, refl, e)
-
-plain_takes : (words : List Word) (x : List ℕ × List Word) → plain_at words ≡ Some x → words ≡ Plain x.0 ∷ x.1
-plain_takes [] x e = absurd cc
-plain_takes (Plain name ∷ words) x e = ap (λ (p : List ℕ × List Word). Plain p.0 ∷ p.1) (same_Some (name, words) x e)
-plain_takes (Quoted units ∷ words) x e = absurd cc
-
-alone_takes : {A : Type 0} (a : A) (words : List Word) (b : A) → only (a, words) ≡ Some b → (words ≡ []) × (a ≡ b)
-alone_takes a [] b e = (refl, same_Some a b e)
-alone_takes a (w ∷ words) b e = absurd cc
-
-only_takes : (words : List Word) (name : List ℕ) → only_plain words ≡ Some name → words ≡ Plain name ∷ []
-only_takes words name e =
-    let b = bound (plain_at words) only name e in
-    let p = plain_takes words b.0 b.1 in
-    let a = alone_takes b.0.0 b.0.1 name b.2 in
-    p ∙ (ap (λ (ws : List Word). Plain b.0.0 ∷ ws) a.0 ∙ ap (λ (n : List ℕ). Plain n ∷ []) a.1)
-
-word_takes : (words : List Word) (said : Word) → only_word words ≡ Some said → words ≡ said ∷ []
-word_takes [] said e = absurd cc
-word_takes (w ∷ words) said e =
-    let a = alone_takes w words said e in
-    ap (λ (ws : List Word). w ∷ ws) a.0 ∙ ap (λ (x : Word). x ∷ []) a.1
-
-behind_takes : (text : List ℕ) (words rest : List Word) → behind text words ≡ Some rest → words ≡ Plain text ∷ rest
-behind_takes text words rest e =
-    let b = bound (plain_at words) (λ (first : List ℕ × List Word). cond (bytes_eq first.0 text) (Some first.1) None) rest e in
-    let p = plain_takes words b.0 b.1 in
-    elim (chosen (bytes_eq b.0.0 text) (Some b.0.1) None (Some rest) b.2) [
-      | inl t ↦ p ∙ (ap (λ (n : List ℕ). Plain n ∷ b.0.1) (text_same b.0.0 text t.0) ∙ ap (λ (ws : List Word). Plain text ∷ ws) (same_Some b.0.1 rest t.1))
-      | inr t ↦ absurd (let none = t.1 in cc)
-    ]
+use Rattle.assembly_lines.proofs.RowLaws.{class_no_row, super_no_row, implements_no_row, field_no_row, method_no_row, end_no_row, handler_no_row, frame_no_row, label_no_row}
+use Rattle.assembly_lines.proofs.FrameLaws.{frame_takes, frame_again}
+use Rattle.assembly_lines.proofs.TextLaws.{text_same, text_isnt, text_other, int_again, int_takes, label_again, label_takes}
 
 -- ---- classes
 
@@ -234,9 +207,12 @@ keyword_takes keyword words line e =
             | inl t ↦ known (codes "field") keyword words line t.0 (field_takes words line t.1)
             | inr f4 ↦ elim (chosen (bytes_eq keyword (codes "method")) (method_at words) _ (Some line) f4.1) [
               | inl t ↦ known (codes "method") keyword words line t.0 (method_takes words line t.1)
-              | inr f5 ↦ elim (chosen (bytes_eq keyword (codes "handler")) (handler_at words) None (Some line) f5.1) [
+              | inr f5 ↦ elim (chosen (bytes_eq keyword (codes "handler")) (handler_at words) _ (Some line) f5.1) [
                 | inl t ↦ known (codes "handler") keyword words line t.0 (handler_takes words line t.1)
-                | inr f6 ↦ absurd (let none = f6.1 in cc)
+                | inr f6 ↦ elim (chosen (bytes_eq keyword (codes "frame")) (frame_at words) None (Some line) f6.1) [
+                  | inl t ↦ known (codes "frame") keyword words line t.0 (frame_takes words line t.1)
+                  | inr f7 ↦ absurd (let none = f7.1 in cc)
+                ]
               ]
             ]
           ]
@@ -259,61 +235,129 @@ with_takes : (keyword : List ℕ) (words : List Word) (line : Line) → line_wit
 with_takes keyword [] line e = single_takes keyword line e
 with_takes keyword (w ∷ words) line e = keyword_takes keyword (w ∷ words) line e
 
-pub line_takes : (words : List Word) (line : Line) → line_at words ≡ Some line → Says words line
-unfolding line_at
-line_takes words line e =
-    let b = bound (plain_at words) line_with line e in
-    subst (λ (ws : List Word). Says ws line) (sym (plain_takes words b.0 b.1)) (with_takes b.0.0 b.0.1 line b.2)
+-- what a first word that is no mnemonic, and the words behind it, say
+abbrev line_at : List Word → Option Line
+line_at words = plain_at words >>= line_with
 
-pub line_again : (words : List Word) (line : Line) → Says words line → line_at words ≡ Some line
-unfolding line_at keyword_line word_line class_at super_at implements_at header_at field_at constant_at method_at frame_room_at handler_at
-line_again words (Class name flags) h =
+abbrev NoMnemonic : List Word → Type 0
+NoMnemonic words = (x : List ℕ × List Word) → plain_at words ≡ Some x → row_named x.0 ≡ None
+
+line_again : (words : List Word) → NoMnemonic words → (line : Line) → Says words line → line_at words ≡ Some line
+unfolding keyword_line word_line class_at super_at implements_at header_at field_at constant_at method_at frame_room_at handler_at
+line_again words none (Class name flags) h =
     elim h [
       | inl t ↦ ap line_at t.0 ∙ ap (λ (f : ℕ). Some (Class name f)) (sym t.1)
       | inr t ↦ let s = t.2 in ap line_at t.1 ∙ rw s refl
     ]
-line_again words (Super name) h = ap line_at h
-line_again words (Implements name) h = ap line_at h
-line_again words (Field flags name descriptor None) h = let s = h.2 in ap line_at h.1 ∙ rw s refl
-line_again words (Field flags name descriptor (Some value)) h =
+line_again words none (Super name) h = ap line_at h
+line_again words none (Implements name) h = ap line_at h
+line_again words none (Field flags name descriptor None) h = let s = h.2 in ap line_at h.1 ∙ rw s refl
+line_again words none (Field flags name descriptor (Some value)) h =
     let s = h.3 in
     let v = value_again descriptor h.1 value h.4 in
     ap line_at h.2 ∙ rw (s, v) refl
-line_again words (Method flags name descriptor None) h = let s = h.2 in ap line_at h.1 ∙ rw s refl
-line_again words (Method flags name descriptor (Some room)) h = ap line_at h.3 ∙ rw (h.4, h.5, h.6) refl
-line_again words End h = ap line_at h
-line_again words (Label name) h =
+line_again words none (Method flags name descriptor None) h = let s = h.2 in ap line_at h.1 ∙ rw s refl
+line_again words none (Method flags name descriptor (Some room)) h = ap line_at h.3 ∙ rw (h.4, h.5, h.6) refl
+line_again words none End h = ap line_at h
+line_again words none (Label name) h =
     let l = label_again name h.1 in
     let other = text_other name in
     ap line_at h.0 ∙ rw (other, l) refl
-line_again words (Handler from to at None) h = ap line_at h
-line_again words (Handler from to at (Some class)) h =
-    let other = is_other class h.1 in
+line_again words none (Handler from to at None) h = ap line_at h
+line_again words none (Handler from to at (Some class)) h =
+    let other = text_isnt class (codes "any") h.1 in
     ap line_at h.0 ∙ rw other refl
+line_again words none (Instruction operation) h = absurd (let some = h.named in let no = none (h.mnemonic, h.others) (ap plain_at h.spelled) in cc)
+line_again words none (Frame locals stack) h = ap line_at h.spelled ∙ line_of_frame h.before h.behind (frame_again h.before h.behind locals stack h.locals_are h.stack_are)
   where
-    is_other : (class : List ℕ) → (class ≡ codes "any" → ⊥) → bytes_eq class (codes "any") ≡ false
-    is_other class differs = by_test (bytes_eq class (codes "any")) refl
-      where
-        by_test : (b : Bool) → bytes_eq class (codes "any") ≡ b → b ≡ false
-        by_test true e = absurd (differs (text_same class (codes "any") e))
-        by_test false e = refl
+    line_of_frame : (before behind : List Word) → frame_at (before ++ word "/" ∷ behind) ≡ Some (Frame locals stack) → line_with (codes "frame", before ++ word "/" ∷ behind) ≡ Some (Frame locals stack)
+    line_of_frame [] behind e = e
+    line_of_frame (w ∷ before) behind e = e
+
+pub other_answers : (words rest : List Word) (first : List ℕ) (result : Result Line LineRefusal) → plain_at words ≡ Some (first, rest) → None ≡ row_named first → Gives (λ (l : Line). l) result (line_with (first, rest)) → Answers (Says words) result
+other_answers words rest first result e none g =
+    let spelled = plain_takes words (first, rest) e in
+    let no : NoMnemonic words = λ x f. ap (λ (y : List ℕ × List Word). row_named y.0) (same_Some x (first, rest) (sym f ∙ e)) ∙ sym none in
+    answers (Says words) (line_with (first, rest)) result
+    (λ line t. subst (λ (ws : List Word). Says ws line) (sym spelled) (with_takes first rest line t))
+    (λ line says. subst (λ (ws : List Word). line_at ws ≡ Some line) spelled (line_again words no line says))
+    g
+
+-- ---- lines of instructions
+
+keyword_first : (text : List ℕ) (words others : List Word) (x : List ℕ × List Word) (row : Row) → row_named text ≡ None → words ≡ Plain text ∷ others → plain_at words ≡ Some x → row_named x.0 ≡ Some row → ⊥
+keyword_first text words others x row none spelled e some =
+    let same : x ≡ (text, others) = same_Some x (text, others) (sym e ∙ ap plain_at spelled) in
+    let no : row_named x.0 ≡ None = ap (λ (y : List ℕ × List Word). row_named y.0) same ∙ none in
+    absurd (cc)
+
+abbrev OperationLine : Row → List Word → Line → Type 0
+OperationLine row words line = (operation : Operation) × (line ≡ Instruction operation) × SaysOperation row words operation
+
+mnemonic_says : (words : List Word) (x : List ℕ × List Word) (row : Row) → plain_at words ≡ Some x → row_named x.0 ≡ Some row → (line : Line) → Says words line → OperationLine row x.1 line
+mnemonic_says words x row e some (Class name flags) h =
+    elim h [
+      | inl t ↦ absurd (keyword_first (codes "class") words _ x row class_no_row t.0 e some)
+      | inr t ↦ absurd (keyword_first (codes "class") words _ x row class_no_row t.1 e some)
+    ]
+mnemonic_says words x row e some (Super name) h = absurd (keyword_first (codes "super") words _ x row super_no_row h e some)
+mnemonic_says words x row e some (Implements name) h = absurd (keyword_first (codes "implements") words _ x row implements_no_row h e some)
+mnemonic_says words x row e some (Field flags name descriptor None) h = absurd (keyword_first (codes "field") words _ x row field_no_row h.1 e some)
+mnemonic_says words x row e some (Field flags name descriptor (Some value)) h = absurd (keyword_first (codes "field") words _ x row field_no_row h.2 e some)
+mnemonic_says words x row e some (Method flags name descriptor None) h = absurd (keyword_first (codes "method") words _ x row method_no_row h.1 e some)
+mnemonic_says words x row e some (Method flags name descriptor (Some room)) h = absurd (keyword_first (codes "method") words _ x row method_no_row h.3 e some)
+mnemonic_says words x row e some End h = absurd (keyword_first (codes "end") words _ x row end_no_row h e some)
+mnemonic_says words x row e some (Label name) h = absurd (keyword_first (name ++ 58 ∷ []) words _ x row (label_no_row name) h.0 e some)
+mnemonic_says words x row e some (Handler from to at None) h = absurd (keyword_first (codes "handler") words _ x row handler_no_row h e some)
+mnemonic_says words x row e some (Handler from to at (Some class)) h = absurd (keyword_first (codes "handler") words _ x row handler_no_row h.0 e some)
+mnemonic_says words x row e some (Instruction operation) h =
+    let same : x ≡ (h.mnemonic, h.others) = same_Some x (h.mnemonic, h.others) (sym e ∙ ap plain_at h.spelled) in
+    let row_is : row ≡ h.row = same_Some row h.row (sym some ∙ (ap (λ (y : List ℕ × List Word). row_named y.0) same ∙ h.named)) in
+    (operation, refl, subst (λ (r : Row). SaysOperation r x.1 operation) (sym row_is) (subst (λ (y : List ℕ × List Word). SaysOperation h.row y.1 operation) (sym same) h.says))
+mnemonic_says words x row e some (Frame locals stack) h = absurd (keyword_first (codes "frame") words _ x row frame_no_row h.spelled e some)
+
+pub operation_refuses : (words : List Word) (x : List ℕ × List Word) (row : Row) (refusal : LineRefusal) → plain_at words ≡ Some x → Some row ≡ row_named x.0 → Answers (SaysOperation row x.1) (Err refusal) → Answers (Says words) (Err refusal)
+operation_refuses words x row refusal e some a = record {
+  found = tt;
+  only = λ line says. let o = mnemonic_says words x row e (sym some) line says in a.only o.0 o.2;
+}
+
+pub operation_gives : (words : List Word) (x : List ℕ × List Word) (row : Row) (operation : Operation) → plain_at words ≡ Some x → Some row ≡ row_named x.0 → Answers (SaysOperation row x.1) (Ok operation) → Answers (Says words) (Ok (Instruction operation))
+operation_gives words x row operation e some a = record {
+  found = record { mnemonic = x.0; others = x.1; row = row; spelled = plain_takes words x e; named = sym some; says = a.found };
+  only = λ line says.
+      let o = mnemonic_says words x row e (sym some) line says in
+      ap (λ (p : Operation). Instruction p) (a.only o.0 o.2) ∙ sym o.1;
+}
+
+-- ---- a line without a plain word in front
+
+first_is_plain : (words : List Word) (line : Line) → Says words line → (x : List ℕ × List Word) × (plain_at words ≡ Some x)
+first_is_plain words (Class name flags) h = elim h [ inl t ↦ (_, ap plain_at t.0) | inr t ↦ (_, ap plain_at t.1) ]
+first_is_plain words (Super name) h = (_, ap plain_at h)
+first_is_plain words (Implements name) h = (_, ap plain_at h)
+first_is_plain words (Field flags name descriptor None) h = (_, ap plain_at h.1)
+first_is_plain words (Field flags name descriptor (Some value)) h = (_, ap plain_at h.2)
+first_is_plain words (Method flags name descriptor None) h = (_, ap plain_at h.1)
+first_is_plain words (Method flags name descriptor (Some room)) h = (_, ap plain_at h.3)
+first_is_plain words End h = (_, ap plain_at h)
+first_is_plain words (Label name) h = (_, ap plain_at h.0)
+first_is_plain words (Handler from to at None) h = (_, ap plain_at h)
+first_is_plain words (Handler from to at (Some class)) h = (_, ap plain_at h.0)
+first_is_plain words (Instruction operation) h = (_, ap plain_at h.spelled)
+first_is_plain words (Frame locals stack) h = (_, ap plain_at h.spelled)
+
+pub no_plain_refuses : (words : List Word) (refusal : LineRefusal) → Fails refusal (plain_at words) → Answers (Says words) (Err refusal)
+no_plain_refuses words refusal f = refuses (Says words) (plain_at words) refusal f (first_is_plain words)
 
 -- ---- the function
 
-pub line_found : (text : List ℕ) (words : List Word) (r : Result Line LineRefusal) → AreWords text words → Gives (λ (l : Line). l) r (line_at words) → IfOk r (IsLine text)
-line_found text words (Ok line) are g = (words, are, line_takes words line g)
-line_found text words (Err refusal) are g = tt
+pub line_found : (text : List ℕ) (words : List Word) (r : Result Line LineRefusal) → AreWords text words → Answers (Says words) r → IfOk r (IsLine text)
+line_found text words (Ok line) are a = (words, are, a.found)
+line_found text words (Err refusal) are a = tt
 
-fails : (words : List Word) (line : Line) (refusal : LineRefusal) → Says words line → Fails refusal (line_at words) → refusal ≡ NoMemory
-fails words line Malformed h f = absurd (let again = line_again words line h in cc)
-fails words line NoMemory h f = refl
-
-pub line_only : (text : List ℕ) (words : List Word) (r : Result Line LineRefusal) → AreWords text words → Gives (λ (l : Line). l) r (line_at words) → (line : Line) → IsLine text line → MatchResult r (λ found. found ≡ line) (λ refusal. refusal ≡ NoMemory)
-line_only text words (Ok found) are g line h =
-    let again = line_again words line (subst (λ (ws : List Word). Says ws line) (one_list text h.0 words h.1 are) h.2) in
-    same_Some found line (sym g ∙ again)
-line_only text words (Err refusal) are g line h =
-    fails words line refusal (subst (λ (ws : List Word). Says ws line) (one_list text h.0 words h.1 are) h.2) g
+pub line_only : (text : List ℕ) (words : List Word) (r : Result Line LineRefusal) → AreWords text words → Answers (Says words) r → (line : Line) → IsLine text line → MatchResult r (λ found. found ≡ line) (λ refusal. refusal ≡ NoMemory)
+line_only text words r are a line h = a.only line (subst (λ (ws : List Word). Says ws line) (one_list text h.0 words h.1 are) h.2)
 
 pub line_exact : (text : List ℕ) (r : Result Line LineRefusal) → ((line : Line) → IsLine text line → MatchResult r (λ found. found ≡ line) (λ refusal. refusal ≡ NoMemory)) → r ≡ Err Malformed → (line : Line) → IsLine text line → ⊥
 line_exact text r only e line h = let bad : Malformed ≡ NoMemory = subst (λ (s : Result Line LineRefusal). MatchResult s (λ found. found ≡ line) (λ refusal. refusal ≡ NoMemory)) e (only line h) in cc

@@ -1,5 +1,5 @@
 -- Texts that are known, and labels.
-use Rattle.std.proofs.Common.{◌≡◌, ℕ, suc, ◌+◌, ◌-◌, ◌<◌, ◌≤◌, Bool, true, false, cond, eqb, leb, List, [], ◌∷◌, ◌++◌, ◌⊎◌, ◌&&◌, ◌||◌, length, take, drop, get_or, Some, None, refl, sym, ap, ◌∙◌, inl, inr, arith, codes}
+use Rattle.std.proofs.Common.{◌≡◌, ℕ, suc, ◌+◌, ◌-◌, ◌<◌, ◌≤◌, Bool, true, false, cond, eqb, leb, List, [], ◌∷◌, ◌++◌, ◌⊎◌, ◌&&◌, ◌||◌, length, take, drop, get_or, Some, None, refl, sym, ap, ◌∙◌, inl, inr, arith, codes, eq-eqb}
 use Rattle.std.specs.Str.{bytes_eq}
 use Rattle.std.proofs.lemmas.Option.{same_Some}
 use Rattle.std.proofs.lemmas.List.{take-append-drop, length-take-le, drop_all}
@@ -16,6 +16,20 @@ text_same (x ∷ xs) [] e = absurd cc
 text_same (x ∷ xs) (y ∷ ys) e =
     let p = and_parts (eqb x y) (bytes_eq xs ys) e in
     ap (λ (n : ℕ). n ∷ xs) (eqb-true x y p.0) ∙ ap (λ (ns : List ℕ). y ∷ ns) (text_same xs ys p.1)
+
+text_again : (xs : List ℕ) → bytes_eq xs xs ≡ true
+text_again [] = refl
+text_again (x ∷ xs) = rw (eq-eqb x x refl, text_again xs) refl
+
+pub text_differs : (xs ys : List ℕ) → bytes_eq xs ys ≡ false → xs ≡ ys → ⊥
+text_differs xs ys e same = let yes : bytes_eq xs ys ≡ true = ap (bytes_eq xs) (sym same) ∙ text_again xs in cc
+
+pub text_isnt : (xs ys : List ℕ) → (xs ≡ ys → ⊥) → bytes_eq xs ys ≡ false
+text_isnt xs ys differs = by_test (bytes_eq xs ys) refl
+  where
+    by_test : (b : Bool) → bytes_eq xs ys ≡ b → b ≡ false
+    by_test true e = absurd (differs (text_same xs ys e))
+    by_test false e = refl
 
 pub int_again : (descriptor : List ℕ) → IsIntDescriptor descriptor → is_int_descriptor descriptor ≡ true
 int_again descriptor h =

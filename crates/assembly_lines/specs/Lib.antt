@@ -3,5 +3,12 @@ pub mod Words
 pub mod ReadingPiece
 pub mod ReadingWords
 pub mod Numbers
+pub mod Switches
+pub mod Operands
+pub mod Frames
 pub mod Lines
+pub mod Front
+pub mod ReadingSwitches
+pub mod ReadingOperands
+pub mod ReadingFrames
 pub mod ReadingLine

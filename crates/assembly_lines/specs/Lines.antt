@@ -1,17 +1,15 @@
 -- What the words of a line say.
-use Prim.Native.String.{String}
 use Rattle.std.specs.Prelude.{◌≡◌, ◌≢◌, ℕ, ◌<◌, ◌++◌, ◌⊎◌, List, [], ◌∷◌, length, Some, None, codes}
 use Rattle.assembly_lines.specs.declared.word.Word.{Word}
 use Rattle.assembly_lines.specs.declared.word.Word.TheVariants.{Plain, Quoted}
 use Rattle.assembly_lines.specs.declared.line.FieldValue.{FieldValue}
 use Rattle.assembly_lines.specs.declared.line.FieldValue.TheVariants as values
 use Rattle.assembly_lines.specs.declared.line.Line.{Line}
-use Rattle.assembly_lines.specs.declared.line.Line.TheVariants.{Class, Super, Implements, Field, Method, End, Label, Handler}
-use Rattle.assembly_lines.specs.Words.{AreWords}
+use Rattle.assembly_lines.specs.declared.line.Line.TheVariants.{Class, Super, Implements, Field, Method, End, Label, Handler, Instruction, Frame}
+use Rattle.assembly_lines.specs.Words.{AreWords, word}
 use Rattle.assembly_lines.specs.Numbers.{number_up_to, integer_up_to}
-
-abbrev pub word : String → Word
-word text = Plain (codes text)
+use Rattle.assembly_lines.specs.Operands.{IsInstruction}
+use Rattle.assembly_lines.specs.Frames.{IsFrame}
 
 -- flags, and the words of a method's frame: 0 to 65535
 abbrev pub IsShort : List ℕ → ℕ → Type 0
@@ -48,6 +46,8 @@ Says words End = words ≡ word "end" ∷ []
 Says words (Label name) = (words ≡ Plain (name ++ 58 ∷ []) ∷ []) × (0 < length name)
 Says words (Handler from to at None) = words ≡ word "handler" ∷ Plain from ∷ Plain to ∷ Plain at ∷ word "any" ∷ []
 Says words (Handler from to at (Some class)) = (words ≡ word "handler" ∷ Plain from ∷ Plain to ∷ Plain at ∷ Plain class ∷ []) × (class ≢ codes "any")
+Says words (Instruction operation) = IsInstruction words operation
+Says words (Frame locals stack) = IsFrame words locals stack
 
 -- The text is the words of a line.
 abbrev pub IsLine : List ℕ → Line → Type 0

@@ -1,8 +1,6 @@
 -- Reading the words of a line from the first one on.
-use Rattle.std.specs.Prelude.{◌≡◌, ℕ, Bool, ◌-◌, ◌==◌, ◌&&◌, ◌||◌, nat_le, List, [], ◌∷◌, length, take, slice_index, if◌then◌else◌, Option, Some, None, Result, Ok, Err, option_map, codes}
+use Rattle.std.specs.Prelude.{ℕ, Bool, ◌-◌, ◌==◌, ◌&&◌, ◌||◌, nat_le, List, [], ◌∷◌, length, take, slice_index, if◌then◌else◌, Option, Some, None, option_map, codes}
 use Rattle.std.specs.Str.{bytes_eq}
-use Rattle.assembly_lines.specs.declared.word.LineRefusal.{LineRefusal}
-use Rattle.assembly_lines.specs.declared.word.LineRefusal.TheVariants.{Malformed, NoMemory}
 use Rattle.assembly_lines.specs.declared.word.Word.{Word}
 use Rattle.assembly_lines.specs.declared.word.Word.TheVariants.{Plain, Quoted}
 use Rattle.assembly_lines.specs.declared.line.FieldValue.{FieldValue}
@@ -10,47 +8,9 @@ use Rattle.assembly_lines.specs.declared.line.FieldValue.TheVariants as values
 use Rattle.assembly_lines.specs.declared.line.Room.{Room}
 use Rattle.assembly_lines.specs.declared.line.Line.{Line}
 use Rattle.assembly_lines.specs.declared.line.Line.TheVariants.{Class, Super, Implements, Field, Method, End, Label, Handler}
-use Rattle.assembly_lines.specs.Numbers.{number_up_to, integer_up_to}
-
-infixl 10 ◌>>=◌
-abbrev pub ◌>>=◌ : {A B : Type 0} → Option A → (A → Option B) → Option B
-None >>= f = None
-(Some x) >>= f = f x
-
--- There is no such value, unless memory ran out.
-abbrev pub Fails : {Y : Type 0} → LineRefusal → Option Y → Type 0
-Fails NoMemory read = Unit {0}
-Fails Malformed read = read ≡ None
-
--- What a function returned, seen by view, is what is read, unless memory ran out.
-abbrev pub Gives : {X Y : Type 0} → (X → Y) → Result X LineRefusal → Option Y → Type 0
-Gives view (Ok x) read = read ≡ Some (view x)
-Gives view (Err refusal) read = Fails refusal read
-
--- the plain word at the front, and the words behind it
-abbrev pub plain_at : List Word → Option (List ℕ × List Word)
-plain_at [] = None
-plain_at (Plain name ∷ words) = Some (name, words)
-plain_at (Quoted units ∷ words) = None
-
-abbrev pub only : {A : Type 0} → A × List Word → Option A
-only (a, []) = Some a
-only (a, word ∷ words) = None
-
--- the plain word that stands alone
-abbrev pub only_plain : List Word → Option (List ℕ)
-only_plain words = plain_at words >>= only
-
-abbrev pub only_word : List Word → Option Word
-only_word [] = None
-only_word (word ∷ words) = only (word, words)
-
--- the words behind one that is known
-abbrev pub behind : List ℕ → List Word → Option (List Word)
-behind text words = plain_at words >>= λ first. if bytes_eq first.0 text then Some first.1 else None
-
-abbrev pub short : List ℕ → Option ℕ
-short written = number_up_to 65535 written
+use Rattle.assembly_lines.specs.Numbers.{integer_up_to}
+use Rattle.assembly_lines.specs.Front.{◌>>=◌, plain_at, only_plain, only_word, behind, short}
+use Rattle.assembly_lines.specs.ReadingFrames.{frame_at}
 
 abbrev pub class_flags : List Word → Option ℕ
 class_flags [] = Some 33
@@ -156,11 +116,10 @@ keyword_line keyword words =
     else if bytes_eq keyword (codes "field") then field_at words
     else if bytes_eq keyword (codes "method") then method_at words
     else if bytes_eq keyword (codes "handler") then handler_at words
+    else if bytes_eq keyword (codes "frame") then frame_at words
     else None
 
+-- the line of a first word that is no mnemonic, and of the words behind it
 abbrev pub line_with : List ℕ × List Word → Option Line
 line_with (keyword, []) = word_line keyword
 line_with (keyword, word ∷ words) = keyword_line keyword (word ∷ words)
-
-unfoldable pub line_at : List Word → Option Line
-line_at words = plain_at words >>= line_with

@@ -1,5 +1,6 @@
 -- Words of a line.
-use Rattle.std.specs.Prelude.{◌≡◌, ℕ, ◌==◌, Bool, false, not, List, [], ◌∷◌, ◌++◌, nat_le, ◌&&◌, ◌||◌, IsTrue}
+use Prim.Native.String.{String}
+use Rattle.std.specs.Prelude.{◌≡◌, ℕ, ◌==◌, Bool, false, not, List, [], ◌∷◌, ◌++◌, map, nat_le, ◌&&◌, ◌||◌, IsTrue, codes}
 use Rattle.std.specs.List.{AllByRecursion}
 use Rattle.assembly_lines.specs.declared.word.Word.{Word}
 use Rattle.assembly_lines.specs.declared.word.Word.TheVariants.{Plain, Quoted}
@@ -27,3 +28,11 @@ abbrev pub AreWords : List ℕ → List Word → Type 0
 AreWords text [] = ⊥
 AreWords text (word ∷ []) = Spells text word
 AreWords text (word ∷ next ∷ words) = (first : List ℕ) × (rest : List ℕ) × (text ≡ first ++ 32 ∷ rest) × Spells first word × AreWords rest (next ∷ words)
+
+-- a plain word that is known
+abbrev pub word : String → Word
+word text = Plain (codes text)
+
+-- plain words
+abbrev pub plain_words : List (List ℕ) → List Word
+plain_words names = map (λ name. Plain name) names

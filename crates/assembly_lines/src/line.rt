@@ -1,5 +1,7 @@
 //! Lines of an assembler's text.
 
+use crate::frame::FrameItem;
+use crate::operation::Operation;
 use rows::{Bytes, Rows};
 
 /// What the value of a constant field is.
@@ -56,5 +58,12 @@ pub enum Line {
         to: Bytes,
         at: Bytes,
         class: Option<Bytes>,
+    },
+    /// `MNEMONIC OPERANDS`, with `wide` in front where the operands have twice as many bytes
+    Instruction(Operation),
+    /// `frame LOCALS / STACK`
+    Frame {
+        locals: Rows<FrameItem>,
+        stack: Rows<FrameItem>,
     },
 }

@@ -3,74 +3,24 @@
 ghost use Rattle.std.specs.Prelude.{◌≡◌, None, Some, Err, MatchOption, IfOk, MatchResult};
 ghost use Rattle.assembly_lines.specs.declared.line.Line.{Line};
 ghost use Rattle.assembly_lines.specs.declared.word.LineRefusal.TheVariants.{Malformed, NoMemory};
-ghost use Rattle.assembly_lines.specs.Lines.{IsLine};
-ghost use Rattle.std.specs.Str.{bytes_eq};
-ghost use Rattle.assembly_lines.specs.ReadingLine.{Gives, plain_at, only_plain, only_word, behind, short, class_flags, class_at, super_at, implements_at, header_at, is_int_descriptor, number_value, value_of, constant_at, value_at, field_at, frame_room_at, room_at, method_at, handler_class, handler_at, label_of, word_line, keyword_line, line_at};
+ghost use Rattle.assembly_lines.specs.Lines.{Says, IsLine};
+ghost use Rattle.assembly_lines.specs.Front.{Gives, Answers, short};
+ghost use Rattle.assembly_lines.specs.ReadingLine.{class_flags, class_at, super_at, implements_at, header_at, is_int_descriptor, number_value, value_of, constant_at, value_at, field_at, frame_room_at, room_at, method_at, handler_class, handler_at, label_of, word_line, keyword_line, line_with};
 
+use crate::frames::frame_line;
+use crate::front::{behind, first_plain, integer, is_text, number, only_plain, only_word};
 use crate::line::{FieldValue, Line, Room};
-use crate::number::{integer_up_to, number_up_to};
+use crate::operands::{operation, row_of};
 use crate::word::{LineRefusal, Word};
 use crate::words::words_of;
 use rows::{Bytes, Rows};
 use std::alloc::Global;
 
-fn is_text(bytes: &[u8], text: &[u8]) -> bool
-    ensures { result ≡ bytes_eq bytes.now text.now }
-{
-    bytes == text
-}
-
-/// The plain word at the front, and the words behind it.
-fn first_plain(words: &[Word]) -> Result<(&[u8], &[Word]), LineRefusal>
-    ensures { Gives (λ x. (x.0.now, x.1.now)) result (plain_at words.now) }
-{
-    match words.split_first() {
-        Some((Word::Plain(name), rest)) => Ok((name.as_slice(), rest)),
-        _ => Err(LineRefusal::Malformed),
-    }
-}
-
-/// The plain word that stands alone.
-fn only_plain(words: &[Word]) -> Result<&[u8], LineRefusal>
-    ensures { Gives (λ name. name.now) result (only_plain words.now) }
-{
-    let (name, rest) = first_plain(words)?;
-    if rest.is_empty() {
-        Ok(name)
-    } else {
-        Err(LineRefusal::Malformed)
-    }
-}
-
-/// The word that stands alone.
-fn only_word(words: &[Word]) -> Result<&Word, LineRefusal>
-    ensures { Gives (λ word. word.now) result (only_word words.now) }
-{
-    match words {
-        [word] => Ok(word),
-        _ => Err(LineRefusal::Malformed),
-    }
-}
-
-/// The words behind one that is known.
-fn behind<'a>(text: &[u8], words: &'a [Word]) -> Result<&'a [Word], LineRefusal>
-    ensures { Gives (λ rest. rest.now) result (behind text.now words.now) }
-{
-    let (first, rest) = first_plain(words)?;
-    if is_text(first, text) {
-        Ok(rest)
-    } else {
-        Err(LineRefusal::Malformed)
-    }
-}
-
 fn short(written: &[u8]) -> Result<u16, LineRefusal>
     ensures { Gives (λ number. number) result (short written.now) }
 {
-    match number_up_to(65535, written) {
-        Some(number) => Ok(number as u16),
-        None => Err(LineRefusal::Malformed),
-    }
+    let number = number(65535, written)?;
+    Ok(number as u16)
 }
 
 fn class_flags(words: &[Word]) -> Result<u16, LineRefusal>
@@ -135,15 +85,11 @@ fn number_value(descriptor: &[u8], written: &[u8]) -> Result<FieldValue, LineRef
     ensures { Gives (λ value. value) result (number_value descriptor.now written.now) }
 {
     if is_int_descriptor(descriptor) {
-        match integer_up_to(2_147_483_647, written) {
-            Some(number) => Ok(FieldValue::Int(number as i32)),
-            None => Err(LineRefusal::Malformed),
-        }
+        let int = integer(2_147_483_647, written)?;
+        Ok(FieldValue::Int(int as i32))
     } else if is_text(descriptor, b"J") {
-        match integer_up_to(9_223_372_036_854_775_807, written) {
-            Some(number) => Ok(FieldValue::Long(number)),
-            None => Err(LineRefusal::Malformed),
-        }
+        let long = integer(9_223_372_036_854_775_807, written)?;
+        Ok(FieldValue::Long(long))
     } else {
         Err(LineRefusal::Malformed)
     }
@@ -320,21 +266,35 @@ fn keyword_line(alloc: Global, keyword: &[u8], words: &[Word]) -> Result<Line, L
         method_line(alloc, words)
     } else if is_text(keyword, b"handler") {
         handler_line(alloc, words)
+    } else if is_text(keyword, b"frame") {
+        frame_line(alloc, words)
     } else {
         Err(LineRefusal::Malformed)
     }
 }
 
-/// The line that words say.
-#[tactic(auto, unfolding(crate::specs::ReadingLine::line_at))]
-pub(crate) fn said_line(alloc: Global, words: &[Word]) -> Result<Line, LineRefusal>
-    ensures { Gives (λ line. line) result (line_at words.now) }
+/// The line of a first word that is no mnemonic, and of the words behind it.
+fn other_line(alloc: Global, first: &[u8], rest: &[Word]) -> Result<Line, LineRefusal>
+    ensures { Gives (λ line. line) result (line_with (first.now, rest.now)) }
 {
-    let (first, rest) = first_plain(words)?;
     if rest.is_empty() {
         word_line(alloc, first)
     } else {
         keyword_line(alloc, first, rest)
+    }
+}
+
+/// The line that words say.
+fn said_line(alloc: Global, words: &[Word]) -> Result<Line, LineRefusal>
+    ensures { Answers (Says words.now) result }
+{
+    let (first, rest) = first_plain(words)?;
+    match row_of(first) {
+        Some(row) => {
+            let operation = operation(alloc, row, rest)?;
+            Ok(Line::Instruction(operation))
+        }
+        None => other_line(alloc, first, rest),
     }
 }
 
