@@ -1,0 +1,4 @@
+pub mod Kept
+pub mod SizeLaws
+pub mod CodeLaws
+pub mod FrameLaws
