@@ -1,0 +1,7 @@
+pub mod SameLaws
+pub mod EntryLaws
+pub mod IndexLaws
+pub mod UseLaws
+pub mod PutLaws
+pub mod ItemLaws
+pub mod FormLaws

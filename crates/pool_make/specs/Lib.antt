@@ -1,0 +1,5 @@
+pub mod Key
+pub mod Uses
+pub mod Indexed
+pub mod Items
+pub mod ShortestForms
