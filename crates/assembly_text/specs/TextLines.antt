@@ -1,0 +1,35 @@
+-- The lines of an assembler's text.
+use Rattle.std.specs.Prelude.{◌≡◌, ℕ, ◌+◌, ◌<◌, ◌≤◌, ◌==◌, ◌⊎◌, if◌then◌else◌, List, [], ◌∷◌, length, Option, Some, None}
+use Rattle.assembly_lines.specs.declared.line.Line.{Line}
+use Rattle.assembly_lines.specs.Lines.{IsLine}
+use Rattle.assembly_text.specs.declared.lines.Numbered.{Numbered}
+use Rattle.assembly_text.specs.declared.lines.TextLines.{TextLines}
+
+-- A byte goes onto the first line. Where there is none, it is a line that the text's end ends.
+abbrev pub onto_first : ℕ → List (List ℕ × ℕ) → List (List ℕ × ℕ)
+onto_first b [] = (b ∷ [], 1) ∷ []
+onto_first b ((line, size) ∷ lines) = (b ∷ line, size + 1) ∷ lines
+
+-- The lines of a text, each with how many bytes it has together with the byte 10 that ends it. A line ends at a byte 10
+-- or at the text's end; behind a last byte 10 there is no line.
+abbrev pub lines : List ℕ → List (List ℕ × ℕ)
+lines [] = []
+lines (b ∷ text) = if b == 10 then ([], 1) ∷ lines text else onto_first b (lines text)
+
+-- What a line says of which all, and its byte 10, stands before this place. A text has at most 1,048,576 bytes.
+abbrev pub SaysAt : ℕ → List ℕ → Option Line → Type 0
+SaysAt end line (Some said) = (end ≤ 1048576) × IsLine line said
+SaysAt end line None = (1048576 < end) ⊎ ((said : Line) → ¬ IsLine line said)
+
+-- The lines that aren't empty, with their numbers, where the first line has this number and begins at this place.
+abbrev pub AreNumbered : ℕ → ℕ → List (List ℕ × ℕ) → List Numbered → Type 0
+AreNumbered number at [] made = made ≡ []
+AreNumbered number at (([], size) ∷ others) made = AreNumbered (number + 1) (at + size) others made
+AreNumbered number at ((b ∷ line, size) ∷ others) [] = ⊥
+AreNumbered number at ((b ∷ line, size) ∷ others) (first ∷ made) =
+    (first.number ≡ number) × SaysAt (at + size) (b ∷ line) first.line × AreNumbered (number + 1) (at + size) others made
+
+-- Lines are numbered from 1, and the one behind the last has the next number.
+pub record AreLinesOf (text : List ℕ) (made : TextLines) : Type 0 where
+  pub numbered : AreNumbered 1 0 (lines text) made.lines
+  pub behind : made.behind ≡ length (lines text) + 1
