@@ -1,0 +1,28 @@
+-- What is given without the pool, and pools that grow.
+use Rattle.std.proofs.Common.{◌≡◌, List, [], ◌++◌, Option, Some, Result, Ok, Err, sym, ap, ◌∙◌, append_assoc}
+use Rattle.std.proofs.lemmas.List.{append-nil}
+use Rattle.class_walk.specs.declared.class.Constant.{Constant}
+use Rattle.pool_make.specs.Uses.{Extends}
+use Rattle.method_make.specs.declared.refusal.BodyRefusal.{BodyRefusal}
+use Rattle.method_make.specs.declared.refusal.BodyRefusal.TheVariants.{Refused, NoMemory}
+use Rattle.method_make.specs.Making.{Finds, Gives, only, with_pool, next_of}
+
+pub kept_itself : (pool : List Constant) → Extends pool pool
+kept_itself pool = ([], sym (append-nil pool))
+
+pub kept_further : (old mid new : List Constant) → Extends old mid → Extends mid new → Extends old new
+kept_further old mid new first next =
+    (first.0 ++ next.0, next.1 ∙ ap (λ (pool : List Constant). pool ++ next.0) first.1 ∙ append_assoc old first.0 next.0)
+
+-- what is found without the pool is given with it
+pub gives_only : {X Y : Type 0} (view : X → Y) (r : Result X BodyRefusal) (pool : List Constant) (wanted : Option Y) → Finds view r wanted → Gives view r pool pool (only wanted)
+gives_only view (Ok x) pool wanted is = ap (with_pool pool) is
+gives_only view (Err NoMemory) pool wanted is = tt
+gives_only view (Err Refused) pool wanted is = ap (with_pool pool) is
+
+-- the same behind a use
+pub gives_behind : {X Y A : Type 0} (view : X → Y) (r : Result X BodyRefusal) (first : Option (List Constant × A)) (pool : List Constant) (a : A) (wanted : A → Option Y)
+    → first ≡ Some (pool, a) → Finds view r (wanted a) → Gives view r pool pool (λ p. next_of first (λ b. only (wanted b)))
+gives_behind view (Ok x) first pool a wanted made is = rw made (ap (with_pool pool) is)
+gives_behind view (Err NoMemory) first pool a wanted made is = tt
+gives_behind view (Err Refused) first pool a wanted made is = rw made (ap (with_pool pool) is)

@@ -1,0 +1,10 @@
+pub mod EachLaws
+pub mod MarkLaws
+pub mod RoomLaws
+pub mod GiveLaws
+pub mod RangeLaws
+pub mod ContentLaws
+pub mod LineLaws
+pub mod ShapeLaws
+pub mod StepLaws
+pub mod MadeOfLaws
