@@ -1,11 +1,11 @@
 -- Numbering line by line gives the lines of a text.
-use Rattle.std.proofs.Common.{◌≡◌, ◌≢◌, ℕ, ◌+◌, ◌-◌, ◌≤◌, List, [], ◌∷◌, ◌++◌, length, Option, Some, None, refl, sym, ap, ◌∙◌, subst, inl, inr, arith, append_assoc}
+use Rattle.std.proofs.Common.{◌≡◌, ◌≢◌, ℕ, ◌+◌, ◌-◌, ◌≤◌, true, false, List, [], ◌∷◌, ◌++◌, length, Option, Some, None, refl, sym, ap, ◌∙◌, subst, inl, inr, arith, append_assoc}
 use Rattle.std.proofs.lemmas.List.{append-nil}
 use Rattle.assembly_lines.specs.declared.line.Line.{Line}
 use Rattle.assembly_lines.specs.Lines.{IsLine}
 use Rattle.assembly_text.specs.declared.lines.Numbered.{Numbered}
 use Rattle.assembly_text.specs.declared.lines.TextLines.{TextLines}
-use Rattle.assembly_text.specs.TextLines.{lines, SaysAt, AreNumbered, AreLinesOf}
+use Rattle.assembly_text.specs.TextLines.{lines, SaysAt, is_passed, IsNext, AreNumbered, AreLinesOf}
 use Rattle.assembly_text.specs.Reading.{IsFirstLine}
 
 -- the lines up to what is left of a text
@@ -30,44 +30,60 @@ numbered_none text = record {
 abbrev item : ℕ → Option Line → Numbered
 item number said = record { number = number; line = said }
 
--- ---- a step
+-- ---- a line before others
 
--- a line that is empty
-pub numbered_empty : (text rest line after : List ℕ) (number : ℕ) (made : List Numbered) → NumberedSoFar text rest number made → IsFirstLine rest line after → line ≡ [] → NumberedSoFar text after (number + 1) made
-numbered_empty text rest line after number made so_far f e =
-    let cut : lines rest ≡ ([], f.size) ∷ lines after = f.cut ∙ ap (λ (l : List ℕ). (l, f.size) ∷ lines after) e in
+module _ (number at size : ℕ) (line : List ℕ) (others : List (List ℕ × ℕ)) (more : List Numbered) where
+  passed_in : is_passed (at + size) line ≡ true → AreNumbered (number + 1) (at + size) others more → AreNumbered number at ((line, size) ∷ others) more
+  passed_in e h = rw e h
+
+  passed_out : is_passed (at + size) line ≡ true → AreNumbered number at ((line, size) ∷ others) more → AreNumbered (number + 1) (at + size) others more
+  passed_out e h = rw e at h
+
+  kept_in : is_passed (at + size) line ≡ false → IsNext number (at + size) line (AreNumbered (number + 1) (at + size) others) more → AreNumbered number at ((line, size) ∷ others) more
+  kept_in e h = rw e h
+
+  kept_out : is_passed (at + size) line ≡ false → AreNumbered number at ((line, size) ∷ others) more → IsNext number (at + size) line (AreNumbered (number + 1) (at + size) others) more
+  kept_out e h = rw e at h
+
+-- a line that is passed over
+pub numbered_passed : (text rest line after : List ℕ) (number end : ℕ) (made : List Numbered) → NumberedSoFar text rest number made → IsFirstLine rest line after
+    → length text ≡ length after + end → is_passed end line ≡ true → NumberedSoFar text after (number + 1) made
+numbered_passed text rest line after number end made so_far f ends passed =
+    let cut : lines rest ≡ (line, f.size) ∷ lines after = f.cut in
     let counted : length (lines rest) ≡ length (lines after) + 1 = rw cut (omega arith) in
     let c = so_far.counted in
     let p = so_far.placed in
     let b = so_far.bounded in
     let m = f.measured in
     let s = f.some in
+    let place : end ≡ so_far.at + f.size = omega arith in
+    let there : is_passed (so_far.at + f.size) line ≡ true = subst (λ (e : ℕ). is_passed e line ≡ true) place passed in
     record {
       at = so_far.at + f.size;
       placed = omega arith;
       counted = omega arith;
       bounded = omega arith;
-      back = λ more h. so_far.back more (subst (λ (pieces : List (List ℕ × ℕ)). AreNumbered number so_far.at pieces more) (sym cut) h);
+      back = λ more h.
+          so_far.back more (subst (λ (pieces : List (List ℕ × ℕ)). AreNumbered number so_far.at pieces more) (sym cut) (passed_in number so_far.at f.size line (lines after) more there h));
       on = λ all h.
           let o = so_far.on all h in
-          (o.0, o.1, subst (λ (pieces : List (List ℕ × ℕ)). AreNumbered number so_far.at pieces o.0) cut o.2);
+          (o.0, o.1, passed_out number so_far.at f.size line (lines after) o.0 there (subst (λ (pieces : List (List ℕ × ℕ)). AreNumbered number so_far.at pieces o.0) cut o.2));
     }
 
 -- what stands first among the lines behind
-first_is : (number at size : ℕ) (b : ℕ) (line : List ℕ) (others : List (List ℕ × ℕ)) (said : Option Line) (more : List Numbered)
-    → ((other : Option Line) → SaysAt (at + size) (b ∷ line) other → said ≡ other) → AreNumbered number at ((b ∷ line, size) ∷ others) more
-    → (left : List Numbered) × (more ≡ item number said ∷ left) × AreNumbered (number + 1) (at + size) others left
-first_is number at size b line others said [] only h = absurd h
-first_is number at size b line others said (first ∷ left) only h =
+first_is : (number end : ℕ) (line : List ℕ) (AreOthers : List Numbered → Type 0) (said : Option Line) (more : List Numbered)
+    → ((other : Option Line) → SaysAt end line other → said ≡ other) → IsNext number end line AreOthers more
+    → (left : List Numbered) × (more ≡ item number said ∷ left) × AreOthers left
+first_is number end line AreOthers said [] only h = absurd h
+first_is number end line AreOthers said (first ∷ left) only h =
     (left, ap (λ (n : ℕ). item n first.line ∷ left) h.0 ∙ ap (λ (l : Option Line). item number l ∷ left) (sym (only first.line h.1)), h.2)
 
--- a line that isn't empty
-pub numbered_more : (text rest line after : List ℕ) (number end : ℕ) (said : Option Line) (made : List Numbered) → NumberedSoFar text rest number made → IsFirstLine rest line after → line ≢ []
-    → length text ≡ length after + end → SaysAt end line said → ((other : Option Line) → SaysAt end line other → said ≡ other)
+-- a line that is kept
+pub numbered_more : (text rest line after : List ℕ) (number end : ℕ) (said : Option Line) (made : List Numbered) → NumberedSoFar text rest number made → IsFirstLine rest line after
+    → length text ≡ length after + end → is_passed end line ≡ false → SaysAt end line said → ((other : Option Line) → SaysAt end line other → said ≡ other)
     → NumberedSoFar text after (number + 1) (made ++ item number said ∷ [])
-numbered_more text rest [] after number end said made so_far f full ends says only = absurd (full refl)
-numbered_more text rest (b ∷ line) after number end said made so_far f full ends says only =
-    let cut : lines rest ≡ (b ∷ line, f.size) ∷ lines after = f.cut in
+numbered_more text rest line after number end said made so_far f ends kept says only =
+    let cut : lines rest ≡ (line, f.size) ∷ lines after = f.cut in
     let counted : length (lines rest) ≡ length (lines after) + 1 = rw cut (omega arith) in
     let c = so_far.counted in
     let p = so_far.placed in
@@ -75,8 +91,9 @@ numbered_more text rest (b ∷ line) after number end said made so_far f full en
     let m = f.measured in
     let s = f.some in
     let place : end ≡ so_far.at + f.size = omega arith in
-    let says_there : SaysAt (so_far.at + f.size) (b ∷ line) said = subst (λ (e : ℕ). SaysAt e (b ∷ line) said) place says in
-    let only_there : (other : Option Line) → SaysAt (so_far.at + f.size) (b ∷ line) other → said ≡ other = λ other o. only other (subst (λ (e : ℕ). SaysAt e (b ∷ line) other) (sym place) o) in
+    let there : is_passed (so_far.at + f.size) line ≡ false = subst (λ (e : ℕ). is_passed e line ≡ false) place kept in
+    let says_there : SaysAt (so_far.at + f.size) line said = subst (λ (e : ℕ). SaysAt e line said) place says in
+    let only_there : (other : Option Line) → SaysAt (so_far.at + f.size) line other → said ≡ other = λ other o. only other (subst (λ (e : ℕ). SaysAt e line other) (sym place) o) in
     record {
       at = so_far.at + f.size;
       placed = omega arith;
@@ -84,10 +101,10 @@ numbered_more text rest (b ∷ line) after number end said made so_far f full en
       bounded = omega arith;
       back = λ more h.
           subst (AreNumbered 1 0 (lines text)) (sym (append_assoc made (item number said ∷ []) more))
-          (so_far.back (item number said ∷ more) (subst (λ (pieces : List (List ℕ × ℕ)). AreNumbered number so_far.at pieces (item number said ∷ more)) (sym cut) (refl, says_there, h)));
+          (so_far.back (item number said ∷ more) (subst (λ (pieces : List (List ℕ × ℕ)). AreNumbered number so_far.at pieces (item number said ∷ more)) (sym cut) (kept_in number so_far.at f.size line (lines after) (item number said ∷ more) there (refl, says_there, h))));
       on = λ all h.
           let o = so_far.on all h in
-          let x = first_is number so_far.at f.size b line (lines after) said o.0 only_there (subst (λ (pieces : List (List ℕ × ℕ)). AreNumbered number so_far.at pieces o.0) cut o.2) in
+          let x = first_is number (so_far.at + f.size) line (AreNumbered (number + 1) (so_far.at + f.size) (lines after)) said o.0 only_there (kept_out number so_far.at f.size line (lines after) o.0 there (subst (λ (pieces : List (List ℕ × ℕ)). AreNumbered number so_far.at pieces o.0) cut o.2)) in
           (x.0, o.1 ∙ (ap (λ (ms : List Numbered). made ++ ms) x.1 ∙ sym (append_assoc made (item number said ∷ []) x.0)), x.2);
     }
 

@@ -1,5 +1,5 @@
 -- A text says one thing.
-use Rattle.std.proofs.Common.{◌≡◌, ℕ, ◌+◌, ◌⊎◌, Bool, List, [], ◌∷◌, Option, Some, None, Result, Ok, Err, refl, sym, ap, ◌∙◌, subst, inl, inr, arith}
+use Rattle.std.proofs.Common.{◌≡◌, ℕ, ◌+◌, ◌⊎◌, Bool, true, false, MatchBool, List, [], ◌∷◌, Option, Some, None, Result, Ok, Err, refl, sym, ap, ◌∙◌, subst, inl, inr, arith}
 use Rattle.class_names.specs.declared.kind.Kind.{Kind}
 use Rattle.class_names.specs.Descriptor.{parameter_words_of}
 use Rattle.class_names.proofs.DescriptorLaws.{one_method}
@@ -28,7 +28,7 @@ use Rattle.assembly_lines.proofs.OperationLaws.{wide_answers}
 use Rattle.assembly_lines.proofs.LineLaws.{other_answers, operation_refuses, operation_gives, no_plain_refuses}
 use Rattle.assembly_text.specs.declared.lines.Numbered.{Numbered}
 use Rattle.assembly_text.specs.declared.lines.TextLines.{TextLines}
-use Rattle.assembly_text.specs.TextLines.{lines, SaysAt, AreNumbered, AreLinesOf}
+use Rattle.assembly_text.specs.TextLines.{lines, SaysAt, is_passed, IsNext, AreNumbered, AreLinesOf}
 
 -- what is read is all that is said
 one_of : {Y : Type 0} (Is : Y → Type 0) (read : Option Y) → ((result : Result Y LineRefusal) → Gives (λ y. y) result read → Answers Is result) → (a b : Y) → Is a → Is b → a ≡ b
@@ -147,15 +147,23 @@ one_at_place end text (Some a) (Some b) h k = ap (λ (line : Line). Some line) (
 abbrev numbered : ℕ → Option Line → Numbered
 numbered number said = record { number = number; line = said }
 
+module _ (number end : ℕ) (line : List ℕ) (AreOthers : List Numbered → Type 0) (one : (made others : List Numbered) → AreOthers made → AreOthers others → made ≡ others) where
+  one_next : (made others : List Numbered) → IsNext number end line AreOthers made → IsNext number end line AreOthers others → made ≡ others
+  one_next [] others h k = absurd h
+  one_next (x ∷ made) [] h k = absurd k
+  one_next (x ∷ made) (y ∷ others) h k =
+      ap (λ (n : ℕ). numbered n x.line ∷ made) (h.0 ∙ sym k.0)
+      ∙ (ap (λ (said : Option Line). numbered y.number said ∷ made) (one_at_place end line x.line y.line h.1 k.1)
+      ∙ ap (λ (left : List Numbered). y ∷ left) (one made others h.2 k.2))
+
+  one_of_both : (test : Bool) (made others : List Numbered) → MatchBool test (AreOthers made) (IsNext number end line AreOthers made) → MatchBool test (AreOthers others) (IsNext number end line AreOthers others) → made ≡ others
+  one_of_both true made others h k = one made others h k
+  one_of_both false made others h k = one_next made others h k
+
 one_numbering : (number at : ℕ) (pieces : List (List ℕ × ℕ)) (made others : List Numbered) → AreNumbered number at pieces made → AreNumbered number at pieces others → made ≡ others
 one_numbering number at [] made others h k = h ∙ sym k
-one_numbering number at (([], size) ∷ pieces) made others h k = one_numbering (number + 1) (at + size) pieces made others h k
-one_numbering number at ((b ∷ line, size) ∷ pieces) [] others h k = absurd h
-one_numbering number at ((b ∷ line, size) ∷ pieces) (x ∷ made) [] h k = absurd k
-one_numbering number at ((b ∷ line, size) ∷ pieces) (x ∷ made) (y ∷ others) h k =
-    ap (λ (n : ℕ). numbered n x.line ∷ made) (h.0 ∙ sym k.0)
-    ∙ (ap (λ (said : Option Line). numbered y.number said ∷ made) (one_at_place (at + size) (b ∷ line) x.line y.line h.1 k.1)
-    ∙ ap (λ (left : List Numbered). y ∷ left) (one_numbering (number + 1) (at + size) pieces made others h.2 k.2))
+one_numbering number at ((line, size) ∷ pieces) made others h k =
+    one_of_both number (at + size) line (AreNumbered (number + 1) (at + size) pieces) (one_numbering (number + 1) (at + size) pieces) (is_passed (at + size) line) made others h k
 
 abbrev text_lines : List Numbered → ℕ → TextLines
 text_lines made behind = record { lines = made; behind = behind }

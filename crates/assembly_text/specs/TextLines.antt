@@ -1,5 +1,5 @@
 -- The lines of an assembler's text.
-use Rattle.std.specs.Prelude.{◌≡◌, ℕ, ◌+◌, ◌<◌, ◌≤◌, ◌==◌, ◌⊎◌, if◌then◌else◌, List, [], ◌∷◌, length, Option, Some, None}
+use Rattle.std.specs.Prelude.{◌≡◌, ℕ, ◌+◌, ◌<◌, ◌≤◌, ◌==◌, ◌⊎◌, nat_le, Bool, false, MatchBool, if◌then◌else◌, List, [], ◌∷◌, length, Option, Some, None}
 use Rattle.assembly_lines.specs.declared.line.Line.{Line}
 use Rattle.assembly_lines.specs.Lines.{IsLine}
 use Rattle.assembly_text.specs.declared.lines.Numbered.{Numbered}
@@ -21,13 +21,23 @@ abbrev pub SaysAt : ℕ → List ℕ → Option Line → Type 0
 SaysAt end line (Some said) = (end ≤ 1048576) × IsLine line said
 SaysAt end line None = (1048576 < end) ⊎ ((said : Line) → ¬ IsLine line said)
 
--- The lines that aren't empty, with their numbers, where the first line has this number and begins at this place.
+-- an empty line, which with its byte 10 stands among the bytes that a text may have, says nothing
+abbrev pub is_passed : ℕ → List ℕ → Bool
+is_passed end [] = nat_le end 1048576
+is_passed end (b ∷ line) = false
+
+-- The next of the lines that are kept has this number and says this, and the others are behind it.
+abbrev pub IsNext : ℕ → ℕ → List ℕ → (List Numbered → Type 0) → List Numbered → Type 0
+IsNext number end line AreOthers [] = ⊥
+IsNext number end line AreOthers (next ∷ others) = (next.number ≡ number) × SaysAt end line next.line × AreOthers others
+
+-- The lines that aren't passed over, with their numbers, where the first line has this number and begins at this place.
 abbrev pub AreNumbered : ℕ → ℕ → List (List ℕ × ℕ) → List Numbered → Type 0
 AreNumbered number at [] made = made ≡ []
-AreNumbered number at (([], size) ∷ others) made = AreNumbered (number + 1) (at + size) others made
-AreNumbered number at ((b ∷ line, size) ∷ others) [] = ⊥
-AreNumbered number at ((b ∷ line, size) ∷ others) (first ∷ made) =
-    (first.number ≡ number) × SaysAt (at + size) (b ∷ line) first.line × AreNumbered (number + 1) (at + size) others made
+AreNumbered number at ((line, size) ∷ others) made =
+    MatchBool (is_passed (at + size) line)
+    (AreNumbered (number + 1) (at + size) others made)
+    (IsNext number (at + size) line (AreNumbered (number + 1) (at + size) others) made)
 
 -- Lines are numbered from 1, and the one behind the last has the next number.
 pub record AreLinesOf (text : List ℕ) (made : TextLines) : Type 0 where

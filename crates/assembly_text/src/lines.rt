@@ -4,7 +4,7 @@ ghost use Rattle.std.specs.Prelude.{◌≡◌, ◌+◌, ◌<◌, ◌≤◌, ◌^
 ghost use Rattle.std.specs.List.{prefix_len};
 ghost use Rattle.assembly_lines.specs.declared.line.Line.{Line};
 ghost use Rattle.assembly_text.specs.declared.lines.TextLines.{TextLines};
-ghost use Rattle.assembly_text.specs.TextLines.{AreLinesOf, SaysAt};
+ghost use Rattle.assembly_text.specs.TextLines.{AreLinesOf, SaysAt, is_passed};
 ghost use Rattle.assembly_text.specs.Reading.{IsFirstLine};
 
 use assembly_lines::{Line, LineRefusal, line_of};
@@ -18,7 +18,7 @@ pub struct Numbered {
     pub line: Option<Line>,
 }
 
-/// The lines of a text that aren't empty, with their numbers, and the number of the line behind the last.
+/// The lines of a text that aren't passed over, with their numbers, and the number of the line behind the last.
 #[derive(Debug, Drop)]
 pub struct TextLines {
     pub lines: Rows<Numbered>,
@@ -57,6 +57,13 @@ fn next_line(text: &[u8]) -> Option<(&[u8], &[u8])>
     Some((line, behind_end(end)))
 }
 
+/// Whether a line is passed over: an empty one, unless it ends behind the bytes that a text has at most.
+fn is_passed(line: &[u8], end: usize) -> bool
+    ensures { result ≡ is_passed end line.now }
+{
+    line.is_empty() && end <= MOST_BYTES
+}
+
 /// What a line says whose end stands before a place in the text.
 fn said(alloc: Global, line: &[u8], end: usize) -> Result<Option<Line>, AllocError>
     ensures found { IfOk result (λ said. SaysAt end line.now said) }
@@ -72,9 +79,10 @@ fn said(alloc: Global, line: &[u8], end: usize) -> Result<Option<Line>, AllocErr
     }
 }
 
-/// The lines of a text that aren't empty, in order. A line ends at a byte 10 or at the text's end, and empty lines
-/// are counted. A line says nothing where its bytes are no line, and where a byte of it, or the byte 10 that ends
-/// it, is not among the first [`MOST_BYTES`] of the text. The error is want of memory.
+/// The lines of a text in order, but for those that are empty and stand among the first [`MOST_BYTES`]. A line ends at
+/// a byte 10 or at the text's end, and empty lines are counted. A line says nothing where its bytes are no line, and
+/// where a byte of it, or the byte 10 that ends it, is not among the first [`MOST_BYTES`] of the text. The error is
+/// want of memory.
 pub fn lines_of(alloc: Global, text: &[u8]) -> Result<TextLines, AllocError>
     requires { length text.now + 1 < 2 ^ 32 }
     ensures found { IfOk result (λ made. AreLinesOf text.now made) }
@@ -85,8 +93,9 @@ pub fn lines_of(alloc: Global, text: &[u8]) -> Result<TextLines, AllocError>
     let mut number = 1;
     let mut rest = text;
     while let Some((line, after)) = next_line(rest) {
-        if !line.is_empty() {
-            let line = said(alloc, line, text.len() - after.len())?;
+        let end = text.len() - after.len();
+        if !is_passed(line, end) {
+            let line = said(alloc, line, end)?;
             lines.push(Numbered { number, line })?;
         }
         number += 1;

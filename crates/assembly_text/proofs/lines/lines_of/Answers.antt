@@ -1,8 +1,7 @@
-use Rattle.std.proofs.Common.{◌-◌, length, ◌∙◌}
-use Rattle.assembly_lines.proofs.Cases.{empty_is, full_is}
-use Rattle.assembly_text.proofs.NumberLaws.{numbered_empty, numbered_more, left_fits, numbered_all, numbered_only}
+use Rattle.std.proofs.Common.{◌-◌, length, ◌∙◌, sym}
+use Rattle.assembly_text.proofs.NumberLaws.{numbered_passed, numbered_more, left_fits, numbered_all, numbered_only}
 use Rattle.assembly_text.proofs.lines.lines_of.Goals as goal
-use Rattle.assembly_text.proofs.lines.lines_of.Goals.{then-not-is_empty+in_ok-line+in_ok-push, else-not-is_empty}
+use Rattle.assembly_text.proofs.lines.lines_of.Goals.{then-not-is_passed+in_ok-line+in_ok-push, else-not-is_passed}
 
 pub loop-line-preserved : goal.loop-line-preserved
 loop-line-preserved c =
@@ -12,11 +11,12 @@ loop-line-preserved c =
     let after = c.in-Some.after.now in
     let so_far = c.loop-line.invariant in
     let first = c.in-Some.ensures in
-    elim c.if-not-is_empty.branch [
-      | then-not-is_empty+in_ok-line+in_ok-push w ↦
+    let ends = left_fits text rest line after c.loop-line.number c.loop-line.lines so_far first in
+    elim c.if-not-is_passed.branch [
+      | then-not-is_passed+in_ok-line+in_ok-push w ↦
           rw (w.lines-is ∙ w.in_ok-push.ensures.ok)
-          (numbered_more text rest line after c.loop-line.number (length text - length after) w.in_ok-line.line c.loop-line.lines so_far first (full_is _ _ c.is_empty.ensures w.if-not-is_empty.true) (left_fits text rest line after c.loop-line.number c.loop-line.lines so_far first) w.in_ok-line.ensures.found w.in_ok-line.ensures.only)
-      | else-not-is_empty w ↦ rw w.lines-is (numbered_empty text rest line after c.loop-line.number c.loop-line.lines so_far first (empty_is _ _ c.is_empty.ensures w.if-not-is_empty.false))
+          (numbered_more text rest line after c.loop-line.number (length text - length after) w.in_ok-line.line c.loop-line.lines so_far first ends (sym c.is_passed.ensures ∙ w.if-not-is_passed.true) w.in_ok-line.ensures.found w.in_ok-line.ensures.only)
+      | else-not-is_passed w ↦ rw w.lines-is (numbered_passed text rest line after c.loop-line.number (length text - length after) c.loop-line.lines so_far first ends (sym c.is_passed.ensures ∙ w.if-not-is_passed.false))
     ]
 
 pub returns-clause-found : goal.returns-clause-found

@@ -1,0 +1,4 @@
+pub mod Parts
+pub mod Instructions
+pub mod Tables
+pub mod Body

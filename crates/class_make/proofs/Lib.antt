@@ -1,0 +1,3 @@
+pub mod AssemblyLaws
+pub mod WritableLaws
+pub mod TextLaws

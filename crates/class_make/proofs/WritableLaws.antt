@@ -1,0 +1,58 @@
+-- What is made has the room that it needs to be written.
+use Rattle.std.proofs.Common.{◌≡◌, ℕ, ◌<◌, ◌^◌, Bool, true, false, cond, ltb, List, [], ◌∷◌, length, Option, Some, None, refl, sym, subst, lit<, lit≤}
+use Rattle.std.proofs.lemmas.Bool.{ltb-true}
+use Rattle.std.specs.List.{AllByRecursion}
+use Rattle.class_walk.specs.declared.class.Constant.{Constant}
+use Rattle.class_walk.specs.declared.class.RawAttribute.{RawAttribute}
+use Rattle.class_walk.specs.declared.class.RawClass.{RawClass}
+use Rattle.class_walk.specs.Layout.{IsCounted, code_spelling}
+use Rattle.class_write.specs.Writable.{IsWritable, IsWritableConstant, IsWritableAttribute}
+use Rattle.class_write.proofs.TableLaws.{class_writable}
+use Rattle.pool_make.specs.Indexed.{IsMade}
+use Rattle.method_make.specs.Body.{MadeBody, code_of, content}
+use Rattle.class_make.specs.Class.{attribute}
+
+-- a class with nothing but its pool
+only_pool : List Constant → RawClass
+only_pool pool = record { minor = 0; major = 52; pool = pool; flags = 0; this_class = 0; super_class = 0; interfaces = []; fields = []; methods = []; attributes = [] }
+
+pool_can_be_written : (pool : List Constant) → IsMade pool → IsWritable (only_pool pool)
+unfolding only_pool
+pool_can_be_written pool is = class_writable (only_pool pool) (record {
+  minor = lit< tt;
+  oldest = lit≤ tt;
+  newest = lit≤ tt;
+  pool = is.sound;
+  flags = lit< tt;
+  this_class = lit< tt;
+  super_class = lit< tt;
+  interfaces = (lit< tt, tt);
+  fields = (lit< tt, tt);
+  methods = (lit< tt, tt);
+  attributes = (lit< tt, tt);
+})
+
+-- the entries of a pool that was made can be written
+pub made_is_writable : (made pool : List Constant) → pool ≡ made → IsMade made → AllByRecursion IsWritableConstant pool
+unfolding only_pool
+made_is_writable made pool same is = subst (AllByRecursion IsWritableConstant) (sym same) (pool_can_be_written made is).constants
+
+pub made_is_short : (made pool : List Constant) → pool ≡ made → IsMade made → length pool < 2 ^ 16
+made_is_short made pool same is = let P : List Constant → Type 0 = λ p. length p < 2 ^ 16 in subst P (sym same) is.sound.count
+
+content_by : (body : MadeBody) (bytes : List ℕ) (test : Bool) → ltb (length (code_spelling (code_of body))) (2 ^ 32) ≡ test
+    → cond test (Some (code_spelling (code_of body))) None ≡ Some bytes → length bytes < 2 ^ 32
+content_by body bytes false is e = absurd (let none : None ≡ Some bytes = e in cc)
+content_by body bytes true is e =
+    let same : code_spelling (code_of body) ≡ bytes = cc in
+    let P : List ℕ → Type 0 = λ b. length b < 2 ^ 32 in
+    subst P same (ltb-true (length (code_spelling (code_of body))) (2 ^ 32) is)
+
+-- the content of an attribute Code has room in it
+pub content_fits : (body : MadeBody) (bytes : List ℕ) → content body ≡ Some bytes → length bytes < 2 ^ 32
+unfolding content
+content_fits body bytes e = content_by body bytes (ltb (length (code_spelling (code_of body))) (2 ^ 32)) refl e
+
+pub one_attribute_is_writable : (name : ℕ) (bytes : List ℕ) (attributes : List RawAttribute) → attributes ≡ attribute name bytes ∷ [] → length bytes < 2 ^ 32
+    → IsCounted IsWritableAttribute attributes
+one_attribute_is_writable name bytes attributes is short = rw is (lit< tt, (short, tt))

@@ -1,0 +1,4 @@
+pub mod Class
+pub mod Assembly
+pub mod States
+pub mod Texts

@@ -1,0 +1,16 @@
+-- What a text is assembled to.
+use Rattle.std.specs.Prelude.{◌≡◌, ℕ, List, take, Result}
+use Rattle.assembly_text.specs.declared.lines.TextLines.{TextLines}
+use Rattle.assembly_text.specs.TextLines.{AreLinesOf}
+use Rattle.class_make.specs.Assembly.{assembled}
+
+-- A text has at most 1,048,576 bytes, and what stands behind the next one is not looked at: the line of that one says
+-- nothing.
+abbrev pub front : List ℕ → List ℕ
+front text = take 1048577 text
+
+-- The class file of a text, or the number of the first line that is refused.
+pub record IsAssembled (text : List ℕ) (answer : Result (List ℕ) ℕ) : Type 0 where
+  pub lines : TextLines
+  pub are_lines : AreLinesOf (front text) lines
+  pub answered : assembled lines.behind lines.lines ≡ answer
