@@ -1,0 +1,12 @@
+pub mod Bodies
+pub mod GrowLaws
+pub mod StepGrows
+pub mod BodyLaws
+pub mod MemberLaws
+pub mod SaidLaws
+pub mod LeaveLaws
+pub mod PartLaws
+pub mod EndLaws
+pub mod LineLaws
+pub mod MeaningLaws
+pub mod DecodeLaws
