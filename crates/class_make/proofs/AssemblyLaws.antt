@@ -1,5 +1,5 @@
 -- The lines of a text, one behind the other.
-use Rattle.std.proofs.Common.{◌≡◌, ℕ, List, [], ◌∷◌, Option, Some, None, Result, Ok, Err, refl, sym, ◌∙◌}
+use Rattle.std.proofs.Common.{◌≡◌, ℕ, List, [], ◌∷◌, Some, Result, Ok, Err, refl, sym, ◌∙◌}
 use Rattle.class_walk.specs.declared.class.Constant.{Constant}
 use Rattle.class_walk.specs.declared.class.RawClass.{RawClass}
 use Rattle.class_walk.specs.Layout.{spelling}
@@ -7,7 +7,6 @@ use Rattle.assembly_text.specs.declared.lines.Numbered.{Numbered}
 use Rattle.method_make.specs.declared.refusal.BodyRefusal.{BodyRefusal}
 use Rattle.method_make.specs.declared.refusal.BodyRefusal.TheVariants.{Refused, NoMemory}
 use Rattle.method_make.specs.Making.{Fails}
-use Rattle.class_make.specs.declared.refusal.MakeRefusal.{MakeRefusal}
 use Rattle.class_make.specs.Class.{State, step}
 use Rattle.class_make.specs.Assembly.{assembled_from, finished, refusal_at, Answers}
 

@@ -10,7 +10,7 @@ use Rattle.method_make.specs.declared.refusal.BodyRefusal.TheVariants as full
 use Rattle.method_make.specs.declared.refusal.BodyRefusal.TheVariants.{Refused}
 use Rattle.class_make.specs.declared.refusal.MakeRefusal.{MakeRefusal}
 use Rattle.class_make.specs.declared.refusal.MakeRefusal.TheVariants.{Line, NoMemory}
-use Rattle.class_make.specs.Class.{MadeClass, State, before_class, outside, inside, superclass, step}
+use Rattle.class_make.specs.Class.{MadeClass, State, before_class, outside, superclass, step}
 
 -- a class file of version 52 (JVMS 4.1)
 abbrev pub class_of : MadeClass → List Constant → ℕ → RawClass

@@ -1,10 +1,9 @@
 -- The code that is decoded of a method is what the body's lines say.
-use Rattle.std.proofs.Common.{◌≡◌, ℕ, zero, suc, List, [], ◌∷◌, Option, Some, None, refl, sym, ◌∙◌, subst, slice_get}
+use Rattle.std.proofs.Common.{◌≡◌, ℕ, zero, suc, List, [], ◌∷◌, Option, Some, None, refl, sym, subst, slice_get}
 use Rattle.std.specs.List.{AllZip}
 use Rattle.class_walk.specs.declared.class.Constant.{Constant}
 use Rattle.class_read.specs.declared.class_file.ClassFile.{ClassFile}
 use Rattle.class_read.specs.declared.class_file.CodeAttribute.{CodeAttribute}
-use Rattle.class_read.specs.declared.class_file.Member.{Member}
 use Rattle.code_decode.specs.declared.code.Code.{Code}
 use Rattle.code_decode.specs.Code.{IsCode}
 use Rattle.code_decode.specs.Method.{IsCodeOf}

@@ -2,3 +2,4 @@ pub mod Names
 pub mod Verdicts
 pub mod Streams
 pub mod Reported
+pub mod Inputs

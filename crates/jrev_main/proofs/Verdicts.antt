@@ -1,17 +1,28 @@
 -- The answers of pick, and what a folder gives where it isn't asked.
-use Rattle.std.proofs.Common.{◌≡◌, inl, inr, ℕ, ℤ, List, [], Option, None, Some, refl, sym, subst}
+use Rattle.std.proofs.Common.{◌≡◌, inl, inr, ℕ, ℤ, List, [], Option, None, Some, IfSome, refl, sym, subst}
 use Rattle.std.proofs.lemmas.List.Sorted.{IsPermutation-refl}
 use Rattle.jr_ports.specs.Folder.{File, names_of}
 use Rattle.class_read.specs.Expression.{Statement, IsMainCode, values_of}
 use Rattle.class_read.specs.StraightClass.{IsStraight}
+use Rattle.class_make.specs.Texts.{front}
 use Rattle.jrev_main.specs.declared.loading.Loaded.{Loaded}
 use Rattle.jrev_main.specs.declared.loading.Loaded.TheVariants.{NoClass, OneClass}
-use Rattle.jrev_main.specs.Loading.{Given, IsTold}
-use Rattle.jrev_main.specs.Answer.{Executes, IsOther, IsNotStraight, IsPickAnswer, no_main, refused, prints}
+use Rattle.jrev_main.specs.declared.request.Request.TheVariants.{Pick}
+use Rattle.jrev_main.specs.Request.{IsRequest}
+use Rattle.jrev_main.specs.Loading.{Given, IsLoaded, IsTold, IsInput}
+use Rattle.jrev_main.specs.Answer.{Answer, Executes, IsOther, IsNotStraight, IsPickAnswer, IsAnswer, no_main, refused, prints}
 
 pub some_given : (told : Option (List File)) → (given : Given) × IsTold told given
 some_given None = (record { names = []; loaded = NoClass }, tt)
 some_given (Some files) = (record { names = names_of files; loaded = NoClass }, (IsPermutation-refl (names_of files), tt))
+
+pub some_input : (told : Option (List ℕ)) → (text : List ℕ) × IsInput told text
+some_input None = ([], tt)
+some_input (Some left) = (front left, refl)
+
+pub input_of : (told : Option (List ℕ)) (text : List ℕ) → IfSome told (λ left. text ≡ front left) → IsInput told text
+input_of None text read = tt
+input_of (Some left) text read = read
 
 pub not_straight : (main file bytes read : List ℕ) (loaded : Loaded) → loaded ≡ OneClass file bytes → read ≡ bytes → IsNotStraight read → IsPickAnswer main loaded (refused file)
 not_straight main file bytes read loaded is same none =
@@ -40,3 +51,12 @@ executes main file bytes read name code run values loaded is same straight named
     let found : Executes bytes main values = record { code = code; statements = straight.0; straight = subst R named (subst Q same straight.1); values_are = all straight.0 (subst M (sym ran) straight.1.prints.main) } in
     let at : P (OneClass file bytes) = search (found, inl, inr) in
     subst P (sym is) at
+
+-- the answer of pick, over what was loaded
+pub picked : (told : Option (List File)) (left : Option (List ℕ)) (words : List (List ℕ)) (dir main : List ℕ) (loaded : Loaded) (answer : Answer) → IsRequest words (Pick dir main)
+    → (given : Given) × (given.loaded ≡ loaded) × IsLoaded given.names loaded × IsTold told given → IsPickAnswer main loaded answer
+    → (given : Given) × (text : List ℕ) × IsTold told given × IsInput left text × IsAnswer words given text answer
+picked told left words dir main loaded answer asked given is =
+    let text = some_input left in
+    let P : Loaded → Type 0 = λ l. IsLoaded given.0.names l × IsPickAnswer main l answer in
+    (given.0, text.0, given.3, text.1, inr (Pick dir main, asked, subst P (sym given.1) (given.2, is)))

@@ -1,14 +1,15 @@
 -- What the program answers: a status, the bytes on the standard output, and those on the standard error.
-use Rattle.std.specs.Prelude.{◌≡◌, ℕ, ℤ, ◌⊎◌, List, [], ◌∷◌, ◌++◌, codes}
+use Rattle.std.specs.Prelude.{◌≡◌, ℕ, ℤ, ◌⊎◌, List, [], ◌∷◌, ◌++◌, codes, Ok, Err}
 use Rattle.std.specs.List.{flat_map}
-use Rattle.std.specs.Fmt.{signed_decimal}
+use Rattle.std.specs.Fmt.{decimal, signed_decimal}
 use Rattle.class_read.specs.Expression.{Statement, values_of}
 use Rattle.class_read.specs.StraightClass.{IsStraight}
+use Rattle.class_make.specs.Texts.{IsAssembled}
 use Rattle.jrev_main.specs.declared.TheConstants.{HELP, VERSION}
 use Rattle.jrev_main.specs.declared.status.Status.{Status}
 use Rattle.jrev_main.specs.declared.status.Status.TheVariants as statuses
 use Rattle.jrev_main.specs.declared.request.Request.{Request}
-use Rattle.jrev_main.specs.declared.request.Request.TheVariants.{Pick, Help, Version}
+use Rattle.jrev_main.specs.declared.request.Request.TheVariants.{Pick, Make, Help, Version}
 use Rattle.jrev_main.specs.declared.loading.Loaded.{Loaded}
 use Rattle.jrev_main.specs.declared.loading.Loaded.TheVariants.{NoClass, OneClass, MoreClasses}
 use Rattle.jrev_main.specs.Request.{IsRequest}
@@ -76,17 +77,32 @@ IsPickAnswer main (OneClass file bytes) answer =
     ⊎ (IsOther bytes main × (answer ≡ no_main))
     ⊎ (IsNotStraight bytes × (answer ≡ refused file))
 
--- the answer to a request, where the folder gives this
-abbrev pub IsAnswerTo : Request → Given → Answer → Type 0
-IsAnswerTo (Pick dir main) given answer = IsLoaded given.names given.loaded × IsPickAnswer main given.loaded answer
-IsAnswerTo Help given answer = answer ≡ text help_text
-IsAnswerTo Version given answer = answer ≡ text version_text
+-- a class file
+abbrev pub made : List ℕ → Answer
+made bytes = record { status = statuses.Done; out = bytes; err = [] }
+
+-- the number of the line at which a text is refused
+abbrev pub not_made : ℕ → Answer
+not_made number = record { status = statuses.MakeRefused number; out = []; err = line (codes "make: line " ++ decimal number) }
+
+-- the answer of make to the text that it read
+abbrev pub IsMakeAnswer : List ℕ → Answer → Type 0
+IsMakeAnswer text answer =
+    ((bytes : List ℕ) × IsAssembled text (Ok bytes) × (answer ≡ made bytes))
+    ⊎ ((number : ℕ) × IsAssembled text (Err number) × (answer ≡ not_made number))
+
+-- the answer to a request, where the folder and the input give this
+abbrev pub IsAnswerTo : Request → Given → List ℕ → Answer → Type 0
+IsAnswerTo (Pick dir main) given input answer = IsLoaded given.names given.loaded × IsPickAnswer main given.loaded answer
+IsAnswerTo Make given input answer = IsMakeAnswer input answer
+IsAnswerTo Help given input answer = answer ≡ text help_text
+IsAnswerTo Version given input answer = answer ≡ text version_text
 
 -- the words ask for nothing that there is
 abbrev pub IsUsage : List (List ℕ) → Type 0
 IsUsage words = (request : Request) → IsRequest words request → ⊥
 
 -- the answer to the words
-abbrev pub IsAnswer : List (List ℕ) → Given → Answer → Type 0
-IsAnswer words given answer =
-    (IsUsage words × (answer ≡ usage)) ⊎ ((request : Request) × IsRequest words request × IsAnswerTo request given answer)
+abbrev pub IsAnswer : List (List ℕ) → Given → List ℕ → Answer → Type 0
+IsAnswer words given input answer =
+    (IsUsage words × (answer ≡ usage)) ⊎ ((request : Request) × IsRequest words request × IsAnswerTo request given input answer)

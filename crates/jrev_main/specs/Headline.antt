@@ -2,11 +2,11 @@
 use Rattle.std.specs.Prelude.{◌≡◌, ℕ, ◌⊎◌, List, [], codes, Option, None, Some}
 use Rattle.jr_ports.specs.Folder.{File, Asked}
 use Rattle.jr_ports.specs.Stream.{IsPrefix}
-use Rattle.jrev_main.specs.declared.request.Request.TheVariants.{Pick}
+use Rattle.jrev_main.specs.declared.request.Request.TheVariants.{Pick, Make}
 use Rattle.jrev_main.specs.declared.status.Status.{Status}
 use Rattle.jrev_main.specs.declared.status.Status.TheVariants as statuses
 use Rattle.jrev_main.specs.Request.{IsRequest}
-use Rattle.jrev_main.specs.Loading.{Given, IsTold}
+use Rattle.jrev_main.specs.Loading.{Given, IsTold, IsInput}
 use Rattle.jrev_main.specs.Answer.{Answer, IsAnswer, line}
 
 -- These bytes were to be written on the standard error, and then the run to end with this status. Where the
@@ -37,7 +37,7 @@ Comes answer out_fault err_fault status out err =
     ⊎ IsOutFault answer out_fault err_fault status out err
     ⊎ IsOutOfMemory answer err_fault status out err
 
--- the folder failed before the answer was known
+-- the folder or the input failed before the answer was known
 abbrev pub IsReadFault : Type 0 → Type 0 → Status → List ℕ → List ℕ → Type 0
 IsReadFault read_fault err_fault status out err =
     read_fault × (out ≡ []) × Said (line (codes "read fault")) statuses.ReadFault err_fault status err
@@ -46,11 +46,12 @@ IsReadFault read_fault err_fault status out err =
 abbrev pub IsNoMemory : Type 0 → Status → List ℕ → List ℕ → Type 0
 IsNoMemory err_fault status out err = (out ≡ []) × Said (line (codes "no memory")) statuses.Memory err_fault status err
 
--- What a run with these words leaves: the answer to them over what the folder gave, or a fault of the folder or want
--- of memory before that was known.
-abbrev pub Reports : List (List ℕ) → Option (List File) → Type 0 → Type 0 → Type 0 → Status → List ℕ → List ℕ → Type 0
-Reports words files read_fault out_fault err_fault status out err =
-    ((given : Given) × (answer : Answer) × IsTold files given × IsAnswer words given answer × Comes answer out_fault err_fault status out err)
+-- What a run with these words leaves: the answer to them over what the folder and the input gave, or a fault of one of
+-- them or want of memory before that was known.
+abbrev pub Reports : List (List ℕ) → Option (List File) → Option (List ℕ) → Type 0 → Type 0 → Type 0 → Status → List ℕ → List ℕ → Type 0
+Reports words files left read_fault out_fault err_fault status out err =
+    ((given : Given) × (input : List ℕ) × (answer : Answer) × IsTold files given × IsInput left input
+    × IsAnswer words given input answer × Comes answer out_fault err_fault status out err)
     ⊎ IsReadFault read_fault err_fault status out err
     ⊎ IsNoMemory err_fault status out err
 
@@ -58,3 +59,22 @@ Reports words files read_fault out_fault err_fault status out err =
 abbrev pub AsksOnly : List (List ℕ) → Option Asked → Type 0
 AsksOnly words None = Unit {0}
 AsksOnly words (Some asked) = (main : List ℕ) × IsRequest words (Pick asked.dir main)
+
+-- the input is read, which make alone does
+abbrev pub ReadsInput : List (List ℕ) → Type 0
+ReadsInput words = IsRequest words Make
+
+-- a folder is asked, which pick alone does
+abbrev pub AsksFolder : List (List ℕ) → Type 0
+AsksFolder words = (dir main : List ℕ) × IsRequest words (Pick dir main)
+
+-- the folder failed, where one was asked, or the input, where it was read
+abbrev pub IsFaultOf : List (List ℕ) → Type 0 → Type 0 → Type 0
+IsFaultOf words folder_fault input_fault = (AsksFolder words × folder_fault) ⊎ (ReadsInput words × input_fault)
+
+-- What make ends with where no stream fails: 0, 11 or 9.
+abbrev pub IsMakeStatus : Status → Type 0
+IsMakeStatus statuses.Done = Unit {0}
+IsMakeStatus (statuses.MakeRefused number) = Unit {0}
+IsMakeStatus statuses.Memory = Unit {0}
+IsMakeStatus _ = ⊥

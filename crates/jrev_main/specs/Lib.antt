@@ -4,4 +4,5 @@ pub mod Loading
 pub mod Answer
 pub mod Headline
 pub mod Verdict
+pub mod Failure
 pub mod Written

@@ -1,10 +1,11 @@
 -- Which class file is read of a folder.
-use Rattle.std.specs.Prelude.{◌≡◌, ℕ, ◌-◌, Bool, ◌&&◌, nat_lt, List, [], ◌∷◌, length, drop, filter, codes, Option, None, Some}
+use Rattle.std.specs.Prelude.{◌≡◌, ℕ, ◌-◌, Bool, ◌&&◌, ◌≤◌, nat_lt, List, [], ◌∷◌, length, drop, filter, codes, Option, None, Some}
 use Rattle.std.specs.List.Sorted.{IsPermutation, IsSorted}
 use Rattle.std.specs.Cmp.Lexicographic.{slice_cmp}
 use Rattle.std.specs.Ordering.{nat_cmp}
 use Rattle.std.specs.Str.{bytes_eq}
 use Rattle.jr_ports.specs.Folder.{File, IsRead, names_of}
+use Rattle.class_make.specs.Texts.{front}
 use Rattle.jrev_main.specs.declared.loading.Loaded.{Loaded}
 use Rattle.jrev_main.specs.declared.loading.Loaded.TheVariants.{NoClass, OneClass, MoreClasses}
 
@@ -40,3 +41,14 @@ pub record Given : Type 0 where
 abbrev pub IsTold : Option (List File) → Given → Type 0
 IsTold None given = Unit {0}
 IsTold (Some files) given = IsPermutation (names_of files) given.names × IsReadOf files given.loaded
+
+-- The input that was read is what the source tells, up to its end, and no further than one byte behind the most that a
+-- text has.
+abbrev pub IsInput : Option (List ℕ) → List ℕ → Type 0
+IsInput None input = Unit {0}
+IsInput (Some left) input = input ≡ front left
+
+-- no more than so many bytes were taken of what the source told
+abbrev pub TakesAtMost : ℕ → Option (List ℕ) → Option (List ℕ) → Type 0
+TakesAtMost most None after = Unit {0}
+TakesAtMost most (Some left) after = (taken : ℕ) × (taken ≤ most) × (after ≡ Some (drop taken left))

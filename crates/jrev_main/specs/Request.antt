@@ -1,7 +1,7 @@
 -- The words of the command line, and what they ask for.
 use Rattle.std.specs.Prelude.{◌≡◌, ℕ, ◌==◌, if◌then◌else◌, List, [], ◌∷◌, ◌++◌, map, codes}
 use Rattle.jrev_main.specs.declared.request.Request.{Request}
-use Rattle.jrev_main.specs.declared.request.Request.TheVariants.{Pick, Help, Version}
+use Rattle.jrev_main.specs.declared.request.Request.TheVariants.{Pick, Make, Help, Version}
 
 -- a word that is no option
 pub record IsPositional (word : List ℕ) : Type 0 where
@@ -23,5 +23,6 @@ pub record IsPick (words : List (List ℕ)) (dir main : List ℕ) : Type 0 where
 -- the words ask for this
 abbrev pub IsRequest : List (List ℕ) → Request → Type 0
 IsRequest words (Pick dir main) = IsPick words dir main
+IsRequest words Make = words ≡ codes "make" ∷ []
 IsRequest words Help = words ≡ codes "--help" ∷ []
 IsRequest words Version = words ≡ codes "--version" ∷ []

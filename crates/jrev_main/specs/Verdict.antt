@@ -1,6 +1,6 @@
 use Rattle.jrev_main.specs.declared.verdict.Verdict.{Verdict}
-use Rattle.jrev_main.specs.declared.verdict.Verdict.TheVariants.{Usage, Help, Version, NoMain, Refused, Prints}
-use Rattle.jrev_main.specs.Answer.{Answer, usage, text, help_text, version_text, no_main, refused, prints}
+use Rattle.jrev_main.specs.declared.verdict.Verdict.TheVariants.{Usage, Help, Version, NoMain, Refused, Prints, Made, NotMade}
+use Rattle.jrev_main.specs.Answer.{Answer, usage, text, help_text, version_text, no_main, refused, prints, made, not_made}
 
 -- the answer of a verdict
 abbrev pub answer_of : Verdict → Answer
@@ -10,3 +10,5 @@ answer_of Version = text version_text
 answer_of NoMain = no_main
 answer_of (Refused file) = refused file
 answer_of (Prints values) = prints values
+answer_of (Made bytes) = made bytes
+answer_of (NotMade number) = not_made number

@@ -17,7 +17,7 @@ ComesOn answer out_before out_after err_before err_after out_fault err_fault sta
     (out err : List ℕ) × Gains out_before out_after out × Gains err_before err_after err × Comes answer out_fault err_fault status out err
 
 -- both streams gained what a run with these words leaves
-abbrev pub ReportsOn : List (List ℕ) → Option (List File) → Option (List ℕ) → Option (List ℕ) → Option (List ℕ) → Option (List ℕ) → Type 0 → Type 0 → Type 0 → Status → Type 0
-ReportsOn words files out_before out_after err_before err_after read_fault out_fault err_fault status =
+abbrev pub ReportsOn : List (List ℕ) → Option (List File) → Option (List ℕ) → Option (List ℕ) → Option (List ℕ) → Option (List ℕ) → Option (List ℕ) → Type 0 → Type 0 → Type 0 → Status → Type 0
+ReportsOn words files left out_before out_after err_before err_after read_fault out_fault err_fault status =
     (out err : List ℕ) × Gains out_before out_after out × Gains err_before err_after err
-    × Reports words files read_fault out_fault err_fault status out err
+    × Reports words files left read_fault out_fault err_fault status out err

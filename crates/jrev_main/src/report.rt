@@ -3,7 +3,7 @@
 ghost use Rattle.std.specs.Prelude.{◌≡◌, ◌<◌, ◌≤◌, OnOk, OnErr, IfOk, string_bytes};
 ghost use Rattle.std.specs.Fmt.{signed_decimal};
 ghost use Rattle.jr_ports.specs.Stream.{Gains, GainsPart};
-ghost use Rattle.jrev_main.specs.Answer.{line, lines_of, help_text, version_text, refused};
+ghost use Rattle.jrev_main.specs.Answer.{line, lines_of, help_text, version_text, refused, not_made};
 ghost use Rattle.jrev_main.specs.Verdict.{answer_of};
 ghost use Rattle.jrev_main.specs.Written.{SaysOn, ComesOn};
 
@@ -60,7 +60,8 @@ fn write_out<O: Sink>(alloc: Global, verdict: &Verdict, out: &mut O) -> Result<(
         Verdict::Help => out.put(help().as_bytes()),
         Verdict::Version => out.put(version().as_bytes()),
         Verdict::Prints(values) => write_values(alloc, values.as_slice(), out),
-        Verdict::Usage | Verdict::NoMain | Verdict::Refused(_) => Ok(()),
+        Verdict::Made(bytes) => out.put(bytes.as_slice()),
+        Verdict::Usage | Verdict::NoMain | Verdict::Refused(_) | Verdict::NotMade(_) => Ok(()),
     }
 }
 
@@ -75,6 +76,17 @@ fn refusal_line(alloc: Global, file: &[u8]) -> Result<Vec<u8>, AllocError>
     Ok(text)
 }
 
+/// The line that says at which line a text is refused.
+fn not_made_line(alloc: Global, number: u32) -> Result<Vec<u8>, AllocError>
+    ensures { IfOk result (λ text. text.items ≡ (not_made number).err) }
+{
+    let mut text = Vec::from_slice(alloc, b"make: line ")?;
+    let digits = number.to_string(alloc)?;
+    text.extend_from_slice(digits.as_bytes())?;
+    text.extend_from_slice(b"\n")?;
+    Ok(text)
+}
+
 /// The line that goes to the standard error, if there is one.
 fn error_line(alloc: Global, verdict: &Verdict) -> Result<Vec<u8>, AllocError>
     ensures { IfOk result (λ text. text.items ≡ (answer_of verdict.now).err) }
@@ -83,7 +95,10 @@ fn error_line(alloc: Global, verdict: &Verdict) -> Result<Vec<u8>, AllocError>
         Verdict::Usage => Vec::from_slice(alloc, b"usage\n"),
         Verdict::NoMain => Vec::from_slice(alloc, b"no main\n"),
         Verdict::Refused(file) => refusal_line(alloc, file.as_slice()),
-        Verdict::Help | Verdict::Version | Verdict::Prints(_) => Ok(Vec::new(alloc)),
+        Verdict::NotMade(number) => not_made_line(alloc, *number),
+        Verdict::Help | Verdict::Version | Verdict::Prints(_) | Verdict::Made(_) => {
+            Ok(Vec::new(alloc))
+        }
     }
 }
 
@@ -94,7 +109,8 @@ fn status_of(verdict: &Verdict) -> Status
         Verdict::Usage => Status::Usage,
         Verdict::NoMain => Status::NoMain,
         Verdict::Refused(_) => Status::Refused,
-        Verdict::Help | Verdict::Version | Verdict::Prints(_) => Status::Done,
+        Verdict::NotMade(number) => Status::MakeRefused(*number),
+        Verdict::Help | Verdict::Version | Verdict::Prints(_) | Verdict::Made(_) => Status::Done,
     }
 }
 

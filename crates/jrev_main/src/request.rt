@@ -11,6 +11,8 @@ use std::alloc::{AllocError, Global};
 pub enum Request {
     /// Executes the program of a folder whose main class has this name, a slash between its parts.
     Pick { dir: Text, main: Bytes },
+    /// Makes a class file of the text on the standard input.
+    Make,
     /// Says what the program does.
     Help,
     /// Says which version it is.
@@ -70,7 +72,7 @@ pub fn words_of(alloc: Global, words: &[String]) -> Result<Request, WordsRefusal
     ensures usage { result ≡ Err WordsRefusal.Usage → (request : Request) → IsRequest (map string_bytes words.now) request → ⊥ }
 {
     match words {
-        [word] => option_of(word),
+        [word] => request_of(word),
         [command, dir, name] => {
             if !is_word(command, "pick") || !is_positional(dir) || !is_positional(name) {
                 return Err(WordsRefusal::Usage);
@@ -83,12 +85,15 @@ pub fn words_of(alloc: Global, words: &[String]) -> Result<Request, WordsRefusal
     }
 }
 
-fn option_of(word: &String) -> Result<Request, WordsRefusal>
+/// What a word that stands alone asks for.
+fn request_of(word: &String) -> Result<Request, WordsRefusal>
     ensures found { IfOk result (λ request. IsRequest (string_bytes word.now ∷ []) request) }
     ensures usage { result ≡ Err WordsRefusal.Usage → (request : Request) → IsRequest (string_bytes word.now ∷ []) request → ⊥ }
     ensures memory { result ≡ Err WordsRefusal.NoMemory → ⊥ }
 {
-    if is_word(word, "--help") {
+    if is_word(word, "make") {
+        Ok(Request::Make)
+    } else if is_word(word, "--help") {
         Ok(Request::Help)
     } else if is_word(word, "--version") {
         Ok(Request::Version)

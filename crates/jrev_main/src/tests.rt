@@ -145,6 +145,49 @@ fn check<R: Abort + Threads + Sync>(
     Ok(())
 }
 
+/// The text of the class One.
+const ONE_TEXT: &str = "class One
+method 9 main ([Ljava/lang/String;)V stack 3 locals 1
+getstatic java/lang/System out Ljava/io/PrintStream;
+iconst_2
+iconst_3
+iadd
+invokevirtual java/io/PrintStream println (I)V
+return
+end
+";
+
+/// Makes a class of a text, where this call of the input and that of the output fail.
+fn make_over<R: Abort + Threads + Sync>(
+    rt: &R,
+    alloc: Global,
+    text: &str,
+    (input_fault, out_fault): (u32, u32),
+) -> Result<Seen, Fail> {
+    let words = owned_words(alloc, &["make"])?;
+    let mut classes = folder(rt, alloc, &[], Vec::new(alloc))?;
+    let text = Vec::from_slice(alloc, text.as_bytes())?;
+    let mut input = MemSource::new(text, vec![in alloc; input_fault]?);
+    let mut out = MemSink::new(alloc, vec![in alloc; out_fault]?);
+    let mut err = MemSink::new(alloc, Vec::new(alloc));
+    let words = words.as_slice();
+    let status = jrev(
+        rt,
+        alloc,
+        words,
+        &mut classes,
+        &mut input,
+        &mut out,
+        &mut err,
+        &NoGate,
+    );
+    Ok(Seen {
+        status: status.number(),
+        out: Vec::from_slice(alloc, out.given())?,
+        err: Vec::from_slice(alloc, err.given())?,
+    })
+}
+
 const PICK_ONE: &[&str] = &["pick", "D", "One"];
 
 #[test]
@@ -228,7 +271,7 @@ fn what_is_not_loaded_is_refused(rt: HostRuntime) -> Result<(), Fail> {
 #[test]
 fn other_words_are_a_faulty_command_line(rt: HostRuntime) -> Result<(), Fail> {
     let alloc = rt.alloc();
-    let wrong: [&[&str]; 8] = [
+    let wrong: [&[&str]; 9] = [
         &[],
         &["pick", "D"],
         &["pick", "D", "One", "x"],
@@ -237,6 +280,7 @@ fn other_words_are_a_faulty_command_line(rt: HostRuntime) -> Result<(), Fail> {
         &["pick", "D", "--counts"],
         &["--help", "x"],
         &["run", "D", "One"],
+        &["make", "One"],
     ];
     for words in wrong {
         check(&rt, alloc, (words, &[], SOUND), (2, "", "usage\n"))?;
@@ -290,6 +334,32 @@ fn each_call_that_fails_is_reported(rt: HostRuntime) -> Result<(), Fail> {
     }
     let usage = Faults { err: 1, ..SOUND };
     check(&rt, alloc, (&["none"], files, usage), (8, "", ""))
+}
+
+#[test]
+fn a_text_is_made_to_the_class_that_prints_a_sum(rt: HostRuntime) -> Result<(), Fail> {
+    let seen = make_over(&rt, rt.alloc(), ONE_TEXT, (0, 0))?;
+    assert_eq!(rt; seen.status, 0);
+    assert_eq!(rt; seen.out.as_slice(), ONE.as_slice());
+    assert_eq!(rt; seen.err.as_slice(), b"".as_slice());
+    Ok(())
+}
+
+#[test]
+fn what_make_cannot_do_is_said(rt: HostRuntime) -> Result<(), Fail> {
+    let cases = [
+        ("class A\nsuper B\nfoo\n", (0, 0), 11, "make: line 3\n"),
+        (ONE_TEXT, (1, 0), 7, "read fault\n"),
+        (ONE_TEXT, (2, 0), 7, "read fault\n"),
+        (ONE_TEXT, (0, 1), 8, "write fault\n"),
+    ];
+    for (text, faults, status, err) in cases {
+        let seen = make_over(&rt, rt.alloc(), text, faults)?;
+        assert_eq!(rt; seen.status, status);
+        assert_eq!(rt; seen.out.as_slice(), b"".as_slice());
+        assert_eq!(rt; seen.err.as_slice(), err.as_bytes());
+    }
+    Ok(())
 }
 
 #[test]

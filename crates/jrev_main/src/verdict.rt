@@ -1,16 +1,19 @@
 //! What the program answers to its words, before a byte of it is written.
 
-ghost use Rattle.std.specs.Prelude.{◌≡◌, ◌<◌, ◌↔◌, IsTrue, IfOk, None, map, string_bytes};
-ghost use Rattle.jrev_main.specs.Answer.{IsAnswer, IsPickAnswer};
-ghost use Rattle.jrev_main.specs.Headline.{AsksOnly};
-ghost use Rattle.jrev_main.specs.Loading.{Given, IsTold};
+ghost use Rattle.std.specs.Prelude.{◌≡◌, ◌<◌, ◌↔◌, ℕ, List, IsTrue, IfOk, None, map, string_bytes};
+ghost use Rattle.jrev_main.specs.Answer.{IsAnswer, IsPickAnswer, IsMakeAnswer};
+ghost use Rattle.jrev_main.specs.Headline.{AsksOnly, AsksFolder, ReadsInput, IsFaultOf};
+ghost use Rattle.jrev_main.specs.Loading.{Given, IsTold, IsInput, TakesAtMost};
 ghost use Rattle.jrev_main.specs.Verdict.{answer_of};
 
+use crate::input::read_up_to;
 use crate::loading::{Loaded, load};
 use crate::request::{Request, WordsRefusal, words_of};
+use assembly_text::MOST_BYTES;
+use class_make::{MakeRefusal, assemble};
 use class_read::{StraightRefusal, straight};
 use interp_local::run_straight;
-use jr_ports::{ClassDir, DirFault};
+use jr_ports::{ClassDir, DirFault, Source, SourceFault};
 use op_core::NoMemory;
 use rows::{Bytes, Rows};
 use std::alloc::Global;
@@ -26,6 +29,10 @@ pub enum Verdict {
     Refused(Bytes),
     /// The values that the program prints.
     Prints(Rows<i32>),
+    /// The class file that was made.
+    Made(Bytes),
+    /// The number of the line at which the text is refused.
+    NotMade(u32),
 }
 
 fn is_same(a: &[u8], b: &[u8]) -> bool
@@ -58,28 +65,90 @@ fn pick(alloc: Global, main: &Bytes, loaded: Loaded) -> Result<Verdict, DirFault
     }
 }
 
-/// The answer to the words, over what the folder gives.
+/// The answer of `make` to the text on the input.
 ///
-/// `Failed` comes only where the folder's count of faults rose in this call. The folder is asked for the one
-/// of the words alone.
-pub fn decide<D: ClassDir>(
+/// `Failed` comes only where the input's count of faults rose in this call.
+fn make<I: Source>(alloc: Global, input: &mut I) -> Result<Verdict, SourceFault>
+    ensures answer { IfOk result (λ verdict. (text : List ℕ) × IsInput (I.left input.old) text × IsMakeAnswer text (answer_of verdict)) }
+    ensures taken { TakesAtMost 1048577 (I.left input.old) (I.left input.new) }
+    ensures cause { result ≡ Err SourceFault.Failed → I.faults input.old < I.faults input.new }
+{
+    let text = read_up_to(alloc, input, MOST_BYTES + 1)?;
+    match assemble(alloc, &text) {
+        Ok(bytes) => Ok(Verdict::Made(Bytes::from_vec(bytes))),
+        Err(MakeRefusal::Line(number)) => Ok(Verdict::NotMade(number)),
+        Err(MakeRefusal::NoMemory) => Err(SourceFault::NoMemory),
+    }
+}
+
+/// Why the answer isn't known.
+#[derive(Clone, Copy, Debug, PartialEq, Eq)]
+pub enum Failure {
+    /// The folder or the input failed.
+    Failed,
+    /// There was no memory.
+    NoMemory,
+}
+
+impl From<DirFault> for Failure {
+    ghost use Rattle.std.specs.Prelude.{◌≡◌};
+    ghost use Rattle.jrev_main.specs.Failure.{of_folder};
+
+    ghost from_gives = { λ fault failure. failure ≡ of_folder fault };
+
+    fn from(fault: DirFault) -> Self {
+        match fault {
+            DirFault::Failed => Failure::Failed,
+            DirFault::NoMemory => Failure::NoMemory,
+        }
+    }
+}
+
+impl From<SourceFault> for Failure {
+    ghost use Rattle.std.specs.Prelude.{◌≡◌};
+    ghost use Rattle.jrev_main.specs.Failure.{of_input};
+
+    ghost from_gives = { λ fault failure. failure ≡ of_input fault };
+
+    fn from(fault: SourceFault) -> Self {
+        match fault {
+            SourceFault::Failed => Failure::Failed,
+            SourceFault::NoMemory => Failure::NoMemory,
+        }
+    }
+}
+
+/// The answer to the words, over what the folder and the input give.
+///
+/// `Failed` comes only where the folder's count of faults rose in this call, or under `make` that of the input. The
+/// folder is asked for the one of the words alone, and the input is read by `make` alone.
+pub fn decide<D: ClassDir, I: Source>(
     alloc: Global,
     words: &[String],
     classes: &mut D,
-) -> Result<Verdict, DirFault>
+    input: &mut I,
+) -> Result<Verdict, Failure>
     requires { D.asked classes.old ≡ None }
-    ensures answer { IfOk result (λ verdict. (given : Given) × IsTold (D.contents classes.old) given × IsAnswer (map string_bytes words.now) given (answer_of verdict)) }
-    ensures cause { result ≡ Err DirFault.Failed → D.faults classes.old < D.faults classes.new }
+    ensures answer { IfOk result (λ verdict. (given : Given) × (text : List ℕ) × IsTold (D.contents classes.old) given × IsInput (I.left input.old) text × IsAnswer (map string_bytes words.now) given text (answer_of verdict)) }
+    ensures cause { result ≡ Err Failure.Failed → IsFaultOf (map string_bytes words.now) (D.faults classes.old < D.faults classes.new) (I.faults input.old < I.faults input.new) }
     ensures asked { AsksOnly (map string_bytes words.now) (D.asked classes.new) }
+    ensures unasked { (AsksFolder (map string_bytes words.now) → ⊥) → classes.new ≡ classes.old }
+    ensures unread { (ReadsInput (map string_bytes words.now) → ⊥) → input.new ≡ input.old }
+    ensures taken { TakesAtMost 1048577 (I.left input.old) (I.left input.new) }
 {
     match words_of(alloc, words) {
         Ok(Request::Help) => Ok(Verdict::Help),
         Ok(Request::Version) => Ok(Verdict::Version),
         Ok(Request::Pick { dir, main }) => {
             let loaded = load(alloc, classes, dir.as_str())?;
-            pick(alloc, &main, loaded)
+            let verdict = pick(alloc, &main, loaded)?;
+            Ok(verdict)
+        }
+        Ok(Request::Make) => {
+            let verdict = make(alloc, input)?;
+            Ok(verdict)
         }
         Err(WordsRefusal::Usage) => Ok(Verdict::Usage),
-        Err(WordsRefusal::NoMemory) => Err(DirFault::NoMemory),
+        Err(WordsRefusal::NoMemory) => Err(Failure::NoMemory),
     }
 }

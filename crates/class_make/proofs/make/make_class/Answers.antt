@@ -1,4 +1,3 @@
-use Rattle.std.proofs.Common.{subst, List, ℕ}
 use Rattle.class_make.proofs.make.make_class.Goals as goal
 
 pub returns-clause-only : goal.returns-clause-only
