@@ -34,7 +34,7 @@ static FILE: [u8; 244] = [
 ];
 
 /// Texts, and the number of the first line that is refused.
-const REFUSED: [(&str, u32); 16] = [
+const REFUSED: [(&str, u32); 30] = [
     ("", 1),
     ("\n\n", 3),
     ("super A", 1),
@@ -54,6 +54,50 @@ const REFUSED: [(&str, u32); 16] = [
         4,
     ),
     ("class A\nmethod 1 m\u{e9} ()V", 2),
+    ("class A 65536", 1),
+    ("class A\nfield 1 f I = 2147483648", 2),
+    ("class A\nfield 1 f F = 1", 2),
+    (
+        "class A\nmethod 1 m ()V stack 0 locals 0\nbipush 128\nend",
+        3,
+    ),
+    (
+        "class A\nmethod 1 m ()V stack 0 locals 0\niload 256\nend",
+        3,
+    ),
+    (
+        "class A\nmethod 1 m ()V stack 0 locals 0\nwide iadd\nend",
+        3,
+    ),
+    ("class A\nmethod 1 m ()V stack 0 locals 0\nldc A\nend", 3),
+    (
+        "class A\nmethod 1 m ()V stack 0 locals 0\nnewarray float\nend",
+        3,
+    ),
+    (
+        "class A\nmethod 1 m ()V stack 0 locals 0\ninvokeinterface A m x\nend",
+        3,
+    ),
+    (
+        "class A\nmethod 1 m ()V stack 0 locals 0\na:\nlookupswitch a 1\nend",
+        4,
+    ),
+    (
+        "class A\nmethod 1 m ()V stack 0 locals 0\na:\nhandler a b a any\nend",
+        4,
+    ),
+    (
+        "class A\nmethod 1 m ()V stack 0 locals 0\nframe /\nframe /\nend",
+        4,
+    ),
+    (
+        "class A\nmethod 1 m ()V stack 0 locals 0\nframe new:a /\nend",
+        3,
+    ),
+    (
+        "class A\nmethod 1 m ()V stack 0 locals 0\nreturn\nend\nreturn",
+        5,
+    ),
 ];
 
 #[test]
