@@ -196,7 +196,7 @@ fn code_bytes(file: &ClassFile, method: usize) -> &[u8] {
 }
 
 /// Prints the code of each method that has one.
-pub fn show_codes<R: Print>(rt: &R, unit: &ClassUnit) -> io::Result<()> {
+pub(crate) fn show_codes<R: Print>(rt: &R, unit: &ClassUnit) -> io::Result<()> {
     for (method, code) in unit.codes.as_slice().iter().enumerate() {
         match code {
             Some(code) => {

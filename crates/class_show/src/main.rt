@@ -1,15 +1,16 @@
 //! `class_show FILE` prints what is read of a class file, or why it is refused.
 #![tactic(auto)]
 
-ghost use Rattle.std.specs.Prelude.{List, ℕ};
+ghost use Rattle.std.specs.Prelude.{◌↔◌, List, ℕ, IsTrue, IfOk};
 ghost use Rattle.class_read.specs.ClassFile.{IsFile};
 ghost use Rattle.code_decode.specs.Method.{StandsForFile};
+ghost use Rattle.class_show.specs.Accepted.{IsAccepted, HasCodes};
 
 mod code;
 
-use class_read::{ClassFile, Constant, Member, NameRefusal, read_class, text_of};
+use class_read::{ClassFile, Constant, Member, NameRefusal, ReadRefusal, read_class, text_of};
 use code::show_codes;
-use code_decode::{CodeAt, decode_class};
+use code_decode::{CodeAt, CodeRefusal, decode_class};
 use std::env;
 use std::fs::File;
 use std::io::{self, Read};
@@ -18,6 +19,10 @@ use std::rt::{Env, Files};
 
 /// How many bytes of a file are read at most: one more than a class file may have.
 const MOST_READ: u64 = 1_048_577;
+
+fn no_memory() -> io::Error {
+    io::Error::from(io::ErrorKind::OutOfMemory)
+}
 
 /// Prints the text of a Utf8 entry, with escapes.
 fn show_text<R: Print + AllocGlobal>(rt: &R, file: &ClassFile, index: u16) -> io::Result<()>
@@ -29,7 +34,7 @@ fn show_text<R: Print + AllocGlobal>(rt: &R, file: &ClassFile, index: u16) -> io
             println!(rt; "Utf8 {text:?}")
         }
         Err(NameRefusal::Bad) => println!(rt; "Utf8"),
-        Err(NameRefusal::NoMemory) => Err(io::Error::from(io::ErrorKind::OutOfMemory)),
+        Err(NameRefusal::NoMemory) => Err(no_memory()),
     }
 }
 
@@ -104,12 +109,19 @@ fn show<R: Print + AllocGlobal>(rt: &R, file: &ClassFile) -> io::Result<()>
 /// Prints the code of each method, and says whether it was accepted.
 fn show_decoded<R: Print + AllocGlobal>(rt: &R, file: ClassFile) -> io::Result<bool>
     requires { StandsForFile file }
+    ensures { IfOk result (λ accepted. IsTrue accepted ↔ HasCodes file) }
 {
     match decode_class(rt.alloc(), file) {
         Ok(unit) => {
             show_codes(rt, &unit)?;
             Ok(true)
         }
+        Err(
+            CodeAt {
+                refusal: CodeRefusal::NoMemory,
+                ..
+            },
+        ) => Err(no_memory()),
         Err(CodeAt { method, refusal }) => {
             println!(rt; "refused: method {method} {refusal}")?;
             Ok(false)
@@ -118,12 +130,15 @@ fn show_decoded<R: Print + AllocGlobal>(rt: &R, file: ClassFile) -> io::Result<b
 }
 
 /// Prints what is read of the bytes of a file, and says whether it was accepted.
-fn show_bytes<R: Print + AllocGlobal>(rt: &R, bytes: &[u8]) -> io::Result<bool> {
+fn show_bytes<R: Print + AllocGlobal>(rt: &R, bytes: &[u8]) -> io::Result<bool>
+    ensures { IfOk result (λ accepted. IsTrue accepted ↔ IsAccepted bytes.now) }
+{
     match read_class(rt.alloc(), bytes) {
         Ok(file) => {
             show(rt, &file)?;
             show_decoded(rt, file)
         }
+        Err(ReadRefusal::NoMemory) => Err(no_memory()),
         Err(refusal) => {
             println!(rt; "refused: {refusal}")?;
             Ok(false)
