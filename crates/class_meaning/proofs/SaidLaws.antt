@@ -1,21 +1,18 @@
 -- What the lines of a text say, where they say something.
-use Rattle.std.proofs.Common.{◌≡◌, ℕ, ◌+◌, ◌^◌, ◌<◌, ◌≤◌, inl, inr, Bool, true, false, MatchBool, ◌&&◌, List, [], ◌∷◌, Option, Some, None, refl, sym, subst, arith}
+use Rattle.std.proofs.Common.{◌≡◌, ℕ, ◌+◌, ◌^◌, ◌<◌, inl, inr, Bool, true, false, MatchBool, List, [], ◌∷◌, Option, Some, None, refl, sym, subst, arith}
 use Rattle.std.specs.List.{AllByRecursion}
-use Rattle.std.specs.Prelude.{nat_le}
-use Rattle.std.proofs.lemmas.Bool.{and_parts, leb-true}
 use Rattle.class_walk.specs.declared.class.Constant.{Constant}
 use Rattle.assembly_lines.specs.declared.line.FieldValue.{FieldValue}
 use Rattle.assembly_lines.specs.declared.line.Line.{Line}
 use Rattle.assembly_lines.specs.declared.line.Line.TheVariants as kinds
 use Rattle.assembly_lines.specs.declared.line.Room.{Room}
-use Rattle.assembly_lines.specs.Numbers.{has_no_leading_zero, are_digits, digits_value, number_up_to}
 use Rattle.assembly_lines.specs.Lines.{IsShort, IsLine}
 use Rattle.assembly_text.specs.declared.lines.Numbered.{Numbered}
 use Rattle.assembly_text.specs.TextLines.{SaysAt, is_passed, IsNext, AreNumbered}
 use Rattle.method_make.specs.Labels.{Marks, is_end}
 use Rattle.method_make.specs.Body.{MadeBody, step_of}
-use Rattle.method_make.proofs.StepLaws.{chosen}
 use Rattle.body_meaning.specs.Parts.{IsSaid}
+use Rattle.body_meaning.proofs.NumberLaws.{number_within}
 use Rattle.class_meaning.specs.Parts.{said_super, said_interface, said_field, said_method, super_named, interfaces_in, fields_in, methods_in}
 
 -- some bytes say this line, or it says nothing
@@ -47,13 +44,6 @@ all_said number at ((text, size) ∷ pieces) made is =
     said_by (is_passed (at + size) text) number (at + size) text (AreNumbered (number + 1) (at + size) pieces) made (λ others. all_said (number + 1) (at + size) pieces others) is
 
 -- ---- numbers
-
-number_within : (limit : ℕ) (bytes : List ℕ) (n : ℕ) → number_up_to limit bytes ≡ Some n → n ≤ limit
-number_within limit bytes n e =
-    let got = chosen (has_no_leading_zero bytes && are_digits bytes && nat_le (digits_value 0 bytes) limit) (digits_value 0 bytes) n e in
-    let tests = and_parts (has_no_leading_zero bytes && are_digits bytes) (nat_le (digits_value 0 bytes) limit) got.0 in
-    let le : digits_value 0 bytes ≤ limit = leb-true (digits_value 0 bytes) limit tests.1 in
-    omega (arith, got.1, le)
 
 short_number : (bytes : List ℕ) (n : ℕ) → IsShort bytes n → n < 2 ^ 16
 short_number bytes n is = omega (arith, number_within 65535 bytes n is)
