@@ -7,15 +7,15 @@ use Rattle.std.proofs.lemmas.List.{length-set, length-replicate, get_or_past, ge
 use Rattle.std.proofs.lemmas.Grind.{get_or-set_at}
 use Rattle.op_core.specs.OrdinaryState.{set_at, Object, HasWord, IsWaitingFor, Monitor, free, Waiting, Thread, live}
 use Rattle.op_core.proofs.PointwiseLemmas.{set_at-at, set_at-same}
-use Rattle.ordinary_machine.specs.declared.objects.MonitorState.{MonitorState}
-use Rattle.ordinary_machine.specs.declared.objects.MonitorState.TheVariants.{Free}
-use Rattle.ordinary_machine.specs.declared.threads.WaitState.TheVariants.{Awake}
-use Rattle.ordinary_machine.specs.declared.threads.Standing.TheVariants.{Live, Ended}
-use Rattle.ordinary_machine.specs.declared.objects.HeapObject.{HeapObject}
-use Rattle.ordinary_machine.specs.declared.threads.WaitState.{WaitState}
-use Rattle.ordinary_machine.specs.declared.threads.Standing.{Standing}
-use Rattle.ordinary_machine.specs.declared.threads.Seat.{Seat}
-use Rattle.ordinary_machine.specs.Tables.{header_of, monitor_of, monitor_in, started_in, word_in, objects_in, words_in, monitors_in, starts_in, waiting_of, standing_of, thread_in, waiting_state_in, silent_in, threads_in, waiting_in, silents_in}
+use Rattle.machine_tables.specs.declared.objects.MonitorState.{MonitorState}
+use Rattle.machine_tables.specs.declared.objects.MonitorState.TheVariants.{Free}
+use Rattle.machine_tables.specs.declared.threads.WaitState.TheVariants.{Awake}
+use Rattle.machine_tables.specs.declared.threads.Standing.TheVariants.{Live, Ended}
+use Rattle.machine_tables.specs.declared.objects.HeapObject.{HeapObject}
+use Rattle.machine_tables.specs.declared.threads.WaitState.{WaitState}
+use Rattle.machine_tables.specs.declared.threads.Standing.{Standing}
+use Rattle.machine_tables.specs.declared.threads.Seat.{Seat}
+use Rattle.machine_tables.specs.Tables.{header_of, monitor_of, monitor_in, started_in, word_in, objects_in, words_in, monitors_in, starts_in, waiting_of, standing_of, thread_in, waiting_state_in, silent_in, threads_in, waiting_in, silents_in}
 use Rattle.ordinary_machine.specs.Machine.{HasBegun}
 use Rattle.std.specs.Option.{option_map}
 

@@ -10,8 +10,8 @@ use Rattle.op_core.specs.declared.Limits.{Limits}
 use Rattle.op_core.specs.ThreadCode.{Code}
 use Rattle.op_core.specs.OrdinaryState.{Monitor, free, held, live, IsThere, IsOwner, IsOpenTo}
 use Rattle.op_core.specs.OrdinaryStep.{CanStep}
-use Rattle.ordinary_machine.specs.declared.objects.HeapObject.{HeapObject}
-use Rattle.ordinary_machine.specs.Tables.{header_of, monitor_in}
+use Rattle.machine_tables.specs.declared.objects.HeapObject.{HeapObject}
+use Rattle.machine_tables.specs.Tables.{header_of, monitor_in}
 use Rattle.ordinary_machine.specs.Machine.{Machine, HasBegun}
 use Rattle.ordinary_machine.specs.Advance.{OpMeets, IsWaiting, IsEnabled, LacksNumber}
 use Rattle.ordinary_machine.proofs.OutcomeLemmas.{Stands, one_wish, over_no_more, waiting_stands}

@@ -1,4 +1,3 @@
-pub mod TableLemmas
 pub mod ChangeLemmas
 pub mod MachineLemmas
 pub mod OperationLemmas

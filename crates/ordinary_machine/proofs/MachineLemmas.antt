@@ -1,10 +1,10 @@
 -- Changes of the machine, from those of its tables.
 use Rattle.std.proofs.Common.{◌≡◌, ℕ, Option}
 use Rattle.op_core.specs.OrdinaryState.{Object, Monitor, Waiting, Thread}
-use Rattle.ordinary_machine.specs.declared.objects.Objects.{Objects}
-use Rattle.ordinary_machine.specs.declared.threads.Threads.{Threads}
+use Rattle.machine_tables.specs.declared.objects.Objects.{Objects}
+use Rattle.machine_tables.specs.declared.threads.Threads.{Threads}
 use Rattle.ordinary_machine.specs.declared.ordinary.Ordinary.{Ordinary}
-use Rattle.ordinary_machine.specs.Tables.{object_at, seat_at}
+use Rattle.machine_tables.specs.Tables.{object_at, seat_at}
 use Rattle.ordinary_machine.specs.Machine.{machine_of}
 use Rattle.ordinary_machine.proofs.ChangeLemmas.{Parts, ThreadParts}
 

@@ -8,13 +8,13 @@ use Rattle.std.specs.List.{list_any}
 use Rattle.std.specs.Option.{option_map}
 use Rattle.op_core.specs.OrdinaryState.{set_at, free, awake, ClassState, unready, ready, unused, live}
 use Rattle.op_core.proofs.PointwiseLemmas.{set_at-same}
-use Rattle.ordinary_machine.specs.declared.objects.HeapObject.{HeapObject}
-use Rattle.ordinary_machine.specs.declared.threads.WaitState.TheVariants.{Awake}
-use Rattle.ordinary_machine.specs.declared.threads.Standing.TheVariants.{Live}
-use Rattle.ordinary_machine.specs.declared.threads.Seat.{Seat}
+use Rattle.machine_tables.specs.declared.objects.HeapObject.{HeapObject}
+use Rattle.machine_tables.specs.declared.threads.WaitState.TheVariants.{Awake}
+use Rattle.machine_tables.specs.declared.threads.Standing.TheVariants.{Live}
+use Rattle.machine_tables.specs.declared.threads.Seat.{Seat}
 use Rattle.ordinary_machine.specs.declared.ordinary.Ordinary.{Ordinary}
 use Rattle.ordinary_machine.specs.declared.start.FixedObject.{FixedObject}
-use Rattle.ordinary_machine.specs.Tables.{header_of, monitor_in, started_in, word_in, objects_in, words_in, monitors_in, starts_in, classes_in, object_at, seat_at}
+use Rattle.machine_tables.specs.Tables.{header_of, monitor_in, started_in, word_in, objects_in, words_in, monitors_in, starts_in, classes_in, object_at, seat_at}
 use Rattle.ordinary_machine.specs.Machine.{machine_of}
 use Rattle.ordinary_machine.specs.Start.{fixed_at, fixed_header, fixed_word, heap_object, class_at_start, start_of}
 use Rattle.ordinary_machine.proofs.ChangeLemmas.{Parts, ThreadParts, thread_begun}

@@ -1,4 +1,3 @@
-pub mod Tables
 pub mod Machine
 pub mod Step
 pub mod Start

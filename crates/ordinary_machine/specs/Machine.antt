@@ -9,7 +9,7 @@ use Rattle.op_core.specs.ThreadCode.{Code}
 use Rattle.op_core.specs.OrdinaryState.{set_at, free, Monitor, Waiting, ClassState, Thread, unused, live, ended, OrdinaryState}
 use Rattle.op_core.specs.OrdinaryStep.{objects_after, words_after, monitors_after, waiting_after, classes_after, starts_after, lines_after, after}
 use Rattle.ordinary_machine.specs.declared.ordinary.Ordinary.{Ordinary}
-use Rattle.ordinary_machine.specs.Tables.{object_at, objects_in, words_in, monitors_in, starts_in, classes_in, seat_at, threads_in, waiting_in, silents_in}
+use Rattle.machine_tables.specs.Tables.{object_at, objects_in, words_in, monitors_in, starts_in, classes_in, seat_at, threads_in, waiting_in, silents_in}
 
 pub record Machine (S : Type 0) : Type 0 where
   pub now : OrdinaryState S

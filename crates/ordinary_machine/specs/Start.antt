@@ -3,8 +3,8 @@ use Rattle.std.specs.Prelude.{◌==◌, ℕ, Option, None, Some, List, [], find,
 use Rattle.std.specs.List.{list_any}
 use Rattle.std.specs.Option.{option_map}
 use Rattle.op_core.specs.OrdinaryState.{set_at, Object, free, awake, ClassState, unready, ready, unused, live}
-use Rattle.ordinary_machine.specs.declared.objects.MonitorState.TheVariants.{Free}
-use Rattle.ordinary_machine.specs.declared.objects.HeapObject.{HeapObject}
+use Rattle.machine_tables.specs.declared.objects.MonitorState.TheVariants.{Free}
+use Rattle.machine_tables.specs.declared.objects.HeapObject.{HeapObject}
 use Rattle.ordinary_machine.specs.declared.start.FixedObject.{FixedObject}
 use Rattle.ordinary_machine.specs.Machine.{Machine}
 

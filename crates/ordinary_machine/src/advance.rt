@@ -5,7 +5,8 @@ ghost use Rattle.ordinary_machine.specs.Machine.{machine_of, moved, with_thread_
 ghost use Rattle.op_core.specs.declared.Limit.{Limit};
 ghost use Rattle.ordinary_machine.specs.Advance.{IsOutOfNumbers, OpMeets, IsLowest, Advances, IsEnabled, LacksNumber, LacksReference};
 
-use crate::{ClassProgress, MonitorState, Ordinary, Standing};
+use crate::Ordinary;
+use machine_tables::{ClassProgress, Standing};
 use op_core::{Event, Limit, Limits, Next, NoMemory, Op, Reply, ThreadCode, after_silent_steps};
 
 /// What a thread did, or why it did nothing.

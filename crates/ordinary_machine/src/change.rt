@@ -1,10 +1,11 @@
 ghost use Rattle.std.specs.Prelude.{◌≡◌, ◌<◌, OnOk, OnErr, IsNone, IfOk, ◌+◌};
 ghost use Rattle.op_core.specs.OrdinaryStep.{IsFreeNumber};
 ghost use Rattle.op_core.specs.OrdinaryState.{IsThere, HasWord, live};
-ghost use Rattle.ordinary_machine.specs.Tables.{seat_at, monitor_of, waiting_of, class_state_of, standing_of};
+ghost use Rattle.machine_tables.specs.Tables.{seat_at, monitor_of, waiting_of, class_state_of, standing_of};
 ghost use Rattle.ordinary_machine.specs.Machine.{machine_of, with_new_object, with_word_at, with_monitor_at, with_started_at, with_waiting_at, with_class_at, with_line, with_thread_at, HasBegun};
 
-use crate::{ClassProgress, HeapObject, MonitorState, Ordinary, Seat, Standing, WaitState, Words};
+use crate::Ordinary;
+use machine_tables::{ClassProgress, HeapObject, MonitorState, Seat, Standing, WaitState, Words};
 use op_core::{Line, NoMemory, ThreadCode};
 
 impl<C: ThreadCode + Drop> Ordinary<C> {

@@ -3,34 +3,26 @@
 //!
 //! An [`Ordinary`] holds what threads share and where each thread stands. [`Ordinary::step`] makes the
 //! step of one event of a journal, or says why the event is none; [`Ordinary::replay`] makes those of
-//! a list. [`Ordinary::advance`] makes a thread's next step of its own accord. `specs/` says what a
-//! machine's tables mean: an ordinary state of `op_core`, with three counts beside it. [`laws`] says
-//! what follows: at most one thing comes of an event, `advance` has one answer, and what it answers
-//! is an execution.
+//! a list. [`Ordinary::advance`] makes a thread's next step of its own accord. `specs/` says what the
+//! tables of `machine_tables` mean together: an ordinary state of `op_core`, with three counts beside
+//! it. [`laws`] says what follows: at most one thing comes of an event, `advance` has one answer, and
+//! what it answers is an execution.
 #![tactic(auto)]
 
 mod advance;
 mod change;
-mod classes;
 pub mod laws;
-mod objects;
 mod operations;
 mod ordinary;
 mod replay;
 mod start;
 mod step;
-mod threads;
-mod words;
 
 pub use advance::Advance;
-use classes::{ClassProgress, Classes};
-use objects::{HeapObject, MonitorState, Objects};
 pub use ordinary::Ordinary;
 pub use replay::ReplayRefusal;
 pub use start::FixedObject;
 pub use step::StepRefusal;
-use threads::{Seat, Standing, Threads, WaitState};
-use words::Words;
 
 #[cfg(test)]
 mod tests;

@@ -3,7 +3,8 @@ ghost use Rattle.op_core.specs.OrdinaryState.{IsThere, HasWord};
 ghost use Rattle.op_core.specs.OrdinaryStep.{CanStep, MayAnswer};
 ghost use Rattle.ordinary_machine.specs.Machine.{machine_of, shared_after, moved, woken_of, HasBegun};
 
-use crate::{ClassProgress, MonitorState, Ordinary, Standing, WaitState};
+use crate::Ordinary;
+use machine_tables::{ClassProgress, MonitorState, Standing, WaitState};
 use op_core::{Next, NoMemory, Op, Reply, ThreadCode};
 
 // The thread that was notified, or 0.

@@ -3,7 +3,7 @@ ghost use Rattle.op_core.specs.OrdinaryState.{IsThere, HasEnded, ended};
 ghost use Rattle.op_core.specs.OrdinaryStep.{CanStep, MayAnswer, IsFreeNumber};
 ghost use Rattle.ordinary_machine.specs.Machine.{machine_of, HasBegun};
 
-use crate::{ClassProgress, Classes, Objects, Standing, Threads};
+use machine_tables::{ClassProgress, Classes, Objects, Standing, Threads};
 use op_core::{Line, Op, Reply, Rows, ThreadCode, ThreadEnd};
 use std::alloc::Global;
 

@@ -1,15 +1,16 @@
 ghost use Rattle.std.specs.Prelude.{◌≡◌, IfOk, Some, None};
 ghost use Rattle.std.specs.Option.{option_map};
 ghost use Rattle.op_core.specs.OrdinaryState.{set_at};
-ghost use Rattle.ordinary_machine.specs.declared.threads.WaitState.TheVariants.{Awake};
-ghost use Rattle.ordinary_machine.specs.declared.threads.Standing.TheVariants.{Live};
-ghost use Rattle.ordinary_machine.specs.Tables.{object_at, classes_in, seat_at};
+ghost use Rattle.machine_tables.specs.declared.threads.WaitState.TheVariants.{Awake};
+ghost use Rattle.machine_tables.specs.declared.threads.Standing.TheVariants.{Live};
+ghost use Rattle.machine_tables.specs.Tables.{object_at, classes_in, seat_at};
 ghost use Rattle.ordinary_machine.specs.Machine.{machine_of};
 ghost use Rattle.ordinary_machine.specs.Start.{fixed_at, heap_object, class_at_start, start_of};
 
-use crate::{
-    ClassProgress, Classes, HeapObject, MonitorState, Objects, Ordinary, Seat, Standing, Threads,
-    WaitState, Words,
+use crate::Ordinary;
+use machine_tables::{
+    ClassProgress, Classes, HeapObject, MonitorState, Objects, Seat, Standing, Threads, WaitState,
+    Words,
 };
 use op_core::{NoMemory, Rows, ThreadCode};
 use std::alloc::Global;

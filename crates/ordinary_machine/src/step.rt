@@ -4,7 +4,8 @@ ghost use Rattle.op_core.specs.OrdinaryState.{live};
 ghost use Rattle.ordinary_machine.specs.Machine.{machine_of};
 ghost use Rattle.ordinary_machine.specs.Step.{without_line, IsLive, IsNext, IsStepTo, Refuses};
 
-use crate::{Ordinary, Standing};
+use crate::Ordinary;
+use machine_tables::Standing;
 use op_core::{Event, Line, Next, NoMemory, Op, ThreadCode, after_silent_steps};
 
 /// Why an event isn't the next step of an execution, the first cause in this order.

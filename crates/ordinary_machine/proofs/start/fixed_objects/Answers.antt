@@ -2,9 +2,9 @@ use Rattle.std.proofs.Common.{◌≡◌, Some, length, take, ap, ◌∙◌, arit
 use Rattle.std.proofs.Math.Seq.{take-length}
 use Rattle.std.specs.Option.{option_map}
 use Rattle.op_core.specs.OrdinaryState.{set_at}
-use Rattle.ordinary_machine.specs.declared.objects.MonitorState.TheVariants.{Free}
+use Rattle.machine_tables.specs.declared.objects.MonitorState.TheVariants.{Free}
 use Rattle.ordinary_machine.specs.declared.start.FixedObject.{FixedObject}
-use Rattle.ordinary_machine.specs.Tables.{object_at}
+use Rattle.machine_tables.specs.Tables.{object_at}
 use Rattle.ordinary_machine.specs.Start.{fixed_at, heap_object}
 use Rattle.ordinary_machine.proofs.StartLemmas.{fixed_next}
 use Rattle.ordinary_machine.proofs.start.fixed_objects.Goals as goal

@@ -1,6 +1,6 @@
 use Rattle.std.proofs.Common.{◌≡◌, take}
 use Rattle.std.specs.Option.{option_map}
-use Rattle.ordinary_machine.specs.Tables.{object_at}
+use Rattle.machine_tables.specs.Tables.{object_at}
 use Rattle.ordinary_machine.specs.Start.{fixed_at, heap_object}
 use Rattle.ordinary_machine.proofs.start.fixed_objects.Given as goal
 

@@ -1,4 +1,4 @@
-use Rattle.ordinary_machine.specs.Tables.{classes_in}
+use Rattle.machine_tables.specs.Tables.{classes_in}
 use Rattle.ordinary_machine.proofs.StartLemmas.{ready_next}
 use Rattle.ordinary_machine.proofs.start.ready_classes.Goals as goal
 

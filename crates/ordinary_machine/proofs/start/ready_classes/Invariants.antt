@@ -1,5 +1,5 @@
 use Rattle.std.proofs.Common.{◌≡◌, take}
-use Rattle.ordinary_machine.specs.Tables.{classes_in}
+use Rattle.machine_tables.specs.Tables.{classes_in}
 use Rattle.ordinary_machine.specs.Start.{class_at_start}
 use Rattle.ordinary_machine.proofs.start.ready_classes.Given as goal
 

@@ -1,7 +1,7 @@
 use Rattle.std.proofs.Common.{subst, sym}
 use Rattle.op_core.specs.OrdinaryState.{IsThere}
 use Rattle.ordinary_machine.specs.Machine.{Machine, HasBegun}
-use Rattle.ordinary_machine.specs.Tables.{threads_in, seat_at}
+use Rattle.machine_tables.specs.Tables.{threads_in, seat_at}
 use Rattle.ordinary_machine.proofs.ChangeLemmas.{begun_after}
 use Rattle.ordinary_machine.proofs.ordinary.Ordinary.begin.Goals as goal
 

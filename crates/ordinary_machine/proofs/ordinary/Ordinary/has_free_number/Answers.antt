@@ -1,4 +1,4 @@
-use Rattle.ordinary_machine.proofs.TableLemmas.{free_numbers}
+use Rattle.machine_tables.proofs.TableLemmas.{free_numbers}
 use Rattle.ordinary_machine.proofs.ordinary.Ordinary.has_free_number.Goals as goal
 
 pub returns : goal.returns

@@ -1,6 +1,6 @@
 use Rattle.std.proofs.Common.{sym, ◌∙◌}
 use Rattle.std.proofs.lemmas.Bool.{false≢true}
-use Rattle.ordinary_machine.specs.Tables.{object_at}
+use Rattle.machine_tables.specs.Tables.{object_at}
 use Rattle.ordinary_machine.specs.Machine.{machine_of}
 use Rattle.ordinary_machine.proofs.EnabledLemmas.{owner_there, lacking_enabled}
 use Rattle.ordinary_machine.proofs.ordinary.Ordinary.is_enabled.Goals as goal

@@ -1,5 +1,5 @@
-use Rattle.ordinary_machine.specs.Tables.{seat_at}
-use Rattle.ordinary_machine.proofs.TableLemmas.{thread_in-unused}
+use Rattle.machine_tables.specs.Tables.{seat_at}
+use Rattle.machine_tables.proofs.TableLemmas.{thread_in-unused}
 use Rattle.ordinary_machine.proofs.ChangeLemmas.{thread_begun}
 use Rattle.ordinary_machine.proofs.MachineLemmas.{with_threads}
 use Rattle.ordinary_machine.proofs.ordinary.Ordinary.put_new_thread.Goals as goal

@@ -1,7 +1,7 @@
 use Rattle.std.proofs.Common.{ap, ◌∙◌, Some}
 use Rattle.op_core.specs.OrdinaryState.{set_at}
-use Rattle.ordinary_machine.specs.declared.objects.MonitorState.TheVariants.{Free}
-use Rattle.ordinary_machine.specs.Tables.{object_at}
+use Rattle.machine_tables.specs.declared.objects.MonitorState.TheVariants.{Free}
+use Rattle.machine_tables.specs.Tables.{object_at}
 use Rattle.ordinary_machine.specs.Machine.{machine_of, with_new_object}
 use Rattle.ordinary_machine.proofs.ChangeLemmas.{object_added}
 use Rattle.ordinary_machine.proofs.MachineLemmas.{with_objects}

@@ -1,4 +1,4 @@
-use Rattle.ordinary_machine.specs.Tables.{seat_at}
+use Rattle.machine_tables.specs.Tables.{seat_at}
 use Rattle.ordinary_machine.proofs.ChangeLemmas.{waiting_changed, begun_seat}
 use Rattle.ordinary_machine.proofs.MachineLemmas.{with_threads}
 use Rattle.ordinary_machine.proofs.ordinary.Ordinary.put_waiting.Goals as goal
@@ -9,4 +9,4 @@ returns g c =
     let now = c.args.self.now in
     let new = c.set_waiting.new.self in
     let begun = begun_seat state (seat_at now.threads c.args.thread) c.requires in
-    with_threads state now new (waiting_changed state (seat_at now.threads) (seat_at new) c.args.thread c.args.waiting begun c.set_waiting.ensures)
+    with_threads state now new (waiting_changed state (seat_at now.threads) (seat_at new) c.args.thread c.args.waiting begun c.set_waiting.ensures.there)

@@ -1,4 +1,4 @@
-use Rattle.ordinary_machine.specs.Tables.{object_at}
+use Rattle.machine_tables.specs.Tables.{object_at}
 use Rattle.ordinary_machine.proofs.ChangeLemmas.{word_changed}
 use Rattle.ordinary_machine.proofs.MachineLemmas.{with_objects}
 use Rattle.ordinary_machine.proofs.ordinary.Ordinary.put_word.Goals as goal
@@ -8,4 +8,4 @@ returns g c =
     let now = c.args.self.now in
     let new = c.set_word.new.self in
     with_objects g.C.ThreadCode.state now new
-    (word_changed (object_at now.objects) (object_at new) c.args.reference c.args.place c.args.value c.requires c.set_word.ensures)
+    (word_changed (object_at now.objects) (object_at new) c.args.reference c.args.place c.args.value c.requires c.set_word.ensures.there)

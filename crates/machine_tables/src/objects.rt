@@ -2,17 +2,19 @@ ghost use Rattle.std.specs.Prelude.{◌≡◌, ◌<◌, OnOk, OnErr, Some, None,
 ghost use Rattle.std.specs.Prelude.{◌↔◌, ◌+◌, ◌^◌, ◌≤◌, IsTrue, true, MatchOption};
 ghost use Rattle.std.specs.Option.{option_copied};
 ghost use Rattle.op_core.specs.OrdinaryState.{set_at, free, IsThere, HasWord, IsOfClass, IsOwner, IsOpenTo, entered, left_once, count_of};
-ghost use Rattle.ordinary_machine.specs.Tables.{object_at, monitor_of, objects_in, words_in, monitors_in, starts_in};
+ghost use Rattle.machine_tables.specs.Tables.{object_at, monitor_of, objects_in, words_in, monitors_in, starts_in};
 
 use crate::Words;
 use op_core::NoMemory;
 use std::alloc::Global;
 use std::collections::HashMap;
 
-/// A monitor is free, or held by a thread that entered it so many times (JLS 17.1).
+/// The state of an object's monitor (JLS 17.1).
 #[derive(Clone, Copy, PartialEq, Eq, Debug)]
 pub enum MonitorState {
+    /// No thread owns it.
     Free,
+    /// The number of the thread that owns it, and how many times that thread has entered it.
     Held(u8, u64),
 }
 
@@ -44,7 +46,9 @@ impl MonitorState {
         }
     }
 
-    /// Entered once more by a thread to which it is open, or `None` where the count has no room.
+    /// Entered once more, by a thread to which it is open (`monitorenter`, JVMS 6.5): a free monitor is then
+    /// held by the thread, and one that is held keeps its owner. `None` exactly where the count is the largest
+    /// `u64`.
     pub fn entered(self, thread: u8) -> Option<MonitorState>
         ensures { MatchOption result (2 ^ 64 ≤ count_of (monitor_of self) + 1) (λ monitor. monitor_of monitor ≡ entered thread (monitor_of self)) }
     {
@@ -57,7 +61,7 @@ impl MonitorState {
         }
     }
 
-    /// Left once.
+    /// Left once (`monitorexit`, JVMS 6.5): free at the last time. A free monitor stays free.
     pub fn left_once(self) -> MonitorState
         ensures { monitor_of result ≡ left_once (monitor_of self) }
     {
@@ -67,7 +71,7 @@ impl MonitorState {
         }
     }
 
-    /// How many times its owner has entered it.
+    /// How many times its owner has entered it, 0 where it is free.
     pub fn count(self) -> u64
         ensures { result ≡ count_of (monitor_of self) }
     {
@@ -78,24 +82,30 @@ impl MonitorState {
     }
 }
 
-/// An object, its monitor, and the number of the thread that it started (0 where it started none).
+/// An object of the heap (JVMS 2.5.3), with what threads share of it.
 #[derive(Debug, Drop)]
 pub struct HeapObject {
+    /// The number of its class.
     pub class: u32,
+    /// An array's length, 0 for an object that is no array.
     pub length: u32,
+    /// Its words. Class and length don't tell how many they are.
     pub words: Words,
+    /// Its monitor.
     pub monitor: MonitorState,
+    /// The number of the thread that it started, or 0 where it has started none.
     pub started: u8,
 }
 
-/// Objects by reference.
+/// The objects that are there, by reference. Contracts see the object of each reference, `None` where there is
+/// none (`object_at`).
 #[derive(Debug, Drop)]
 pub struct Objects {
     table: HashMap<u32, HeapObject>,
 }
 
 impl Objects {
-    /// No objects.
+    /// No objects. Takes no memory.
     pub fn new(alloc: Global) -> Self
         ensures { object_at result ≡ (λ _. None) }
     {
@@ -104,7 +114,7 @@ impl Objects {
         }
     }
 
-    /// The object of a reference.
+    /// The object of a reference, or `None` where there is none.
     pub fn get(&self, reference: u32) -> Option<&HeapObject>
         ensures { option_copied result ≡ object_at self.now reference }
     {
@@ -118,7 +128,7 @@ impl Objects {
         self.get(reference).is_some()
     }
 
-    /// Whether a place is one of the words of an object.
+    /// Whether the object is there and has a word at the place.
     pub fn has_word(&self, reference: u32, place: u32) -> bool
         ensures { IsTrue result ↔ HasWord (objects_in (object_at self.now)) reference place }
     {
@@ -128,7 +138,7 @@ impl Objects {
         }
     }
 
-    /// Whether an object is of a class and has a length.
+    /// Whether the object is there, of this class and with this length.
     pub fn is_of_class(&self, reference: u32, class: u32, length: u32) -> bool
         ensures { IsTrue result ↔ IsOfClass (objects_in (object_at self.now)) reference class length }
     {
@@ -138,7 +148,7 @@ impl Objects {
         }
     }
 
-    /// A word of an object, or 0 where there is none.
+    /// The word of an object at a place, or 0 where no object or no such word is there.
     pub fn word(&self, reference: u32, place: u32) -> u32
         ensures { result ≡ words_in (object_at self.now) reference place }
     {
@@ -158,7 +168,7 @@ impl Objects {
         }
     }
 
-    /// The number of the thread that an object started, or 0.
+    /// The number of the thread that an object started, or 0 where it has started none or isn't there.
     pub fn started(&self, reference: u32) -> u8
         ensures { result ≡ starts_in (object_at self.now) reference }
     {
@@ -168,7 +178,7 @@ impl Objects {
         }
     }
 
-    /// Whether no thread owns the monitor of an object.
+    /// Whether no thread owns the monitor of an object, as where no object is there.
     pub fn is_free(&self, reference: u32) -> bool
         ensures { IsTrue result ↔ (monitors_in (object_at self.now) reference ≡ free) }
     {
@@ -182,14 +192,15 @@ impl Objects {
         self.monitor(reference).is_owned_by(thread)
     }
 
-    /// Whether a thread can enter the monitor of an object.
+    /// Whether a thread can enter the monitor of an object: no other thread owns it (JLS 17.1).
     pub fn is_open_to(&self, thread: u8, reference: u32) -> bool
         ensures { IsTrue result ↔ IsOpenTo thread (monitors_in (object_at self.now) reference) }
     {
         self.monitor(reference).is_open_to(thread)
     }
 
-    /// Puts an object at a reference. Without memory for it, nothing changes.
+    /// Puts an object at a reference, in place of the one that was there. Without memory for it the table is
+    /// as before, and the object is dropped.
     pub fn insert(&mut self, reference: u32, object: HeapObject) -> Result<(), NoMemory>
         ensures ok { OnOk result (object_at self.new ≡ set_at (object_at self.old) reference (Some object)) }
         ensures err { OnErr result (object_at self.new ≡ object_at self.old) }
@@ -200,27 +211,32 @@ impl Objects {
         }
     }
 
-    /// Gives an object that is there another monitor.
+    /// Gives the object of a reference another monitor. Where none is there, nothing changes.
     pub fn set_monitor(&mut self, reference: u32, monitor: MonitorState)
-        ensures { (x : _) → object_at self.old reference ≡ Some x → object_at self.new ≡ set_at (object_at self.old) reference (Some (record x { monitor = monitor })) }
+        ensures there { (x : _) → object_at self.old reference ≡ Some x → object_at self.new ≡ set_at (object_at self.old) reference (Some (record x { monitor = monitor })) }
+        ensures absent { object_at self.old reference ≡ None → object_at self.new ≡ object_at self.old }
     {
         if let Some(object) = self.table.get_mut(&reference) {
             object.monitor = monitor;
         }
     }
 
-    /// Notes the thread that an object that is there started.
+    /// Notes the number of the thread that the object of a reference started. Where none is there, nothing
+    /// changes.
     pub fn set_started(&mut self, reference: u32, started: u8)
-        ensures { (x : _) → object_at self.old reference ≡ Some x → object_at self.new ≡ set_at (object_at self.old) reference (Some (record x { started = started })) }
+        ensures there { (x : _) → object_at self.old reference ≡ Some x → object_at self.new ≡ set_at (object_at self.old) reference (Some (record x { started = started })) }
+        ensures absent { object_at self.old reference ≡ None → object_at self.new ≡ object_at self.old }
     {
         if let Some(object) = self.table.get_mut(&reference) {
             object.started = started;
         }
     }
 
-    /// Writes a word of an object that is there.
+    /// Writes the word at a place of the object of a reference. Where no object or no such word is there,
+    /// nothing changes.
     pub fn set_word(&mut self, reference: u32, place: u32, value: u32)
-        ensures { (x : _) → object_at self.old reference ≡ Some x → object_at self.new ≡ set_at (object_at self.old) reference (Some (record x { words = slice_set x.words place value })) }
+        ensures there { (x : _) → object_at self.old reference ≡ Some x → object_at self.new ≡ set_at (object_at self.old) reference (Some (record x { words = slice_set x.words place value })) }
+        ensures absent { object_at self.old reference ≡ None → object_at self.new ≡ object_at self.old }
     {
         if let Some(object) = self.table.get_mut(&reference) {
             object.words.set(place, value);

@@ -1,6 +1,6 @@
 ghost use Rattle.std.specs.Prelude.{◌≡◌, ◌↔◌, OnOk, OnErr, IsTrue};
 ghost use Rattle.op_core.specs.OrdinaryState.{set_at, unready};
-ghost use Rattle.ordinary_machine.specs.Tables.{class_state_of, classes_in};
+ghost use Rattle.machine_tables.specs.Tables.{class_state_of, classes_in};
 
 use op_core::NoMemory;
 use std::alloc::Global;
@@ -9,20 +9,25 @@ use std::collections::HashMap;
 /// How far a class's initialization is (JLS 12.4.2).
 #[derive(Clone, Copy, PartialEq, Eq, Debug)]
 pub enum ClassProgress {
+    /// It has not begun.
     Unready,
+    /// The thread of this number is at it.
     Claimed(u8),
+    /// The class is initialized.
     Ready,
+    /// It failed, and isn't tried again.
     Bad,
 }
 
-/// Classes by number. A class that isn't in the table is unready.
+/// How far the initialization of each class is, by the class's number. Contracts see it as a function
+/// (`classes_in`). A class that was never set is unready.
 #[derive(Debug, Drop)]
 pub struct Classes {
     table: HashMap<u32, ClassProgress>,
 }
 
 impl Classes {
-    /// No class has begun its initialization.
+    /// No class has begun its initialization. Takes no memory.
     pub fn new(alloc: Global) -> Self
         ensures { classes_in result ≡ (λ _. unready) }
     {
@@ -51,7 +56,7 @@ impl Classes {
         }
     }
 
-    /// Notes how far the initialization of a class is. Without memory for it, nothing changes.
+    /// Notes how far the initialization of a class is. Without memory for it the table is as before.
     pub fn set(&mut self, class: u32, progress: ClassProgress) -> Result<(), NoMemory>
         ensures ok { OnOk result (classes_in self.new ≡ set_at (classes_in self.old) class (class_state_of progress)) }
         ensures err { OnErr result (classes_in self.new ≡ classes_in self.old) }

@@ -3,19 +3,19 @@ use Rattle.std.specs.Prelude.{Bool, true, false, ◌≤◌, IsNone, ℕ, ◌&&�
 use Rattle.std.specs.Option.{option_map}
 use Rattle.std.specs.HashMap.{get}
 use Rattle.op_core.specs.OrdinaryState.{Object, Monitor, free, held, Waiting, awake, waits, notified, ClassState, unready, claimed, ready, bad, Thread, unused, live, ended}
-use Rattle.ordinary_machine.specs.declared.objects.MonitorState.{MonitorState}
-use Rattle.ordinary_machine.specs.declared.objects.MonitorState.TheVariants.{Free, Held}
-use Rattle.ordinary_machine.specs.declared.objects.HeapObject.{HeapObject}
-use Rattle.ordinary_machine.specs.declared.objects.Objects.{Objects}
-use Rattle.ordinary_machine.specs.declared.classes.ClassProgress.{ClassProgress}
-use Rattle.ordinary_machine.specs.declared.classes.ClassProgress.TheVariants.{Unready, Claimed, Ready, Bad}
-use Rattle.ordinary_machine.specs.declared.classes.Classes.{Classes}
-use Rattle.ordinary_machine.specs.declared.threads.WaitState.{WaitState}
-use Rattle.ordinary_machine.specs.declared.threads.WaitState.TheVariants.{Awake, Waits, Notified}
-use Rattle.ordinary_machine.specs.declared.threads.Standing.{Standing}
-use Rattle.ordinary_machine.specs.declared.threads.Standing.TheVariants.{Live, Ended}
-use Rattle.ordinary_machine.specs.declared.threads.Seat.{Seat}
-use Rattle.ordinary_machine.specs.declared.threads.Threads.{Threads}
+use Rattle.machine_tables.specs.declared.objects.MonitorState.{MonitorState}
+use Rattle.machine_tables.specs.declared.objects.MonitorState.TheVariants.{Free, Held}
+use Rattle.machine_tables.specs.declared.objects.HeapObject.{HeapObject}
+use Rattle.machine_tables.specs.declared.objects.Objects.{Objects}
+use Rattle.machine_tables.specs.declared.classes.ClassProgress.{ClassProgress}
+use Rattle.machine_tables.specs.declared.classes.ClassProgress.TheVariants.{Unready, Claimed, Ready, Bad}
+use Rattle.machine_tables.specs.declared.classes.Classes.{Classes}
+use Rattle.machine_tables.specs.declared.threads.WaitState.{WaitState}
+use Rattle.machine_tables.specs.declared.threads.WaitState.TheVariants.{Awake, Waits, Notified}
+use Rattle.machine_tables.specs.declared.threads.Standing.{Standing}
+use Rattle.machine_tables.specs.declared.threads.Standing.TheVariants.{Live, Ended}
+use Rattle.machine_tables.specs.declared.threads.Seat.{Seat}
+use Rattle.machine_tables.specs.declared.threads.Threads.{Threads}
 
 -- the object that a reference names
 abbrev pub object_at : Objects → ℕ → Option HeapObject

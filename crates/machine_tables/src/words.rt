@@ -4,7 +4,8 @@ use op_core::NoMemory;
 use std::alloc::Global;
 use std::marker::Model;
 
-/// The 32-bit words of an object, by place.
+/// The 32-bit words of an object, by place from 0: its fields or elements, of which a `long` takes two words
+/// (JLS 17.7), or the static fields of a class where the object is the class's. Contracts see the list of them.
 #[derive(Debug, Drop)]
 pub struct Words {
     words: Vec<u32>,
@@ -19,7 +20,7 @@ impl Model for Words {
 }
 
 impl Words {
-    /// A copy of some words.
+    /// A copy of some words, or an error where there is no memory for it.
     pub fn copy_of(alloc: Global, words: &[u32]) -> Result<Self, NoMemory>
         ensures { IfOk result (λ copy. copy ≡ words.now) }
     {
@@ -27,7 +28,7 @@ impl Words {
         Ok(Words { words })
     }
 
-    /// So many words, all 0.
+    /// So many words, all 0 as in a new object (JLS 4.12.5), or an error where there is no memory for them.
     pub fn zeros(alloc: Global, count: u64) -> Result<Self, NoMemory>
         ensures { IfOk result (λ words. words ≡ replicate count 0) }
     {

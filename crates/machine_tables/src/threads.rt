@@ -1,7 +1,7 @@
 ghost use Rattle.std.specs.Prelude.{ℕ, ◌≡◌, ◌<◌, OnOk, OnErr, Some, None, ◌↔◌, ◌≤◌, IsTrue, MatchOption};
 ghost use Rattle.std.specs.Option.{option_copied};
 ghost use Rattle.op_core.specs.OrdinaryState.{set_at, IsNotifiedFor, IsWaitingFor, saved_count, notified_of};
-ghost use Rattle.ordinary_machine.specs.Tables.{seat_at, waiting_of, waiting_in, has_ended, IsFreeSeat};
+ghost use Rattle.machine_tables.specs.Tables.{seat_at, waiting_of, waiting_in, has_ended, IsFreeSeat};
 ghost use Rattle.op_core.specs.OrdinaryStep.{IsFirstWaiting};
 
 use op_core::NoMemory;
@@ -11,16 +11,20 @@ use std::collections::HashMap;
 /// Where a thread that has begun stands.
 #[derive(Debug, Drop)]
 pub enum Standing<C> {
+    /// It goes on from this code.
     Live(C),
+    /// It has ended: normally, or by an uncaught exception of this class.
     Ended(Option<u32>),
 }
 
-/// A thread is awake, or in the wait set of an object whose monitor it had entered so many times, or
-/// notified, with that monitor yet to enter (JLS 17.2).
+/// What a thread waits for (JLS 17.2).
 #[derive(Clone, Copy, PartialEq, Eq, Debug)]
 pub enum WaitState {
+    /// Nothing.
     Awake,
+    /// It is in the wait set of the object of this reference, whose monitor it had entered so many times.
     Waits(u32, u64),
+    /// It was notified, and has yet to enter that monitor again as many times.
     Notified(u32, u64),
 }
 
@@ -43,7 +47,7 @@ impl WaitState {
         }
     }
 
-    /// How many times the monitor had been entered before the wait.
+    /// How many times the monitor had been entered before the wait, 0 where the thread is awake.
     pub fn saved_count(self) -> u64
         ensures { result ≡ saved_count (waiting_of self) }
     {
@@ -53,7 +57,8 @@ impl WaitState {
         }
     }
 
-    /// Out of the wait set.
+    /// Out of the wait set, with the monitor yet to enter again (JLS 17.2.2). A thread that is in none stays
+    /// as it is.
     pub fn notified(self) -> WaitState
         ensures { waiting_of result ≡ notified_of (waiting_of self) }
     {
@@ -69,19 +74,23 @@ impl WaitState {
 /// A thread that has begun.
 #[derive(Debug, Drop)]
 pub struct Seat<C> {
+    /// Where it stands.
     pub standing: Standing<C>,
+    /// What it waits for.
     pub waiting: WaitState,
+    /// How many silent steps it has made since its last event.
     pub silent: u64,
 }
 
-/// The threads that have begun, by number.
+/// The threads that have begun, by number from 1 to 255. Contracts see the seat of each number, `None` where no
+/// thread has begun with it (`seat_at`).
 #[derive(Debug, Drop)]
 pub struct Threads<C> {
     table: HashMap<u8, Seat<C>>,
 }
 
 impl<C: Drop> Threads<C> {
-    /// No thread has begun.
+    /// No thread has begun. Takes no memory.
     pub fn new(alloc: Global) -> Self
         ensures { seat_at result ≡ (λ _. None) }
     {
@@ -90,7 +99,7 @@ impl<C: Drop> Threads<C> {
         }
     }
 
-    /// The seat of a thread that has begun.
+    /// The seat of a thread, or `None` where it has not begun. There is no thread 0.
     pub fn get(&self, thread: u8) -> Option<&Seat<C>>
         ensures { option_copied result ≡ seat_at self.now thread }
     {
@@ -110,14 +119,14 @@ impl<C: Drop> Threads<C> {
         }
     }
 
-    /// Whether a thread has been notified and is to have the monitor of an object again.
+    /// Whether a thread was notified and has yet to enter the monitor of this object again.
     pub fn is_notified_for(&self, reference: u32, thread: u8) -> bool
         ensures { IsTrue result ↔ IsNotifiedFor reference (waiting_in (seat_at self.now) thread) }
     {
         self.waiting(thread).is_notified_for(reference)
     }
 
-    /// Whether the thread has ended.
+    /// Whether the thread has begun and ended.
     pub fn has_ended(&self, thread: u8) -> bool
         ensures { result ≡ has_ended (seat_at self.now) thread }
     {
@@ -130,14 +139,14 @@ impl<C: Drop> Threads<C> {
         }
     }
 
-    /// Whether a new thread can have the number.
+    /// Whether a new thread can have the number: it is above 1, and no thread has begun with it.
     pub fn is_free_number(&self, number: u8) -> bool
         ensures { IsTrue result ↔ IsFreeSeat (seat_at self.now) number }
     {
         number >= 2 && self.get(number).is_none()
     }
 
-    /// The lowest number that a new thread can have.
+    /// The lowest number that a new thread can have, or `None` where all have been drawn.
     pub fn free_number(&self) -> Option<u8>
         ensures { MatchOption result ((k : ℕ) → IsFreeSeat (seat_at self.now) k → ⊥) (λ n. IsFreeSeat (seat_at self.now) n × ((k : ℕ) → IsFreeSeat (seat_at self.now) k → n ≤ k)) }
     {
@@ -150,7 +159,8 @@ impl<C: Drop> Threads<C> {
         None
     }
 
-    /// The lowest thread in the wait set of an object, or 0.
+    /// The lowest thread in the wait set of an object, or 0 where the set is empty. JLS 17.2.2 leaves open
+    /// which thread of the set is notified.
     pub fn first_waiting(&self, reference: u32) -> u8
         ensures { IsFirstWaiting reference result (waiting_in (seat_at self.now)) }
     {
@@ -170,7 +180,8 @@ impl<C: Drop> Threads<C> {
         self.first_waiting(reference) == thread
     }
 
-    /// Seats a thread. Without memory for it, nothing changes.
+    /// Seats a thread of a number above 0, in place of the one that had it. Without memory for it the table is
+    /// as before, and the seat is dropped.
     pub fn insert(&mut self, thread: u8, seat: Seat<C>) -> Result<(), NoMemory>
         requires { 0 < thread }
         ensures ok { OnOk result (seat_at self.new ≡ set_at (seat_at self.old) thread (Some seat)) }
@@ -182,18 +193,21 @@ impl<C: Drop> Threads<C> {
         }
     }
 
-    /// Sets what a thread that has begun waits for.
+    /// Sets what a thread waits for. Where it has not begun, nothing changes.
     pub fn set_waiting(&mut self, thread: u8, waiting: WaitState)
-        ensures { (x : _) → seat_at self.old thread ≡ Some x → seat_at self.new ≡ set_at (seat_at self.old) thread (Some (record x { waiting = waiting })) }
+        ensures there { (x : _) → seat_at self.old thread ≡ Some x → seat_at self.new ≡ set_at (seat_at self.old) thread (Some (record x { waiting = waiting })) }
+        ensures absent { seat_at self.old thread ≡ None → seat_at self.new ≡ seat_at self.old }
     {
         if let Some(seat) = self.table.get_mut(&thread) {
             seat.waiting = waiting;
         }
     }
 
-    /// Sets how a thread that has begun stands, and how many silent steps it has made.
+    /// Sets where a thread stands, and how many silent steps it has made since its last event. Where it has
+    /// not begun, nothing changes.
     pub fn set_standing(&mut self, thread: u8, standing: Standing<C>, silent: u64)
-        ensures { (x : _) → seat_at self.old thread ≡ Some x → seat_at self.new ≡ set_at (seat_at self.old) thread (Some (record x { standing = standing; silent = silent })) }
+        ensures there { (x : _) → seat_at self.old thread ≡ Some x → seat_at self.new ≡ set_at (seat_at self.old) thread (Some (record x { standing = standing; silent = silent })) }
+        ensures absent { seat_at self.old thread ≡ None → seat_at self.new ≡ seat_at self.old }
     {
         if let Some(seat) = self.table.get_mut(&thread) {
             seat.standing = standing;

@@ -3,11 +3,11 @@ use Rattle.std.proofs.Common.{◌≡◌, ℕ, ◌≤◌, ◌↔◌, Option, None
 use Rattle.std.proofs.lemmas.Bool.Decides.{nat_tests}
 use Rattle.op_core.specs.OrdinaryState.{unused}
 use Rattle.op_core.specs.OrdinaryStep.{IsFreeNumber}
-use Rattle.ordinary_machine.specs.declared.threads.Standing.{Standing}
-use Rattle.ordinary_machine.specs.declared.threads.Standing.TheVariants.{Live, Ended}
-use Rattle.ordinary_machine.specs.declared.threads.Seat.{Seat}
-use Rattle.ordinary_machine.specs.declared.threads.Threads.{Threads}
-use Rattle.ordinary_machine.specs.Tables.{seat_at, standing_of, thread_in, threads_in, IsFreeSeat}
+use Rattle.machine_tables.specs.declared.threads.Standing.{Standing}
+use Rattle.machine_tables.specs.declared.threads.Standing.TheVariants.{Live, Ended}
+use Rattle.machine_tables.specs.declared.threads.Seat.{Seat}
+use Rattle.machine_tables.specs.declared.threads.Threads.{Threads}
+use Rattle.machine_tables.specs.Tables.{seat_at, standing_of, thread_in, threads_in, IsFreeSeat}
 
 -- there is no thread past number 255
 pub seat_at-past : {C : Type 0} (threads : Threads C) (k : ℕ) → 256 ≤ k → seat_at threads k ≡ None
