@@ -45,3 +45,12 @@ Keeps (Err e) rules = Refuses e rules
 abbrev pub Gives : {X : Type 0} → Result X ReadRefusal → Rules → (X → Type 0) → Type 0
 Gives (Ok x) rules Is = rules.Hold × Is x
 Gives (Err e) rules Is = Refuses e rules
+
+-- Both of a function that takes no memory: it refuses nothing but what the rules refuse.
+abbrev pub KeepsExactly : {X : Type 0} → Result X ReadRefusal → Rules → Type 0
+KeepsExactly (Ok x) rules = rules.Hold
+KeepsExactly (Err e) rules = rules.Refuse e
+
+abbrev pub GivesExactly : {X : Type 0} → Result X ReadRefusal → Rules → (X → Type 0) → Type 0
+GivesExactly (Ok x) rules Is = rules.Hold × Is x
+GivesExactly (Err e) rules Is = rules.Refuse e

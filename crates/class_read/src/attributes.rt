@@ -4,7 +4,7 @@ ghost use Rattle.std.specs.Prelude.{◌≡◌, ◌↔◌, ℕ, ◌+◌, ◌<◌,
 ghost use Rattle.class_walk.specs.declared.class.RawAttribute.{RawAttribute};
 ghost use Rattle.class_walk.specs.Reading.{code_of};
 ghost use Rattle.class_read.specs.AttributeRules.{is_named, named, name_rules, is_constant_for, IsConstantAt, IsConstantValue, index_in, field_attribute_rules, field_attributes_rules, code_attribute_rules, code_attributes_rules, code_rules, method_attribute_rules, method_attributes_rules, constant_of, maps_of, code_attribute, code_in, code_of_method, IsCodeOf, EndBelow, AllEndBelow, AllBeginBelow};
-ghost use Rattle.class_read.specs.Rules.{Keeps, Gives, each};
+ghost use Rattle.class_read.specs.Rules.{Gives, KeepsExactly, GivesExactly, each};
 
 use crate::class_file::CodeAttribute;
 use crate::flags::{STATIC, has};
@@ -68,7 +68,7 @@ fn is_constant_value(pool: &[Constant], field: &RawMember, content: &[u8]) -> bo
 
 /// Checks the name of an attribute.
 pub fn check_name(pool: &[Constant], attribute: &RawAttribute) -> Result<(), ReadRefusal>
-    ensures { Keeps result (name_rules pool.now attribute.now) }
+    ensures { KeepsExactly result (name_rules pool.now attribute.now) }
 {
     if !is_text_at(pool, attribute.name) {
         return Err(ReadRefusal::PoolIndex(attribute.name));
@@ -84,7 +84,7 @@ fn is_checked_constant(
     earlier: bool,
     attribute: &RawAttribute,
 ) -> Result<bool, ReadRefusal>
-    ensures { Gives result (field_attribute_rules pool.now field.now earlier attribute.now)
+    ensures { GivesExactly result (field_attribute_rules pool.now field.now earlier attribute.now)
         (λ found. found ≡ is_named pool.now (codes "ConstantValue") attribute.now) }
 {
     check_name(pool, attribute)?;
@@ -102,7 +102,7 @@ fn constant_value<'a>(
     pool: &[Constant],
     field: &'a RawMember,
 ) -> Result<Option<&'a RawAttribute>, ReadRefusal>
-    ensures { Gives result (field_attributes_rules pool.now field.now)
+    ensures { GivesExactly result (field_attributes_rules pool.now field.now)
         (λ found. option_copied found ≡ named pool.now (codes "ConstantValue") field.now.attributes) }
 {
     let mut found: Option<&RawAttribute> = None;
@@ -116,7 +116,7 @@ fn constant_value<'a>(
 
 /// Checks the attributes of a field, and gives the index of the constant that a static field begins with.
 pub fn field_constant(pool: &[Constant], field: &RawMember) -> Result<Option<u16>, ReadRefusal>
-    ensures { Gives result (field_attributes_rules pool.now field.now) (λ constant. constant ≡ constant_of pool.now field.now) }
+    ensures { GivesExactly result (field_attributes_rules pool.now field.now) (λ constant. constant ≡ constant_of pool.now field.now) }
 {
     let found = constant_value(pool, field)?;
     Ok(match found {
@@ -136,7 +136,7 @@ fn is_checked_map(
     attribute: &RawAttribute,
 ) -> Result<bool, ReadRefusal>
     requires { at + 6 + attribute.now.at < 2 ^ 32 }
-    ensures { Gives result (code_attribute_rules pool.now at earlier attribute.now)
+    ensures { GivesExactly result (code_attribute_rules pool.now at earlier attribute.now)
         (λ found. found ≡ is_named pool.now (codes "StackMapTable") attribute.now) }
 {
     check_name(pool, attribute)?;
@@ -156,7 +156,7 @@ fn stack_map<'a>(
     attributes: &'a Rows<RawAttribute>,
 ) -> Result<Option<&'a RawAttribute>, ReadRefusal>
     requires { AllBeginBelow attributes.now at (2 ^ 32) }
-    ensures { Gives result (code_attributes_rules pool.now at attributes.now)
+    ensures { GivesExactly result (code_attributes_rules pool.now at attributes.now)
         (λ found. option_copied found ≡ named pool.now (codes "StackMapTable") attributes.now) }
 {
     let mut found: Option<&RawAttribute> = None;

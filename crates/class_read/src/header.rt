@@ -4,7 +4,7 @@ ghost use Rattle.std.specs.Prelude.{◌≡◌, ◌↔◌, IsTrue};
 ghost use Rattle.class_names.specs.Names.{IsClassName};
 ghost use Rattle.class_read.specs.ClassRules.{IsNamedClass, IsSuperclass, interface_rules, header_rules};
 ghost use Rattle.class_read.specs.MemberRules.{IsTextOf};
-ghost use Rattle.class_read.specs.Rules.{Keeps, each};
+ghost use Rattle.class_read.specs.Rules.{KeepsExactly, each};
 
 use crate::flags::are_class_flags;
 use crate::lookup::is_class_at;
@@ -42,7 +42,7 @@ fn has_superclass(pool: &Pool<'_>, class: &RawClass) -> bool
 }
 
 fn check_interfaces(pool: &Pool<'_>, interfaces: &Rows<u16>) -> Result<(), ReadRefusal>
-    ensures { Keeps result (each (interface_rules pool.now) interfaces.now) }
+    ensures { KeepsExactly result (each (interface_rules pool.now) interfaces.now) }
 {
     for index in interfaces.as_slice() {
         if !is_named_class(pool, *index) {
@@ -54,7 +54,7 @@ fn check_interfaces(pool: &Pool<'_>, interfaces: &Rows<u16>) -> Result<(), ReadR
 
 /// Checks what stands between the constant pool and the fields.
 pub fn check_header(pool: &Pool<'_>, class: &RawClass) -> Result<(), ReadRefusal>
-    ensures { Keeps result (header_rules pool.now class.now) }
+    ensures { KeepsExactly result (header_rules pool.now class.now) }
 {
     if !is_named_class(pool, class.this_class) {
         return Err(ReadRefusal::PoolIndex(class.this_class));

@@ -6,7 +6,7 @@ ghost use Rattle.class_read.specs.AttributeRules.{AllEndBelow, named, field_attr
 ghost use Rattle.class_read.specs.MemberRules.{IsTypeOfMethod, text_at_rules, text_rules, lone_field_rules, lone_method_rules, field_rules, method_rules, field_of, method_of, HasSmallMethods};
 ghost use Rattle.class_read.specs.PoolRules.{IsFieldType};
 ghost use Rattle.class_read.specs.Repeats.{IsFirstRepeat};
-ghost use Rattle.class_read.specs.Rules.{Keeps, Gives, each};
+ghost use Rattle.class_read.specs.Rules.{Gives, KeepsExactly, GivesExactly, each};
 ghost use Rattle.class_read.specs.TextUses.{IsUseAt, may_take};
 
 use crate::attributes::{field_constant, method_code};
@@ -21,7 +21,7 @@ use std::alloc::Global;
 
 /// What the text at an index may be used as.
 fn use_at(pool: &Pool<'_>, index: u16) -> Result<TextUse, ReadRefusal>
-    ensures { Gives result (text_at_rules pool.now index) (IsUseAt pool.now index) }
+    ensures { GivesExactly result (text_at_rules pool.now index) (IsUseAt pool.now index) }
 {
     match pool.text_use(index) {
         Some(found) => Ok(found),
@@ -41,7 +41,7 @@ fn may_take(flags: u16, parameters: Option<ParameterSize>) -> bool
 }
 
 fn check_field_name(pool: &Pool<'_>, index: u16) -> Result<(), ReadRefusal>
-    ensures { Keeps result (text_rules IsMemberName pool.now index) }
+    ensures { KeepsExactly result (text_rules IsMemberName pool.now index) }
 {
     let found = use_at(pool, index)?;
     if !found.is_member_name {
@@ -51,7 +51,7 @@ fn check_field_name(pool: &Pool<'_>, index: u16) -> Result<(), ReadRefusal>
 }
 
 fn check_field_type(pool: &Pool<'_>, index: u16) -> Result<(), ReadRefusal>
-    ensures { Keeps result (text_rules IsFieldType pool.now index) }
+    ensures { KeepsExactly result (text_rules IsFieldType pool.now index) }
 {
     let found = use_at(pool, index)?;
     if !found.is_field_type {
@@ -61,7 +61,7 @@ fn check_field_type(pool: &Pool<'_>, index: u16) -> Result<(), ReadRefusal>
 }
 
 fn check_method_name(pool: &Pool<'_>, index: u16) -> Result<(), ReadRefusal>
-    ensures { Keeps result (text_rules IsMethodName pool.now index) }
+    ensures { KeepsExactly result (text_rules IsMethodName pool.now index) }
 {
     let found = use_at(pool, index)?;
     if !found.is_method_name {
@@ -71,7 +71,7 @@ fn check_method_name(pool: &Pool<'_>, index: u16) -> Result<(), ReadRefusal>
 }
 
 fn check_method_type(pool: &Pool<'_>, flags: u16, index: u16) -> Result<(), ReadRefusal>
-    ensures { Keeps result (text_rules (IsTypeOfMethod flags) pool.now index) }
+    ensures { KeepsExactly result (text_rules (IsTypeOfMethod flags) pool.now index) }
 {
     let found = use_at(pool, index)?;
     if !may_take(flags, found.parameters) {
@@ -81,7 +81,7 @@ fn check_method_type(pool: &Pool<'_>, flags: u16, index: u16) -> Result<(), Read
 }
 
 fn constant_of_field(pool: &Pool<'_>, field: &RawMember) -> Result<Option<u16>, ReadRefusal>
-    ensures { Gives result (field_attributes_rules pool.now field.now) (λ constant. constant ≡ constant_of pool.now field.now) }
+    ensures { GivesExactly result (field_attributes_rules pool.now field.now) (λ constant. constant ≡ constant_of pool.now field.now) }
 {
     field_constant(pool.constants(), field)
 }
@@ -100,7 +100,7 @@ fn code_of_method(
 
 /// Checks a field, but for whether it repeats another, and gives what is kept of it.
 fn lone_field(pool: &Pool<'_>, is_interface: bool, field: &RawMember) -> Result<Member, ReadRefusal>
-    ensures { Gives result (lone_field_rules pool.now is_interface field.now) (λ member. member ≡ field_of pool.now field.now) }
+    ensures { GivesExactly result (lone_field_rules pool.now is_interface field.now) (λ member. member ≡ field_of pool.now field.now) }
 {
     check_field_name(pool, field.name)?;
     check_field_type(pool, field.descriptor)?;

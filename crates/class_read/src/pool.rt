@@ -4,7 +4,7 @@ ghost use Rattle.std.specs.Prelude.{◌≡◌, ◌↔◌, ℕ, ◌<◌, ◌^◌,
 ghost use Rattle.class_names.specs.ModifiedUtf8.{IsModifiedUtf8};
 ghost use Rattle.class_read.specs.PoolMarks.{marked, AreMarks, AreUses, FitsWhere, FitsMarks};
 ghost use Rattle.class_read.specs.PoolRules.{IsText, IsClassEntry, IsPairEntry, IsMemberEntry, RefersRightly, used_as, IsUsed, IsFitFor, text_entry_rules, entry_rules, pool_rules};
-ghost use Rattle.class_read.specs.Rules.{Keeps};
+ghost use Rattle.class_read.specs.Rules.{Keeps, KeepsExactly};
 
 use crate::refusal::ReadRefusal;
 use class_names::{
@@ -161,7 +161,7 @@ fn fits_uses(uses: &Uses, index: usize, text: &[u8]) -> bool
 fn check_text(pool: &[Constant], uses: &Uses, index: u16, text: &[u8]) -> Result<(), ReadRefusal>
     requires inside { index < length pool.now }
     requires uses { AreUses pool.now uses.now }
-    ensures { Keeps result (text_entry_rules pool.now index text.now) }
+    ensures { KeepsExactly result (text_entry_rules pool.now index text.now) }
 {
     if !is_modified_utf8(text) {
         return Err(ReadRefusal::BadUtf(index));
@@ -180,7 +180,7 @@ fn check_entry(
 ) -> Result<(), ReadRefusal>
     requires inside { index < length pool.now }
     requires uses { AreUses pool.now uses.now }
-    ensures { Keeps result (entry_rules pool.now index constant.now) }
+    ensures { KeepsExactly result (entry_rules pool.now index constant.now) }
 {
     if let Constant::Utf8(text) = constant {
         return check_text(pool, uses, index, text.as_slice());
@@ -194,7 +194,7 @@ fn check_entry(
 fn check_entries(pool: &[Constant], uses: &Uses) -> Result<(), ReadRefusal>
     requires count { length pool.now < 2 ^ 16 }
     requires uses { AreUses pool.now uses.now }
-    ensures { Keeps result (pool_rules pool.now) }
+    ensures { KeepsExactly result (pool_rules pool.now) }
 {
     for (index, constant) in pool.iter().enumerate() {
         check_entry(pool, uses, index as u16, constant)?;

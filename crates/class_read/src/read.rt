@@ -8,7 +8,7 @@ ghost use Rattle.class_read.specs.declared.refusal.ReadRefusal.TheVariants.{NoMe
 ghost use Rattle.class_read.specs.ClassFile.{class_of, refusal_of, IsFile, IsRefusalOf, IsRead, IsRefused, AreMembersOf};
 ghost use Rattle.class_read.specs.ClassRules.{class_rules, class_rules_over, member_rules, fields_rules, methods_rules, class_attributes_rules};
 ghost use Rattle.class_read.specs.MemberRules.{HasSmallMethods, field_of, method_of};
-ghost use Rattle.class_read.specs.Rules.{Keeps, Gives};
+ghost use Rattle.class_read.specs.Rules.{Gives, KeepsExactly};
 
 use crate::attributes::check_name;
 use crate::class_file::{ClassFile, Member};
@@ -41,7 +41,7 @@ fn check_class_attributes(
     pool: &[Constant],
     attributes: &Rows<RawAttribute>,
 ) -> Result<(), ReadRefusal>
-    ensures { Keeps result (class_attributes_rules pool.now attributes.now) }
+    ensures { KeepsExactly result (class_attributes_rules pool.now attributes.now) }
 {
     for attribute in attributes.as_slice() {
         check_name(pool, attribute)?;

@@ -4,7 +4,7 @@ use Rattle.std.proofs.lemmas.List.{append-nil}
 use Rattle.code_steps.specs.declared.fault.StepFault.{StepFault}
 use Rattle.code_steps.specs.declared.fault.StepRefusal.{StepRefusal}
 use Rattle.code_steps.specs.declared.fault.StepRefusal.TheVariants as refusals
-use Rattle.code_steps.specs.Reading.{◌>>=◌, Fails, items_at}
+use Rattle.code_steps.specs.Reading.{◌>>=◌, Fails, FailsExactly, items_at}
 
 -- what was read before, and what is still read
 abbrev pub with_front : {X : Type 0} → List X → Result (List X × List ℕ) StepFault → Result (List X × List ℕ) StepFault
@@ -21,6 +21,11 @@ goes_on item front count i s x after total lt h so_far =
     let k : count - i ≡ suc (count - (i + 1)) = omega arith in
     let one : with_front front (items_at item (count - i) s) ≡ with_front (front ++ x ∷ []) (items_at item (count - (i + 1)) after) = rw (k, h) (regroup front x (items_at item (count - (i + 1)) after)) in
     sym one ∙ so_far
+
+-- a failure of a function that takes no memory is one of a function that does
+pub fails : {X : Type 0} (e : StepRefusal) (read : Result X StepFault) → FailsExactly e read → Fails e read
+fails refusals.NoMemory read failed = tt
+fails (refusals.Fault f) read failed = failed
 
 pub ends : {X : Type 0} (e : StepRefusal) (item : List ℕ → Result (X × List ℕ) StepFault) (front : List X) (count i : ℕ) (s : List ℕ) (total : Result (List X × List ℕ) StepFault) → i < count → Fails e (item s)
     → with_front front (items_at item (count - i) s) ≡ total → Fails e total

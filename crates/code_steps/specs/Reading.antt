@@ -43,6 +43,15 @@ abbrev pub GivesAndLeaves : {X : Type 0} → Result X StepRefusal → List ℕ �
 GivesAndLeaves (Ok x) after read = read ≡ Ok (x, after)
 GivesAndLeaves (Err e) after read = Fails e read
 
+-- The same of a function that takes no memory.
+abbrev pub FailsExactly : {Y : Type 0} → StepRefusal → Result Y StepFault → Type 0
+FailsExactly refusals.NoMemory read = ⊥
+FailsExactly (refusals.Fault f) read = read ≡ Err f
+
+abbrev pub GivesExactly : {X : Type 0} → Result X StepRefusal → List ℕ → Result (X × List ℕ) StepFault → Type 0
+GivesExactly (Ok x) after read = read ≡ Ok (x, after)
+GivesExactly (Err e) after read = FailsExactly e read
+
 -- What a function returned is what reading gives.
 abbrev pub Returns : {X : Type 0} → Result X StepRefusal → Result X StepFault → Type 0
 Returns (Ok x) read = read ≡ Ok x

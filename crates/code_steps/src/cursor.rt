@@ -2,7 +2,7 @@
 
 ghost use Rattle.std.specs.Prelude.{◌≡◌, ◌==◌, length, Ok, MatchResult};
 ghost use Rattle.code_steps.specs.Operands.{near_target, far_target};
-ghost use Rattle.code_steps.specs.Reading.{Fails, GivesAndLeaves, bytes_at, number_at, key_at, target_at};
+ghost use Rattle.code_steps.specs.Reading.{FailsExactly, GivesExactly, bytes_at, number_at, key_at, target_at};
 
 use crate::fault::{StepFault, StepRefusal};
 use byteorder::{BigEndian, ByteOrder};
@@ -48,7 +48,7 @@ impl<'a> Cursor<'a> {
     pub fn next(&mut self, at: u32, count: usize) -> Result<&'a [u8], StepRefusal>
         ensures { MatchResult result
             (λ bytes. bytes_at at count self.old ≡ Ok (bytes.now, self.new))
-            (λ e. Fails e (bytes_at at count self.old)) }
+            (λ e. FailsExactly e (bytes_at at count self.old)) }
     {
         if self.left.len() < count {
             return Err(StepRefusal::Fault(StepFault::Cut(at)));
@@ -60,7 +60,7 @@ impl<'a> Cursor<'a> {
 
     /// The next byte.
     pub fn u8(&mut self, at: u32) -> Result<u8, StepRefusal>
-        ensures { GivesAndLeaves result self.new (number_at at 1 self.old) }
+        ensures { GivesExactly result self.new (number_at at 1 self.old) }
     {
         let bytes = self.next(at, 1)?;
         Ok(bytes[0])
@@ -68,7 +68,7 @@ impl<'a> Cursor<'a> {
 
     /// The next number of two bytes.
     pub fn u16(&mut self, at: u32) -> Result<u16, StepRefusal>
-        ensures { GivesAndLeaves result self.new (number_at at 2 self.old) }
+        ensures { GivesExactly result self.new (number_at at 2 self.old) }
     {
         let bytes = self.next(at, 2)?;
         Ok(BigEndian::read_u16(bytes))
@@ -76,7 +76,7 @@ impl<'a> Cursor<'a> {
 
     /// The next number of four bytes.
     pub fn u32(&mut self, at: u32) -> Result<u32, StepRefusal>
-        ensures { GivesAndLeaves result self.new (number_at at 4 self.old) }
+        ensures { GivesExactly result self.new (number_at at 4 self.old) }
     {
         let bytes = self.next(at, 4)?;
         Ok(BigEndian::read_u32(bytes))
@@ -85,7 +85,7 @@ impl<'a> Cursor<'a> {
     /// The next signed number of four bytes.
     #[tactic(auto, unfolding(crate::specs::Reading::key_at))]
     pub fn i32(&mut self, at: u32) -> Result<i32, StepRefusal>
-        ensures { GivesAndLeaves result self.new (key_at at self.old) }
+        ensures { GivesExactly result self.new (key_at at self.old) }
     {
         let number = self.u32(at)?;
         Ok(number.cast_signed())
@@ -94,7 +94,7 @@ impl<'a> Cursor<'a> {
     /// The target at the distance that the next four bytes are.
     #[tactic(auto, unfolding(crate::specs::Reading::target_at))]
     pub fn target(&mut self, at: u32) -> Result<i64, StepRefusal>
-        ensures { GivesAndLeaves result self.new (target_at at self.old) }
+        ensures { GivesExactly result self.new (target_at at self.old) }
     {
         let distance = self.u32(at)?;
         Ok(far_target(at, distance))

@@ -1,9 +1,9 @@
 //! An instruction with its operands (JVMS 6.5).
 
-ghost use Rattle.std.specs.Prelude.{◌≡◌, ◌<◌, length};
+ghost use Rattle.std.specs.Prelude.{◌≡◌, ◌≢◌, ◌<◌, Err, length};
 ghost use Rattle.std.specs.Option.{option_map};
 ghost use Rattle.instructions.specs.Table.{shown_row};
-ghost use Rattle.code_steps.specs.Reading.{Gives, GivesAndLeaves, one_at, two_at, wide_at, widened_at, constant_of, ReadsOperands, ReadsRow, ReadsInstruction, interface_call_at, ChecksInterfaceCall};
+ghost use Rattle.code_steps.specs.Reading.{Gives, GivesExactly, one_at, two_at, wide_at, widened_at, constant_of, ReadsOperands, ReadsRow, ReadsInstruction, interface_call_at, ChecksInterfaceCall};
 
 use crate::constants::{call, class, constant, field, is_interface_call, long_constant, new_array};
 use crate::cursor::{Cursor, far_target, near_target};
@@ -15,7 +15,7 @@ use std::alloc::Global;
 
 /// The operands of a form in twice as many bytes.
 fn widened(at: u32, row: Option<Row>, cursor: &mut Cursor<'_>) -> Result<What<i64>, StepRefusal>
-    ensures { GivesAndLeaves result cursor.new (widened_at at (option_map shown_row row) cursor.old) }
+    ensures { GivesExactly result cursor.new (widened_at at (option_map shown_row row) cursor.old) }
 {
     match row {
         Some(
@@ -40,7 +40,7 @@ fn widened(at: u32, row: Option<Row>, cursor: &mut Cursor<'_>) -> Result<What<i6
 
 #[tactic(auto, unfolding(crate::specs::Reading::wide_at))]
 fn wide(at: u32, cursor: &mut Cursor<'_>) -> Result<What<i64>, StepRefusal>
-    ensures { GivesAndLeaves result cursor.new (wide_at at cursor.old) }
+    ensures { GivesExactly result cursor.new (wide_at at cursor.old) }
 {
     let number = cursor.u8(at)?;
     widened(at, row(number), cursor)
@@ -51,7 +51,9 @@ fn interface_call(
     at: u32,
     cursor: &mut Cursor<'_>,
 ) -> Result<What<i64>, StepRefusal>
-    ensures { Gives result cursor.new (ChecksInterfaceCall pool.now at (interface_call_at at cursor.old)) }
+    ensures read { Gives result cursor.new (ChecksInterfaceCall pool.now at (interface_call_at at cursor.old)) }
+    // It takes no memory.
+    ensures memory { result ≢ Err StepRefusal.NoMemory }
 {
     let index = cursor.u16(at)?;
     let count = cursor.u8(at)?;

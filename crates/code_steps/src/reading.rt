@@ -6,7 +6,7 @@ ghost use Rattle.instructions.specs.declared.what.Instr.{Instr};
 ghost use Rattle.instructions.specs.declared.what.Target.{Target};
 ghost use Rattle.code_steps.specs.declared.fault.StepFault.{StepFault};
 ghost use Rattle.code_steps.specs.CodeArray.{IsCodeArray};
-ghost use Rattle.code_steps.specs.FirstFault.{IsFirstFault, IsSized, IsFaultOf, IsInstructionFault, Lays};
+ghost use Rattle.code_steps.specs.FirstFault.{IsFirstFault, IsLengthFault, IsSized, IsFaultOf, IsInstructionFault, Lays};
 
 use crate::cursor::Cursor;
 use crate::fault::{StepFault, StepRefusal};
@@ -47,6 +47,7 @@ fn instructions(
 fn whole(alloc: Global, pool: &Pool<'_>, code: &[u8]) -> Result<Steps, StepRefusal>
     ensures found { IfOk result (λ steps. IsCodeArray pool.now code.now steps) }
     ensures exact { IfErr result (IsFaultOf (IsFirstFault pool.now code.now)) }
+    ensures length { (f : StepFault) → IsLengthFault code.now f → result ≡ Err (StepRefusal.Fault f) }
 {
     if code.is_empty() || code.len() > MAX_LENGTH {
         return Err(StepRefusal::Fault(StepFault::Length));
@@ -72,6 +73,8 @@ pub fn read_steps(alloc: Global, pool: &Pool<'_>, code: &[u8]) -> Result<Steps, 
     // The first fault is refused, unless memory runs out.
     ensures first { (f : StepFault) → IsFirstFault pool.now code.now f →
         (result ≡ Err (StepRefusal.Fault f)) ⊎ (result ≡ Err StepRefusal.NoMemory) }
+    // A wrong length is refused before memory is taken.
+    ensures length { (f : StepFault) → IsLengthFault code.now f → result ≡ Err (StepRefusal.Fault f) }
 {
     whole(alloc, pool, code)
 }

@@ -2,7 +2,7 @@
 
 ghost use Rattle.std.specs.Prelude.{◌≡◌, Ok, MatchResult};
 ghost use Rattle.code_steps.specs.Operands.{padding_of};
-ghost use Rattle.code_steps.specs.Reading.{Fails, GivesAndLeaves, bytes_at, target_at, case_at, items_at, keys_between, is_below, rise, table_switch_at, lookup_switch_at};
+ghost use Rattle.code_steps.specs.Reading.{FailsExactly, GivesAndLeaves, GivesExactly, bytes_at, target_at, case_at, items_at, keys_between, is_below, rise, table_switch_at, lookup_switch_at};
 
 use crate::cursor::Cursor;
 use crate::fault::{StepFault, StepRefusal};
@@ -14,7 +14,7 @@ use std::alloc::Global;
 fn padding<'a>(at: u32, cursor: &mut Cursor<'a>) -> Result<&'a [u8], StepRefusal>
     ensures { MatchResult result
         (λ bytes. bytes_at at (padding_of at) cursor.old ≡ Ok (bytes.now, cursor.new))
-        (λ e. Fails e (bytes_at at (padding_of at) cursor.old)) }
+        (λ e. FailsExactly e (bytes_at at (padding_of at) cursor.old)) }
 {
     let bytes = cursor.next(at, 3 - at as usize % 4)?;
     Ok(bytes)
@@ -69,7 +69,7 @@ pub fn table_switch(
 
 #[tactic(auto, unfolding(crate::specs::Reading::case_at))]
 fn case(at: u32, cursor: &mut Cursor<'_>) -> Result<Case<i64>, StepRefusal>
-    ensures { GivesAndLeaves result cursor.new (case_at at cursor.old) }
+    ensures { GivesExactly result cursor.new (case_at at cursor.old) }
 {
     let key = cursor.i32(at)?;
     let target = cursor.target(at)?;

@@ -5,7 +5,4 @@ use Rattle.class_read.proofs.header.check_header.Goals as goal
 pub returns-in_err-check_interfaces : goal.returns-in_err-check_interfaces
 returns-in_err-check_interfaces c =
     let p = err_from_is_err_and c.from_residual.result c.from_residual.ensures.1 in
-    rw (p.1, p.2) (elim c.in_err-check_interfaces.ensures [
-      | inl no_memory ↦ inl no_memory
-      | inr broken ↦ inr (inr (c.is_named_class.ensures.0 c.if-not-is_named_class.false, inr (c.has_superclass.ensures.0 c.if-not-has_superclass.false, inl broken)))
-    ])
+    rw (p.1, p.2) (inr (c.is_named_class.ensures.0 c.if-not-is_named_class.false, inr (c.has_superclass.ensures.0 c.if-not-has_superclass.false, inl c.in_err-check_interfaces.ensures)))

@@ -1,4 +1,4 @@
-use Rattle.std.proofs.Common.{length, refl, sym, ◌∙◌, ap, List, map}
+use Rattle.std.proofs.Common.{length, inr, refl, sym, ◌∙◌, ap, List, map}
 use Rattle.std.proofs.lemmas.List.{take_all}
 use Rattle.std.proofs.lemmas.Option.{slice_get_read}
 use Rattle.std.proofs.lemmas.Result.{err_from_is_err_and}
@@ -17,7 +17,7 @@ returns-in_err-field c =
     let at = slice_get_read members (length members) i m refl c.loop-index-test.true c.index-members-index.is in
     let lone : RawMember → Rules = λ x. lone_field_rules c.args.pool.now c.args.is_interface x in
     let p = err_from_is_err_and c.from_residual.result c.from_residual.ensures.1 in
-    rw (p.1, p.2) (refuses_lone c.args.pool.now members lone i m c.in_err-field.field-0.0 at c.loop-index.invariant.below c.in_err-field.ensures)
+    rw (p.1, p.2) (refuses_lone c.args.pool.now members lone i m c.in_err-field.field-0.0 at c.loop-index.invariant.below (inr c.in_err-field.ensures))
 
 pub returns-then-eq : goal.returns-then-eq
 returns-then-eq c =

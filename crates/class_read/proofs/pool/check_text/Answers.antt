@@ -5,7 +5,7 @@ use Rattle.class_read.proofs.pool.check_text.Goals as goal
 pub returns-then-not-fits_uses : goal.returns-then-not-fits_uses
 returns-then-not-fits_uses c =
     let decides = rw c.from.ensures at c.fits_uses.ensures in
-    inr (inr (
+    inr (
       c.is_modified_utf8.ensures.0 c.if-not-is_modified_utf8.false,
       (
         λ right.
@@ -14,4 +14,4 @@ returns-then-not-fits_uses c =
             absurd cc,
         refl,
       ),
-    ))
+    )

@@ -9,10 +9,7 @@ use Rattle.class_read.proofs.read.checked_members.Goals as goal
 pub returns-in_err-check_header : goal.returns-in_err-check_header
 returns-in_err-check_header c =
     let p = err_from_is_err_and c.from_residual-in_err-check_header.result c.from_residual-in_err-check_header.ensures.1 in
-    rw (p.1, p.2) (elim (rw c.in_ok-pool.ensures at c.in_err-check_header.ensures) [
-      | inl no_memory ↦ inl no_memory
-      | inr broken ↦ inr (inr (c.in_ok-check_pool.ensures, inl broken))
-    ])
+    rw (p.1, p.2) (inr (inr (c.in_ok-check_pool.ensures, inl (rw c.in_ok-pool.ensures at c.in_err-check_header.ensures))))
 
 pub returns : goal.returns
 returns c =

@@ -25,10 +25,7 @@ returns-in_err-check_class_attributes c =
     let r = c.from_residual-in_err-check_class_attributes in
     let p = err_from_is_err_and r.result r.ensures.1 in
     let fields = rw c.has.ensures at c.in_ok-fields.ensures in
-    rw (p.1, p.2) (elim (rw c.constants.ensures at c.in_err-check_class_attributes.ensures) [
-      | inl no_memory ↦ inl no_memory
-      | inr broken ↦ inr (inr (fields.0, inr (c.in_ok-methods.ensures.0, broken)))
-    ])
+    rw (p.1, p.2) (inr (inr (fields.0, inr (c.in_ok-methods.ensures.0, rw c.constants.ensures at c.in_err-check_class_attributes.ensures))))
 
 pub returns : goal.returns
 returns c =

@@ -1,12 +1,12 @@
 use Rattle.std.proofs.lemmas.Result.{err_from_is_err_and}
 use Rattle.code_steps.specs.Reading.{case_at}
-use Rattle.code_steps.proofs.Loop.{goes_on, ends, is_done}
+use Rattle.code_steps.proofs.Loop.{goes_on, ends, fails, is_done}
 use Rattle.code_steps.proofs.switches.cases.Goals as goal
 
 pub returns-in_err-case : goal.returns-in_err-case
 returns-in_err-case c =
     let p = err_from_is_err_and c.from_residual.result c.from_residual.ensures.1 in
-    rw (p.1, p.2) (ends c.in_err-case.field-0.0 (case_at c.args.at) c.loop.cases c.args.count c.loop.counter c.loop.cursor _ c.loop-test.true c.in_err-case.ensures c.loop.invariant)
+    rw (p.1, p.2) (ends c.in_err-case.field-0.0 (case_at c.args.at) c.loop.cases c.args.count c.loop.counter c.loop.cursor _ c.loop-test.true (fails c.in_err-case.field-0.0 _ c.in_err-case.ensures) c.loop.invariant)
 
 pub loop-preserved : goal.loop-preserved
 loop-preserved c =

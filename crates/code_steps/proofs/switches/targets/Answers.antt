@@ -3,13 +3,13 @@ use Rattle.std.proofs.lemmas.Int.{to_z-of_z}
 use Rattle.std.specs.Prelude.{FitsSigned}
 use Rattle.std.proofs.lemmas.Result.{err_from_is_err_and}
 use Rattle.code_steps.specs.Reading.{target_at}
-use Rattle.code_steps.proofs.Loop.{goes_on, ends, is_done}
+use Rattle.code_steps.proofs.Loop.{goes_on, ends, fails, is_done}
 use Rattle.code_steps.proofs.switches.targets.Goals as goal
 
 pub returns-in_err-target : goal.returns-in_err-target
 returns-in_err-target c =
     let p = err_from_is_err_and c.from_residual.result c.from_residual.ensures.1 in
-    rw (p.1, p.2) (ends c.in_err-target.field-0.0 (target_at c.args.at) c.loop.targets c.args.count c.loop.counter c.loop.cursor _ c.loop-test.true c.in_err-target.ensures c.loop.invariant)
+    rw (p.1, p.2) (ends c.in_err-target.field-0.0 (target_at c.args.at) c.loop.targets c.args.count c.loop.counter c.loop.cursor _ c.loop-test.true (fails c.in_err-target.field-0.0 _ c.in_err-target.ensures) c.loop.invariant)
 
 pub loop-preserved : goal.loop-preserved
 loop-preserved c =
