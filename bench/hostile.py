@@ -1,7 +1,7 @@
 #!/usr/bin/env python3
 """Times class_show over class files that are as dear to read as their size allows, and prints seconds and memory.
 
-usage: bench/hostile.py     at the top of the repository, after `rt run` in crates/class_show has built the program
+usage: bench/hostile.py     at the top of the repository, after `./class_show` has built the program
 """
 import os
 import resource

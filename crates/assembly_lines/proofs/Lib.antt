@@ -1,6 +1,7 @@
 pub mod Cases
 pub mod PieceLaws
 pub mod WordLaws
+pub mod PlainLaws
 pub mod NumberLaws
 pub mod TextLaws
 pub mod FrontLaws

@@ -7,7 +7,7 @@ use Rattle.std.proofs.Math.Seq.{take-append_seam, drop-append_seam}
 use Rattle.std.specs.List.{AllByRecursion, prefix_len}
 use Rattle.assembly_lines.specs.declared.word.Word.{Word}
 use Rattle.assembly_lines.specs.declared.word.Word.TheVariants.{Plain, Quoted}
-use Rattle.assembly_lines.specs.Words.{is_plain_byte, IsPlainByte, IsPlain, Spells, AreWords}
+use Rattle.assembly_lines.specs.Words.{is_plain_byte, IsPlainByte, IsPlain, text_of, Spells, AreWords}
 use Rattle.assembly_lines.specs.ReadingPiece.{piece_at}
 use Rattle.assembly_lines.specs.ReadingWords.{IsQuotedBefore, StandsBefore, IsEnd}
 use Rattle.assembly_lines.proofs.Cases.{first_same, second_same}
@@ -112,12 +112,12 @@ plain_of bytes (b ∷ name) rest unquoted e all full =
       | inr f ↦ (f, all.0, all.1)
     ]
 
-pub plain_found : (bytes name rest : List ℕ) (len : ℕ) → ((r : List ℕ) → bytes ≢ 34 ∷ r) → len ≡ prefix_len is_plain_byte bytes → len ≤ length bytes → len ≢ 0 → name ≡ take len bytes → rest ≡ drop len bytes → StandsBefore bytes (Plain name) rest
-plain_found bytes name rest len unquoted is fits full front back =
+pub plain_found : (bytes name text rest : List ℕ) (len : ℕ) → ((r : List ℕ) → bytes ≢ 34 ∷ r) → len ≡ prefix_len is_plain_byte bytes → len ≤ length bytes → len ≢ 0 → name ≡ take len bytes → rest ≡ drop len bytes → text ≡ text_of name → StandsBefore bytes (Plain text) rest
+plain_found bytes name text rest len unquoted is fits full front back spelled =
     let joined : bytes ≡ name ++ rest = sym (take-append-drop len bytes) ∙ (ap (λ (xs : List ℕ). xs ++ drop len bytes) (sym front) ∙ ap (λ (xs : List ℕ). name ++ xs) (sym back)) in
     let all : AllByRecursion IsPlainByte name = subst (AllByRecursion IsPlainByte) (ap (λ (n : ℕ). take n bytes) (sym is) ∙ sym front) (all_plain bytes) in
     let long : length name ≢ 0 = λ e. full (omega (arith, ap length front, length-take-le len bytes fits)) in
-    (name, joined, (refl, plain_of bytes name rest unquoted joined all long))
+    (name, joined, (spelled, plain_of bytes name rest unquoted joined all long))
 
 quote_is_no_plain : (name r rest : List ℕ) → IsPlain name → 34 ∷ r ≡ name ++ rest → ⊥
 quote_is_no_plain [] r rest h e = absurd h
@@ -129,18 +129,19 @@ quote_is_no_plain (b ∷ name) r rest h e =
 -- what a plain word at the front is
 pub record PlainStands (bytes : List ℕ) (word : Word) (rest : List ℕ) : Type 0 where
   pub name : List ℕ
-  pub is : word ≡ Plain name
+  pub is : word ≡ Plain (text_of name)
   pub len : prefix_len is_plain_byte bytes ≡ length name
   pub full : 0 < length name
   pub front : take (length name) bytes ≡ name
   pub back : drop (length name) bytes ≡ rest
 
 pub plain_only : (bytes : List ℕ) (word : Word) (rest : List ℕ) → ((r : List ℕ) → bytes ≢ 34 ∷ r) → StandsBefore bytes word rest → IsEnd rest → PlainStands bytes word rest
-plain_only bytes (Plain name) rest unquoted h end =
-    let joined : bytes ≡ name ++ rest = h.1 ∙ ap (λ (xs : List ℕ). xs ++ rest) h.2.0 in
+plain_only bytes (Plain text) rest unquoted h end =
+    let name = h.0 in
+    let joined : bytes ≡ name ++ rest = h.1 in
     record {
       name = name;
-      is = refl;
+      is = ap (λ (t : List ℕ). Plain t) h.2.0;
       len = ap (prefix_len is_plain_byte) joined ∙ plain_len_again name rest (plain_parts name h.2.1) end;
       full = plain_full name h.2.1;
       front = ap (take (length name)) joined ∙ take-append_seam name rest;
@@ -150,7 +151,7 @@ plain_only bytes (Quoted units) rest unquoted h end =
     absurd (unquoted ((h.2.0 ++ 34 ∷ []) ++ rest) (h.1 ∙ ap (λ (xs : List ℕ). xs ++ rest) h.2.1))
 
 pub quoted_only : (bytes : List ℕ) (word : Word) (rest : List ℕ) → StandsBefore (34 ∷ bytes) word rest → (units : List ℕ) × (word ≡ Quoted units) × IsQuotedBefore bytes units rest
-quoted_only bytes (Plain name) rest h = absurd (quote_is_no_plain name bytes rest h.2.1 (h.1 ∙ ap (λ (xs : List ℕ). xs ++ rest) h.2.0))
+quoted_only bytes (Plain text) rest h = absurd (quote_is_no_plain h.0 bytes rest h.2.1 h.1)
 quoted_only bytes (Quoted units) rest h =
     let whole : 34 ∷ bytes ≡ 34 ∷ ((h.2.0 ++ 34 ∷ []) ++ rest) = h.1 ∙ ap (λ (xs : List ℕ). xs ++ rest) h.2.1 in
     let behind : bytes ≡ (h.2.0 ++ 34 ∷ []) ++ rest = cc in
@@ -234,14 +235,13 @@ words_bad text rest words word after all so_far only full other h =
 
 -- Spells in two ways at one place is one word.
 pub one_word : (bytes : List ℕ) (word other : Word) (after behind : List ℕ) → StandsBefore bytes word after → IsEnd after → StandsBefore bytes other behind → IsEnd behind → (word ≡ other) × (after ≡ behind)
-one_word bytes (Plain name) other after behind h end k finish =
-    let joined : bytes ≡ name ++ after = h.1 ∙ ap (λ (xs : List ℕ). xs ++ after) h.2.0 in
-    let unquoted : (r : List ℕ) → bytes ≢ 34 ∷ r = λ r e. quote_is_no_plain name r after h.2.1 (sym e ∙ joined) in
-    let p = plain_only bytes (Plain name) after unquoted h end in
+one_word bytes (Plain text) other after behind h end k finish =
+    let unquoted : (r : List ℕ) → bytes ≢ 34 ∷ r = λ r e. quote_is_no_plain h.0 r after h.2.1 (sym e ∙ h.1) in
+    let p = plain_only bytes (Plain text) after unquoted h end in
     let q = plain_only bytes other behind unquoted k finish in
     let long : length p.name ≡ length q.name = sym p.len ∙ q.len in
     let names : p.name ≡ q.name = sym p.front ∙ (ap (λ (n : ℕ). take n bytes) long ∙ q.front) in
-    (p.is ∙ (ap (λ (n : List ℕ). Plain n) names ∙ sym q.is), sym p.back ∙ (ap (λ (n : ℕ). drop n bytes) long ∙ q.back))
+    (p.is ∙ (ap (λ (n : List ℕ). Plain (text_of n)) names ∙ sym q.is), sym p.back ∙ (ap (λ (n : ℕ). drop n bytes) long ∙ q.back))
 one_word bytes (Quoted units) other after behind h end k finish =
     let r = (h.2.0 ++ 34 ∷ []) ++ after in
     let joined : bytes ≡ 34 ∷ r = h.1 ∙ ap (λ (xs : List ℕ). xs ++ after) h.2.1 in

@@ -3,7 +3,7 @@
 use rows::Bytes;
 
 /// The verification type of a local or of an operand (JVMS 4.7.4).
-#[derive(Debug, Drop)]
+#[derive(Drop)]
 pub enum FrameItem {
     /// `top`
     Top,

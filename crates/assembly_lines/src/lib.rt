@@ -19,11 +19,8 @@ mod word;
 mod words;
 
 pub use frame::FrameItem;
-pub use laws::line_has_one_list_of_words;
+pub use laws::{line_has_one_list_of_words, plain_words_have_their_characters};
 pub use line::{FieldValue, Line, Room};
 pub use operation::{LabelledCase, Loaded, Operands, Operation};
 pub use read::line_of;
 pub use word::{LineRefusal, Word};
-
-#[cfg(test)]
-mod tests;

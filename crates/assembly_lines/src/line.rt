@@ -5,7 +5,7 @@ use crate::operation::Operation;
 use rows::{Bytes, Rows};
 
 /// What the value of a constant field is.
-#[derive(Debug, Drop)]
+#[derive(Drop)]
 pub enum FieldValue {
     /// The value of a field of type boolean, byte, char, short or int.
     Int(i32),
@@ -16,14 +16,14 @@ pub enum FieldValue {
 }
 
 /// The words that a method's frame has for operands and for locals.
-#[derive(Clone, Copy, Debug, PartialEq, Eq)]
+#[derive(Clone, Copy)]
 pub struct Room {
     pub stack: u16,
     pub locals: u16,
 }
 
 /// What one line says. Names and descriptors are not looked into.
-#[derive(Debug, Drop)]
+#[derive(Drop)]
 pub enum Line {
     /// `class NAME [FLAGS]`
     Class {

@@ -4,7 +4,7 @@ use instructions::PrimitiveType;
 use rows::{Bytes, Rows};
 
 /// The constant that ldc or ldc_w loads.
-#[derive(Debug, Drop)]
+#[derive(Drop)]
 pub enum Loaded {
     /// `int N`
     Int(i32),
@@ -15,14 +15,14 @@ pub enum Loaded {
 }
 
 /// A key of a lookupswitch, and the label that it leads to.
-#[derive(Debug, Drop)]
+#[derive(Drop)]
 pub struct LabelledCase {
     pub key: i32,
     pub label: Bytes,
 }
 
 /// The operands of an instruction. Names and labels are not looked into.
-#[derive(Debug, Drop)]
+#[derive(Drop)]
 pub enum Operands {
     None,
     /// The int that bipush or sipush pushes.
@@ -68,7 +68,7 @@ pub enum Operands {
 }
 
 /// An instruction.
-#[derive(Debug, Drop)]
+#[derive(Drop)]
 pub struct Operation {
     /// The number in the table of instructions. Under wide it is that of the instruction that is widened.
     pub number: u8,

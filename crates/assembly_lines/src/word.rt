@@ -6,16 +6,16 @@ use rows::{Bytes, Rows};
 use std::alloc::{AllocError, AllocFailed};
 
 /// A word of a line.
-#[derive(Debug, Drop)]
+#[derive(Drop)]
 pub enum Word {
-    /// A word that stands for itself.
+    /// The text of a plain word, in modified UTF-8: its characters, with two bytes for NUL (JVMS 4.4.7).
     Plain(Bytes),
     /// The UTF-16 code units of a quoted text.
     Quoted(Rows<u16>),
 }
 
 /// Why a line is not read.
-#[derive(Clone, Copy, Debug, PartialEq, Eq)]
+#[derive(Clone, Copy)]
 pub enum LineRefusal {
     /// The bytes are no line.
     Malformed,

@@ -5,13 +5,13 @@ ghost use Rattle.std.specs.List.{prefix_len};
 ghost use Rattle.assembly_lines.specs.declared.word.Word.{Word};
 ghost use Rattle.assembly_lines.specs.declared.word.Word.TheVariants.{Plain};
 ghost use Rattle.assembly_lines.specs.declared.word.LineRefusal.TheVariants.{NoMemory};
-ghost use Rattle.assembly_lines.specs.Words.{is_plain_byte, AreWords};
+ghost use Rattle.assembly_lines.specs.Words.{is_plain_byte, text_of, AreWords};
 ghost use Rattle.assembly_lines.specs.ReadingWords.{IsQuotedBefore, StandsBefore, IsEnd};
 
 use crate::piece::next_piece;
 use crate::word::{LineRefusal, Word};
 use rows::{Bytes, Rows};
-use std::alloc::Global;
+use std::alloc::{AllocError, Global};
 
 /// What stands behind a byte that stands at the front.
 fn after_byte(byte: u8, bytes: &[u8]) -> Option<&[u8]>
@@ -56,6 +56,22 @@ fn plain_len(bytes: &[u8]) -> usize
         .count()
 }
 
+/// The text of a plain word.
+fn plain_text(alloc: Global, word: &[u8]) -> Result<Bytes, AllocError>
+    ensures { IfOk result (λ text. text ≡ text_of word.now) }
+{
+    let mut text = Vec::new(alloc);
+    for byte in word {
+        if *byte == 0 {
+            text.push(0xc0)?;
+            text.push(0x80)?;
+        } else {
+            text.push(*byte)?;
+        }
+    }
+    Ok(Bytes::from_vec(text))
+}
+
 /// The quoted text whose first quote is read, and what stands behind it.
 fn quoted_word(alloc: Global, bytes: &[u8]) -> Result<(Word, &[u8]), LineRefusal>
     ensures found { IfOk result (λ x. StandsBefore (34 ∷ bytes.now) x.0 x.1.now) }
@@ -77,9 +93,9 @@ fn plain_word(alloc: Global, bytes: &[u8]) -> Result<(Word, &[u8]), LineRefusal>
     if len == 0 {
         return Err(LineRefusal::Malformed);
     }
-    let (name, rest) = bytes.split_at(len);
-    let name = Bytes::from_slice(alloc, name)?;
-    Ok((Word::Plain(name), rest))
+    let (word, rest) = bytes.split_at(len);
+    let text = plain_text(alloc, word)?;
+    Ok((Word::Plain(text), rest))
 }
 
 /// The word at the front, and what stands behind it.

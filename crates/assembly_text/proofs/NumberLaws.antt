@@ -5,7 +5,7 @@ use Rattle.assembly_lines.specs.declared.line.Line.{Line}
 use Rattle.assembly_lines.specs.Lines.{IsLine}
 use Rattle.assembly_text.specs.declared.lines.Numbered.{Numbered}
 use Rattle.assembly_text.specs.declared.lines.TextLines.{TextLines}
-use Rattle.assembly_text.specs.TextLines.{lines, SaysAt, is_passed, IsNext, AreNumbered, AreLinesOf}
+use Rattle.assembly_text.specs.TextLines.{lines, most_bytes, SaysAt, is_passed, IsNext, AreNumbered, AreLinesOf}
 use Rattle.assembly_text.specs.Reading.{IsFirstLine}
 
 -- the lines up to what is left of a text
@@ -142,7 +142,7 @@ numbered_only text rest number made so_far e others are =
 
 -- ---- what one line says
 
-pub said_only : (end : ℕ) (line : List ℕ) (found : Line) → end ≤ 1048576 → ((l : Line) → IsLine line l → found ≡ l) → IsLine line found → (other : Option Line) → SaysAt end line other → Some found ≡ other
+pub said_only : (end : ℕ) (line : List ℕ) (found : Line) → end ≤ most_bytes → ((l : Line) → IsLine line l → found ≡ l) → IsLine line found → (other : Option Line) → SaysAt end line other → Some found ≡ other
 said_only end line found fits only is None h = elim h [ inl big ↦ absurd (omega arith) | inr none ↦ absurd (none found is) ]
 said_only end line found fits only is (Some other) h = ap (λ (l : Line). Some l) (only other h.1)
 

@@ -16,14 +16,18 @@ abbrev pub lines : List ℕ → List (List ℕ × ℕ)
 lines [] = []
 lines (b ∷ text) = if b == 10 then ([], 1) ∷ lines text else onto_first b (lines text)
 
--- What a line says of which all, and its byte 10, stands before this place. A text has at most 1,048,576 bytes.
+-- how many bytes a text has at most
+abbrev pub most_bytes : ℕ
+most_bytes = 1048576
+
+-- What a line says of which all, and its byte 10, stands before this place.
 abbrev pub SaysAt : ℕ → List ℕ → Option Line → Type 0
-SaysAt end line (Some said) = (end ≤ 1048576) × IsLine line said
-SaysAt end line None = (1048576 < end) ⊎ ((said : Line) → ¬ IsLine line said)
+SaysAt end line (Some said) = (end ≤ most_bytes) × IsLine line said
+SaysAt end line None = (most_bytes < end) ⊎ ((said : Line) → ¬ IsLine line said)
 
 -- an empty line, which with its byte 10 stands among the bytes that a text may have, says nothing
 abbrev pub is_passed : ℕ → List ℕ → Bool
-is_passed end [] = nat_le end 1048576
+is_passed end [] = nat_le end most_bytes
 is_passed end (b ∷ line) = false
 
 -- The next of the lines that are kept has this number and says this, and the others are behind it.

@@ -6,6 +6,3 @@ mod lines;
 
 pub use laws::{bytes_are_one_line, text_has_one_list_of_lines};
 pub use lines::{MOST_BYTES, Numbered, TextLines, lines_of};
-
-#[cfg(test)]
-mod tests;

@@ -12,14 +12,14 @@ use rows::Rows;
 use std::alloc::{AllocError, Global};
 
 /// A line of a text by its number, from 1, and what it says; `None` where its bytes are no line.
-#[derive(Debug, Drop)]
+#[derive(Drop)]
 pub struct Numbered {
     pub number: u32,
     pub line: Option<Line>,
 }
 
 /// The lines of a text that aren't passed over, with their numbers, and the number of the line behind the last.
-#[derive(Debug, Drop)]
+#[derive(Drop)]
 pub struct TextLines {
     pub lines: Rows<Numbered>,
     pub behind: u32,

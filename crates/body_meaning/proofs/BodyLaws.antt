@@ -25,7 +25,8 @@ use Rattle.written_code.proofs.FrameLaws.{only_written_frames}
 use Rattle.body_meaning.specs.Parts.{IsSaidAt, Places, instructions_in, handlers_in, frames_in, places_in}
 use Rattle.body_meaning.specs.Body.{IsBodyOf, attribute_of}
 use Rattle.body_meaning.proofs.PlaceLaws.{Stands, end_is, as_many, number_is}
-use Rattle.body_meaning.proofs.WritesLaws.{Leads, found_parts}
+use Rattle.method_make.proofs.ShapeLaws.{found_parts}
+use Rattle.body_meaning.proofs.WritesLaws.{Leads}
 use Rattle.body_meaning.proofs.MeaningLaws.{instructions_say}
 use Rattle.body_meaning.proofs.TableReads.{handlers_say, frames_say, map_read}
 use Rattle.body_meaning.proofs.PartLaws.{HasPlace, Grows}
@@ -89,4 +90,4 @@ pub body_read_again : (room : Room) (lines rest : List Numbered) (end : Numbered
     → IsCode last entry (attribute_of body) code → IsBodyOf last room lines code
 body_read_again room lines rest end body pool after last entry code said ends e more is =
     let marks = marks_in (lines ++ end ∷ rest) in
-    body_of marks room lines body last entry code (lines_grow marks last end rest ends lines 0 (begun room) pool (after, body) said (omega arith) e more).0 is
+    body_of marks room lines body last entry code (lines_grow marks last end rest ends lines 0 (begun room) pool (after, body) said (omega arith) e more) is

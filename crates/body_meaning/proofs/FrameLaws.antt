@@ -1,5 +1,5 @@
 -- A line that is a frame puts it behind the others, as the line says it.
-use Rattle.std.proofs.Common.{◌≡◌, ℕ, ◌+◌, ◌-◌, ◌^◌, ◌<◌, ◌≤◌, ◌&&◌, nat_lt, nat_le, List, [], ◌∷◌, ◌++◌, length, Option, Some, None, refl, sym, subst, ltb-true}
+use Rattle.std.proofs.Common.{◌≡◌, ℕ, ◌+◌, ◌-◌, ◌^◌, ◌<◌, ◌≤◌, ◌&&◌, nat_lt, nat_le, List, [], ◌∷◌, ◌++◌, length, Some, refl, sym, subst, ltb-true}
 use Rattle.std.specs.List.{AllByRecursion, AllZip}
 use Rattle.std.proofs.lemmas.Bool.{and_parts, leb-true}
 use Rattle.std.proofs.lemmas.Option.{same_Some}
@@ -12,19 +12,22 @@ use Rattle.code_write.specs.declared.frames.VerificationType.{VerificationType}
 use Rattle.code_write.specs.declared.frames.VerificationType.TheVariants as types
 use Rattle.code_write.specs.Frame.{Placed, full_frame}
 use Rattle.pool_make.specs.Uses.{Extends}
-use Rattle.pool_make.specs.Items.{class_named, text}
+use Rattle.pool_make.specs.Items.{class_named}
 use Rattle.pool_make.proofs.ItemLaws.{item_stays}
+use Rattle.pool_make.proofs.UseLaws.{extends_further}
 use Rattle.method_make.specs.Making.{◌>>=◌, only, with_pool, each_made, used}
 use Rattle.method_make.specs.Labels.{Marks}
 use Rattle.method_make.specs.Offsets.{short_offset_of}
 use Rattle.method_make.specs.Body.{MadeBody, map_name_of, type_of, put_frame, with_frame}
-use Rattle.method_make.proofs.ShapeLaws.{parts_of}
+use Rattle.method_make.proofs.GrowLaws.{used_is}
+use Rattle.method_make.proofs.ShapeLaws.{parts_of, known_of}
+use Rattle.method_make.proofs.StepGrows.{types_keep}
+use Rattle.method_make.proofs.StepLaws.{chosen}
 use Rattle.written_code.specs.Frames.{HasWidth}
 use Rattle.code_write.specs.declared.operands.Written.{Written}
 use Rattle.body_meaning.specs.Parts.{SaidFrame}
 use Rattle.body_meaning.proofs.PlaceLaws.{Stands}
-use Rattle.body_meaning.proofs.UseLaws.{extends_same, extends_on, known_of, used_is}
-use Rattle.body_meaning.proofs.WritesLaws.{Leads, passed, short_leads}
+use Rattle.body_meaning.proofs.WritesLaws.{Leads, short_leads}
 
 -- a type as a line says it, and as it is written
 abbrev pub IsType : Marks → List Constant → FrameItem → VerificationType → Type 0
@@ -37,7 +40,6 @@ IsType marks pool (items.New label) t = (at : ℕ) × (t ≡ types.Uninit at) ×
 IsType marks pool (items.Class name) t = (index : ℕ) × (t ≡ types.Object index) × IsClassAt pool index name
 
 record TypeMade (marks : Marks) (item : FrameItem) (pool : List Constant) (x : List Constant × VerificationType) : Type 0 where
-  pub extends : Extends pool x.0
   pub width : HasWidth x.1
   pub is : (last : List Constant) → Extends x.0 last → IsType marks last item x.1
 
@@ -48,7 +50,6 @@ free_type marks item pool x t width is e =
     let known = known_of pool (Some t) x e in
     let same = same_Some t x.1 known.found in
     record {
-      extends = subst (λ (p : List Constant). Extends pool p) known.pool_is (extends_same pool);
       width = subst HasWidth same width;
       is = λ last more. subst (λ (y : VerificationType). IsType marks last item y) same (is last);
     }
@@ -65,22 +66,20 @@ type_made marks (items.New label) pool x e =
     let known = known_of pool (short_offset_of marks label) p.made p.first_is in
     let leads = short_leads marks label p.made.1 known.found in
     let made = free_type marks (items.New label) p.made.0 x (types.Uninit p.made.1) leads.1 (λ last. (p.made.1, refl, leads.0)) p.next_is in
-    record { extends = subst (λ (q : List Constant). Extends q x.0) (sym known.pool_is) made.extends; width = made.width; is = made.is }
+    record { width = made.width; is = made.is }
 type_made marks (items.Class name) pool x e =
     let p = parts_of (used (class_named name) pool) (λ index. only (Some (types.Object index))) x e in
     let is_used = used_is (class_named name) pool p.made p.first_is in
     let known = known_of p.made.0 (Some (types.Object p.made.1)) x p.next_is in
     let same = same_Some (types.Object p.made.1) x.1 known.found in
     record {
-      extends = subst (λ (q : List Constant). Extends pool q) known.pool_is is_used.extends;
-      width = subst HasWidth same is_used.small;
+      width = subst HasWidth same is_used.short;
       is = λ last more.
-          let kept : IsClassAt last p.made.1 name = item_stays (class_named name) p.made.0 last p.made.1 (subst (λ (q : List Constant). Extends q last) (sym known.pool_is) more) is_used.is_at in
+          let kept : IsClassAt last p.made.1 name = item_stays (class_named name) p.made.0 last p.made.1 (subst (λ (q : List Constant). Extends q last) (sym known.pool_is) more) is_used.at in
           (p.made.1, sym same, kept);
     }
 
 record TypesMade (marks : Marks) (items : List FrameItem) (pool : List Constant) (x : List Constant × List VerificationType) : Type 0 where
-  pub extends : Extends pool x.0
   pub widths : AllByRecursion HasWidth x.1
   pub are : (last : List Constant) → Extends x.0 last → AllZip (IsType marks last) items x.1
 
@@ -89,7 +88,6 @@ types_made marks [] pool x e =
     let known = known_of pool (Some []) x e in
     let same = same_Some [] x.1 known.found in
     record {
-      extends = subst (λ (p : List Constant). Extends pool p) known.pool_is (extends_same pool);
       widths = subst (AllByRecursion HasWidth) same tt;
       are = λ last more. subst (λ (ts : List VerificationType). AllZip (IsType marks last) [] ts) same tt;
     }
@@ -101,18 +99,12 @@ types_made marks (item ∷ items) pool x e =
     let first = type_made marks item pool p.made p.first_is in
     let others = types_made marks items p.made.0 q.made q.first_is in
     record {
-      extends = subst (λ (r : List Constant). Extends pool r) known.pool_is (extends_on pool p.made.0 q.made.0 first.extends others.extends);
       widths = subst (AllByRecursion HasWidth) same (first.width, others.widths);
       are = λ last more.
           let on = subst (λ (r : List Constant). Extends r last) (sym known.pool_is) more in
           subst (λ (ts : List VerificationType). AllZip (IsType marks last) (item ∷ items) ts) same
-          (first.is last (extends_on p.made.0 q.made.0 last others.extends on), others.are last on);
+          (first.is last (extends_further p.made.0 q.made.0 last (types_keep marks items p.made.0 q.made q.first_is).extends on), others.are last on);
     }
-
-name_extends : (old : Option ℕ) (pool : List Constant) (x : List Constant × ℕ) → map_name_of old pool ≡ Some x → Extends pool x.0
-unfolding map_name_of
-name_extends (Some name) pool x e = subst (λ (p : List Constant). Extends pool p) (known_of pool (Some name) x e).pool_is (extends_same pool)
-name_extends None pool x e = (used_is (text _) pool x e).extends
 
 -- the body with a frame more
 abbrev pub with_placed : MadeBody → ℕ → List VerificationType → List VerificationType → MadeBody
@@ -133,7 +125,7 @@ record HasRoom (name : ℕ) (locals stack : List VerificationType) (old new : Ma
 has_room : (name : ℕ) (locals stack : List VerificationType) (old new : MadeBody) → put_frame name locals stack old ≡ Some new → HasRoom name locals stack old new
 unfolding put_frame
 has_room name locals stack old new e =
-    let is = passed (nat_le old.least (length old.code) && (nat_lt old.frame_count 65535 && (nat_lt (length locals) (2 ^ 16) && nat_lt (length stack) (2 ^ 16)))) (with_placed old name locals stack) new e in
+    let is = chosen (nat_le old.least (length old.code) && (nat_lt old.frame_count 65535 && (nat_lt (length locals) (2 ^ 16) && nat_lt (length stack) (2 ^ 16)))) (with_placed old name locals stack) new e in
     let first = and_parts (nat_le old.least (length old.code)) _ is.0 in
     let second = and_parts (nat_lt old.frame_count 65535) _ first.1 in
     let third = and_parts (nat_lt (length locals) (2 ^ 16)) (nat_lt (length stack) (2 ^ 16)) second.1 in
@@ -150,7 +142,6 @@ pub record PutsFrame (marks : Marks) (locals stack : List FrameItem) (old : Made
   pub name : ℕ
   pub local_types : List VerificationType
   pub stack_types : List VerificationType
-  pub extends : Extends pool x.0
   pub locals_are : (last : List Constant) → Extends x.0 last → AllZip (IsType marks last) locals local_types
   pub stack_is : (last : List Constant) → Extends x.0 last → AllZip (IsType marks last) stack stack_types
   pub locals_wide : IsCounted HasWidth local_types
@@ -168,15 +159,13 @@ frame_put marks locals stack old pool x e =
     let r = parts_of (each_made (type_of marks) stack q.made.0) _ x q.next_is in
     let end = known_of r.made.0 (put_frame p.made.1 q.made.1 r.made.1 old) x r.next_is in
     let room = has_room p.made.1 q.made.1 r.made.1 old x.1 end.found in
-    let named = name_extends old.map_name pool p.made p.first_is in
     let local = types_made marks locals p.made.0 q.made q.first_is in
     let on = types_made marks stack q.made.0 r.made r.first_is in
     record {
       name = p.made.1;
       local_types = q.made.1;
       stack_types = r.made.1;
-      extends = subst (λ (l : List Constant). Extends pool l) end.pool_is (extends_on pool p.made.0 r.made.0 named (extends_on p.made.0 q.made.0 r.made.0 local.extends on.extends));
-      locals_are = λ last more. local.are last (extends_on q.made.0 r.made.0 last on.extends (subst (λ (l : List Constant). Extends l last) (sym end.pool_is) more));
+      locals_are = λ last more. local.are last (extends_further q.made.0 r.made.0 last (types_keep marks stack q.made.0 r.made r.first_is).extends (subst (λ (l : List Constant). Extends l last) (sym end.pool_is) more));
       stack_is = λ last more. on.are last (subst (λ (l : List Constant). Extends l last) (sym end.pool_is) more);
       locals_wide = (room.locals_few, local.widths);
       stack_wide = (room.stack_few, on.widths);

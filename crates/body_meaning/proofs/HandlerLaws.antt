@@ -1,5 +1,5 @@
 -- A line that is a handler puts an entry behind the exception table, as the line says it.
-use Rattle.std.proofs.Common.{◌≡◌, ℕ, nat_lt, List, [], ◌∷◌, ◌++◌, length, Option, Some, None, sym, subst, ◌∙◌}
+use Rattle.std.proofs.Common.{◌≡◌, ℕ, nat_lt, List, [], ◌∷◌, ◌++◌, length, Option, Some, None, sym, subst}
 use Rattle.std.proofs.lemmas.Option.{same_Some}
 use Rattle.class_walk.specs.declared.class.Constant.{Constant}
 use Rattle.class_walk.specs.declared.class.RawHandler.{RawHandler}
@@ -10,11 +10,12 @@ use Rattle.method_make.specs.Making.{with_pool}
 use Rattle.method_make.specs.Labels.{Marks}
 use Rattle.method_make.specs.Offsets.{short_offset_of}
 use Rattle.method_make.specs.Body.{MadeBody, caught, put_handler, with_handler}
-use Rattle.method_make.proofs.ShapeLaws.{parts_of}
+use Rattle.method_make.proofs.GrowLaws.{used_is}
+use Rattle.method_make.proofs.ShapeLaws.{parts_of, known_of}
+use Rattle.method_make.proofs.StepLaws.{chosen}
 use Rattle.body_meaning.specs.Parts.{SaidHandler}
 use Rattle.body_meaning.specs.Tables.{IsCaught}
-use Rattle.body_meaning.proofs.UseLaws.{extends_same, known_of, used_is}
-use Rattle.body_meaning.proofs.WritesLaws.{Leads, passed, short_leads}
+use Rattle.body_meaning.proofs.WritesLaws.{Leads, short_leads}
 
 -- an entry of the exception table that is made of what a line says
 pub record IsRaw (marks : Marks) (pool : List Constant) (said : SaidHandler) (raw : RawHandler) : Type 0 where
@@ -24,17 +25,16 @@ pub record IsRaw (marks : Marks) (pool : List Constant) (said : SaidHandler) (ra
   pub caught : IsCaught pool said.class raw.kind
 
 record Catches (class : Option (List ℕ)) (pool : List Constant) (x : List Constant × ℕ) : Type 0 where
-  pub extends : Extends pool x.0
   pub is : (last : List Constant) → Extends x.0 last → IsCaught last class x.1
 
 catches : (class : Option (List ℕ)) (pool : List Constant) (x : List Constant × ℕ) → caught class pool ≡ Some x → Catches class pool x
 unfolding caught
 catches None pool x e =
     let known = known_of pool (Some 0) x e in
-    record { extends = subst (λ (p : List Constant). Extends pool p) known.pool_is (extends_same pool); is = λ last more. sym (same_Some 0 x.1 known.found) }
+    record { is = λ last more. sym (same_Some 0 x.1 known.found) }
 catches (Some class) pool x e =
     let is = used_is (class_named class) pool x e in
-    record { extends = is.extends; is = λ last more. item_stays (class_named class) x.0 last x.1 more is.is_at }
+    record { is = λ last more. item_stays (class_named class) x.0 last x.1 more is.at }
 
 -- the body with an entry more
 abbrev pub with_raw : MadeBody → RawHandler → MadeBody
@@ -42,11 +42,10 @@ with_raw body raw = record body { handlers = body.handlers ++ raw ∷ [] }
 
 raw_put : (raw : RawHandler) (old new : MadeBody) → put_handler raw old ≡ Some new → new ≡ with_raw old raw
 unfolding put_handler
-raw_put raw old new e = (passed (nat_lt (length old.handlers) 65535) (with_raw old raw) new e).1
+raw_put raw old new e = (chosen (nat_lt (length old.handlers) 65535) (with_raw old raw) new e).1
 
 pub record PutsHandler (marks : Marks) (said : SaidHandler) (old : MadeBody) (pool : List Constant) (x : List Constant × MadeBody) : Type 0 where
   pub raw : RawHandler
-  pub extends : Extends pool x.0
   pub is : (last : List Constant) → Extends x.0 last → IsRaw marks last said raw
   pub put : x.1 ≡ with_raw old raw
 
@@ -64,10 +63,8 @@ handler_put marks from to at class old pool x e =
     let kind = catches class r.made.0 k.made k.first_is in
     let raw : RawHandler = record { from = p.made.1; to = q.made.1; at = r.made.1; kind = k.made.1 } in
     let end = known_of k.made.0 (put_handler raw old) x k.next_is in
-    let same : pool ≡ r.made.0 = known_first.pool_is ∙ known_end.pool_is ∙ known_entry.pool_is in
     record {
       raw = raw;
-      extends = subst (λ (l : List Constant). Extends l x.0) (sym same) (subst (λ (l : List Constant). Extends r.made.0 l) end.pool_is kind.extends);
       is = λ last more. record {
         first = (short_leads marks from p.made.1 known_first.found).0;
         end = (short_leads marks to q.made.1 known_end.found).0;

@@ -1,6 +1,5 @@
 -- A line that is an instruction puts it behind the code, as the line says it.
-use Rattle.std.proofs.Common.{◌≡◌, ℕ, ◌^◌, ◌&&◌, nat_lt, List, ◌++◌, length, Option, Some, None, refl, sym, ap, subst, ◌∙◌}
-use Rattle.std.proofs.lemmas.Bool.{and_parts}
+use Rattle.std.proofs.Common.{◌≡◌, ℕ, List, ◌++◌, length, Some, refl, sym, ap, subst, ◌∙◌}
 use Rattle.std.proofs.lemmas.Option.{same_Some}
 use Rattle.class_walk.specs.declared.class.Constant.{Constant}
 use Rattle.instructions.specs.Table.{Instruction, row_numbered}
@@ -11,13 +10,12 @@ use Rattle.pool_make.specs.Uses.{Extends}
 use Rattle.method_make.specs.Making.{with_pool}
 use Rattle.method_make.specs.Labels.{Marks}
 use Rattle.method_make.specs.Operands.{operands_of}
-use Rattle.method_make.specs.Body.{MadeBody, is_in_range, code_with, with_code, with_instruction}
-use Rattle.method_make.proofs.RangeLaws.{decides_range}
-use Rattle.method_make.proofs.ShapeLaws.{parts_of}
+use Rattle.method_make.specs.Body.{MadeBody, code_with, with_code, with_instruction}
+use Rattle.method_make.proofs.ShapeLaws.{parts_of, known_of}
+use Rattle.method_make.proofs.StepLaws.{code_is, with_is}
 use Rattle.written_code.specs.Suits.{IsSuited}
 use Rattle.body_meaning.proofs.GrammarLaws.{May, IsRight}
-use Rattle.body_meaning.proofs.UseLaws.{known_of}
-use Rattle.body_meaning.proofs.WritesLaws.{Fine, passed}
+use Rattle.body_meaning.proofs.WritesLaws.{Fine}
 use Rattle.body_meaning.proofs.OperandLaws.{Made, operands_made}
 
 -- what a line says of an instruction that is written
@@ -36,26 +34,6 @@ suited_of marks pool operation w at is range = record {
   widths = is.fine.widths;
 }
 
-record Code (w : Written ℕ) (old code : List ℕ) : Type 0 where
-  pub in_range : IsInRange (length old) w.operands
-  pub put : code ≡ old ++ instruction_bytes (length old) w
-
-code_is : (w : Written ℕ) (old code : List ℕ) → code_with w old ≡ Some code → Code w old code
-unfolding code_with
-code_is w old code e =
-    let got = passed (is_in_range (length old) w.operands && nat_lt (length (old ++ instruction_bytes (length old) w)) (2 ^ 16)) (old ++ instruction_bytes (length old) w) code e in
-    let tests = and_parts (is_in_range (length old) w.operands) (nat_lt (length (old ++ instruction_bytes (length old) w)) (2 ^ 16)) got.0 in
-    record { in_range = (decides_range (length old) w.operands).0 tests.0; put = got.1 }
-
-record With (body : MadeBody) (o : Option (List ℕ)) (new : MadeBody) : Type 0 where
-  pub code : List ℕ
-  pub is : o ≡ Some code
-  pub new_is : new ≡ record body { code = code }
-
-with_is : (body : MadeBody) (o : Option (List ℕ)) (new : MadeBody) → with_code body o ≡ Some new → With body o new
-with_is body None new e = absurd cc
-with_is body (Some code) new e = record { code = code; is = refl; new_is = cc }
-
 -- the body with an instruction more
 abbrev pub with_written : MadeBody → Written ℕ → MadeBody
 with_written body w = record body { code = body.code ++ instruction_bytes (length body.code) w }
@@ -65,7 +43,6 @@ put_behind old new w code is put = is ∙ ap (λ (c : List ℕ). record old { co
 
 pub record PutsInstruction (marks : Marks) (operation : Operation) (old : MadeBody) (pool : List Constant) (x : List Constant × MadeBody) : Type 0 where
   pub written : Written ℕ
-  pub extends : Extends pool x.0
   pub is : (last : List Constant) → Extends x.0 last → IsWritten marks last operation written
   pub in_range : IsInRange (length old.code) written.operands
   pub put : x.1 ≡ with_written old written
@@ -87,7 +64,6 @@ instruction_put marks operation old pool x right e =
     let code = code_is w old.code last.code last.is in
     record {
       written = w;
-      extends = subst (λ (r : List Constant). Extends r x.0) (sym known.pool_is) (subst (λ (r : List Constant). Extends p.made.0 r) end.pool_is made.extends);
       is = λ final more. record {
         row = row;
         numbered = known.found;

@@ -2,7 +2,6 @@ pub mod RowLaws
 pub mod NumberLaws
 pub mod GrammarLaws
 pub mod PlaceLaws
-pub mod UseLaws
 pub mod WritesLaws
 pub mod OperandLaws
 pub mod InstructionLaws

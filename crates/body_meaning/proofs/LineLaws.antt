@@ -1,5 +1,5 @@
 -- Each line of a body puts what it says.
-use Rattle.std.proofs.Common.{◌≡◌, ℕ, ◌+◌, ◌^◌, ◌<◌, true, cond, List, [], ◌∷◌, ◌++◌, length, Option, Some, None, refl, sym, ap, subst, bytes_eq, length-append}
+use Rattle.std.proofs.Common.{◌≡◌, ℕ, ◌+◌, ◌^◌, ◌<◌, true, cond, List, [], ◌∷◌, ◌++◌, length, Option, Some, None, refl, ap, subst, bytes_eq, length-append}
 use Rattle.std.specs.List.{AllByRecursion}
 use Rattle.class_walk.specs.declared.class.Constant.{Constant}
 use Rattle.assembly_lines.specs.declared.frame.FrameItem.{FrameItem}
@@ -9,14 +9,14 @@ use Rattle.assembly_lines.specs.declared.operation.Operation.{Operation}
 use Rattle.assembly_text.specs.declared.lines.Numbered.{Numbered}
 use Rattle.code_write.specs.Instruction.{instruction_bytes}
 use Rattle.pool_make.specs.Uses.{Extends}
+use Rattle.pool_make.proofs.UseLaws.{extends_further}
 use Rattle.method_make.specs.Labels.{Marks, offset_behind, is_end, is_label, marks_from}
 use Rattle.method_make.specs.Body.{MadeBody, with_instruction as put_instruction, with_handler as put_handler, with_frame as put_frame, is_first_at, step_of, step, steps}
-use Rattle.method_make.proofs.ShapeLaws.{parts_of}
-use Rattle.method_make.proofs.StepLaws.{step_grows}
+use Rattle.method_make.proofs.ShapeLaws.{parts_of, found_of}
+use Rattle.method_make.proofs.StepGrows.{steps_keep}
+use Rattle.method_make.proofs.StepLaws.{chosen, step_grows}
 use Rattle.body_meaning.specs.Parts.{IsSaid, IsSaidAt, Places, SaidHandler, SaidFrame, steps_behind, with_instruction, with_handler, with_frame, instructions_in, handlers_in, frames_from, places_from}
 use Rattle.body_meaning.proofs.GrammarLaws.{IsRight, instruction_right}
-use Rattle.body_meaning.proofs.UseLaws.{extends_same, extends_on, known_of}
-use Rattle.body_meaning.proofs.WritesLaws.{passed}
 use Rattle.body_meaning.proofs.InstructionLaws.{with_written, instruction_put}
 use Rattle.body_meaning.proofs.HandlerLaws.{handler_put}
 use Rattle.body_meaning.proofs.FrameLaws.{frame_put}
@@ -31,16 +31,14 @@ module _ (marks : Marks) (last : List Constant) (number n : ℕ) (old : MadeBody
   abbrev Behind : ℕ → MadeBody → Type 0
   Behind k body = Grows marks last (length body.code) k body new operations handlers frames (there (length body.code)) places
 
-  label_same : (label : List ℕ) → step_of marks number (Some (kinds.Label label)) old pool ≡ Some x → (pool ≡ x.0) × (x.1 ≡ old)
-  label_same label e =
-      let known = known_of pool (cond (is_first_at number (marks label)) (Some old) None) x e in
-      (known.pool_is, (passed (is_first_at number (marks label)) old x.1 known.found).1)
+  label_same : (label : List ℕ) → step_of marks number (Some (kinds.Label label)) old pool ≡ Some x → x.1 ≡ old
+  label_same label e = (chosen (is_first_at number (marks label)) old x.1 (found_of pool (cond (is_first_at number (marks label)) (Some old) None) x e)).1
 
   label_line : (label : List ℕ) → step_of marks number (Some (kinds.Label label)) old pool ≡ Some x → Behind n x.1
       → Grows marks last (length old.code) n old new operations handlers frames
       (λ name. cond (bytes_eq name label) (Some (record { line = number; offset = length old.code })) (there (length old.code) name)) (λ name. cond (bytes_eq name label) (Some n) (places name))
   label_line label e rest =
-      label_grows marks last (length old.code) n old new operations handlers frames (there (length old.code)) places label number (subst (Behind n) (label_same label e).1 rest)
+      label_grows marks last (length old.code) n old new operations handlers frames (there (length old.code)) places label number (subst (Behind n) (label_same label e) rest)
 
   instruction_line : (operation : Operation) → IsRight operation → put_instruction marks operation old pool ≡ Some x → Extends x.0 last
       → length x.1.code ≡ offset_behind (length old.code) (Some (kinds.Instruction operation)) → Behind (n + 1) x.1
@@ -85,13 +83,6 @@ module _ (marks : Marks) (last : List Constant) (number n : ℕ) (old : MadeBody
   line_grows (Some (kinds.Frame locals stack)) is room e more behind rest = frame_line locals stack room e more rest
   line_grows _ is room e more behind rest = absurd cc
 
-  line_extends : (line : Option Line) → IsSaid line → step_of marks number line old pool ≡ Some x → Extends pool x.0
-  line_extends (Some (kinds.Label label)) is e = subst (λ (p : List Constant). Extends pool p) (label_same label e).0 (extends_same pool)
-  line_extends (Some (kinds.Instruction operation)) is e = (instruction_put marks operation old pool x (line_right operation is) e).extends
-  line_extends (Some (kinds.Handler from to at class)) is e = (handler_put marks from to at class old pool x e).extends
-  line_extends (Some (kinds.Frame locals stack)) is e = (frame_put marks locals stack old pool x e).extends
-  line_extends _ is e = absurd cc
-
 module _ (marks : Marks) (last : List Constant) (end : Numbered) (rest : List Numbered) (ends : is_end end.line ≡ true) where
   no_marks : (at : ℕ) (name : List ℕ) → marks_from at (end ∷ rest) name ≡ None
   no_marks at name = rw ends refl
@@ -100,22 +91,15 @@ module _ (marks : Marks) (last : List Constant) (end : Numbered) (rest : List Nu
   pub lines_grow : (lines : List Numbered) (n : ℕ) (old : MadeBody) (pool : List Constant) (x : List Constant × MadeBody) → AllByRecursion IsSaidAt lines → length old.code < 2 ^ 16
       → steps marks lines old pool ≡ Some x → Extends x.0 last
       → Grows marks last (length old.code) n old x.1 (instructions_in lines) (handlers_in lines) (frames_from n lines) (marks_from (length old.code) (lines ++ end ∷ rest)) (places_from n lines)
-      × Extends pool last
   lines_grow [] n old pool x are room e more =
-      let known = known_of pool (Some old) x e in
       let same : old ≡ x.1 = cc in
-      let none = nothing_grows marks last (length old.code) n old (marks_from (length old.code) (end ∷ rest)) (places_from n []) (no_marks (length old.code)) in (
-        subst (λ (b : MadeBody). Grows marks last (length old.code) n old b [] [] [] (marks_from (length old.code) (end ∷ rest)) (places_from n [])) same none,
-        subst (λ (p : List Constant). Extends p last) (sym known.pool_is) more,
-      )
+      let none = nothing_grows marks last (length old.code) n old (marks_from (length old.code) (end ∷ rest)) (places_from n []) (no_marks (length old.code)) in
+      subst (λ (b : MadeBody). Grows marks last (length old.code) n old b [] [] [] (marks_from (length old.code) (end ∷ rest)) (places_from n [])) same none
   lines_grow (numbered ∷ lines) n old pool x are room e more =
       let p = parts_of (step marks numbered old pool) (λ b. steps marks lines b) x e in
       let grown = step_grows marks numbered.number numbered.line old pool p.made room p.first_is in
       let k = steps_behind n numbered.line in
-      let on = lines_grow lines k p.made.1 p.made.0 x are.1 grown.room p.next_is more in (
-        line_grows marks last numbered.number n old pool p.made x.1 (instructions_in lines) (handlers_in lines) (frames_from k lines) (λ at. marks_from at (lines ++ end ∷ rest)) (places_from k lines)
-            numbered.line are.0 room p.first_is on.1 grown.length_is on.0,
-        extends_on pool p.made.0 last
-            (line_extends marks last numbered.number n old pool p.made x.1 (instructions_in lines) (handlers_in lines) (frames_from k lines) (λ at. marks_from at (lines ++ end ∷ rest)) (places_from k lines) numbered.line are.0 p.first_is)
-            on.1,
-      )
+      let on = lines_grow lines k p.made.1 p.made.0 x are.1 grown.room p.next_is more in
+      let kept = extends_further p.made.0 x.0 last (steps_keep marks lines p.made.1 p.made.0 x p.next_is).extends more in
+      line_grows marks last numbered.number n old pool p.made x.1 (instructions_in lines) (handlers_in lines) (frames_from k lines) (λ at. marks_from at (lines ++ end ∷ rest)) (places_from k lines)
+      numbered.line are.0 room p.first_is kept grown.length_is on

@@ -4,11 +4,11 @@ use Rattle.std.specs.Int.{w16, w32}
 use Rattle.std.proofs.lemmas.Bool.{and_parts, leb-true}
 use Rattle.std.proofs.lemmas.Option.{same_Some}
 use Rattle.assembly_lines.specs.Numbers.{has_no_leading_zero, are_digits, digits_value, number_up_to, negative, integer_up_to}
-use Rattle.body_meaning.proofs.RowLaws.{cases}
+use Rattle.assembly_lines.proofs.Cases.{chosen}
 
 taken : (first last : Bool) (value limit n : ℕ) → (last ≡ true → value ≤ limit) → cond (first && last) (Some value) None ≡ Some n → n ≤ limit
 taken first last value limit n within e =
-    elim (cases (first && last) (Some value) None (Some n) e) [
+    elim (chosen (first && last) (Some value) None (Some n) e) [
       | inl met ↦ let same : value ≡ n = same_Some value n met.1 in let le : value ≤ limit = within (and_parts first last met.0).1 in omega (arith, same, le)
       | inr missed ↦ absurd (let f = missed.1 in cc)
     ]
@@ -37,7 +37,7 @@ below_zero limit (Some (suc n)) z within e =
 integer_within : (limit : ℕ) (bytes : List ℕ) (z : ℤ) → integer_up_to limit bytes ≡ Some z → IsWithin limit z
 integer_within limit [] z e = absurd cc
 integer_within limit (b ∷ bytes) z e =
-    elim (cases (nat_eq b 45) (option_and_then negative (number_up_to (limit + 1) bytes)) (option_map (λ n. pos n) (number_up_to limit (b ∷ bytes))) (Some z) e) [
+    elim (chosen (nat_eq b 45) (option_and_then negative (number_up_to (limit + 1) bytes)) (option_map (λ n. pos n) (number_up_to limit (b ∷ bytes))) (Some z) e) [
       | inl minus ↦ below_zero limit (number_up_to (limit + 1) bytes) z (λ n. number_within (limit + 1) bytes n) minus.1
       | inr plus ↦ positive limit (number_up_to limit (b ∷ bytes)) z (λ n. number_within limit (b ∷ bytes) n) plus.1
     ]

@@ -20,14 +20,13 @@ use Rattle.method_make.specs.Making.{next_of, with_pool, only, used}
 use Rattle.method_make.specs.Labels.{Marks}
 use Rattle.method_make.specs.Offsets.{each, offset_of, case_of, narrow, byte, int_operand, local_operand, increment_operand, constant_operand, branch_operand, table_operand, lookup_operand}
 use Rattle.method_make.specs.Operands.{loaded_item, operands_of}
-use Rattle.method_make.proofs.ShapeLaws.{parts_of}
+use Rattle.method_make.proofs.GrowLaws.{used_is}
+use Rattle.method_make.proofs.ShapeLaws.{parts_of, known_of, found_parts}
 use Rattle.body_meaning.proofs.GrammarLaws.{HasIntKey, May}
-use Rattle.body_meaning.proofs.UseLaws.{extends_same, known_of, used_is}
-use Rattle.body_meaning.proofs.WritesLaws.{Fine, found_parts, narrow_8, narrow_16, byte_is, labels_lead, cases_written, keys_fit}
+use Rattle.body_meaning.proofs.WritesLaws.{Fine, narrow_8, narrow_16, byte_is, labels_lead, cases_written, keys_fit}
 
--- the pool keeps what it has, and the operands are fine with each pool that it grows to
+-- the operands are fine with each pool that the pool grows to
 pub record Made (marks : Marks) (form : Form) (said : lines.Operands) (pool : List Constant) (x : List Constant × Operands ℕ) : Type 0 where
-  pub extends : Extends pool x.0
   pub fine : (last : List Constant) → Extends x.0 last → Fine marks last form said x.1
 
 module _ (marks : Marks) (form : Form) (said : lines.Operands) where
@@ -39,7 +38,7 @@ module _ (marks : Marks) (form : Form) (said : lines.Operands) where
       → ((last : List Constant) (y : Operands ℕ) → o ≡ Some y → Fine marks last form said y) → Made marks form said pool x
   free_made pool x o e fine =
       let known = known_of pool o x e in
-      record { extends = subst (λ (p : List Constant). Extends pool p) known.pool_is (extends_same pool); fine = λ last more. fine last x.1 known.found }
+      record { fine = λ last more. fine last x.1 known.found }
 
   -- operands with the index of an item
   used_made : (item : Item) (make : ℕ → Option (Operands ℕ)) (pool : List Constant) (x : List Constant × Operands ℕ) → next_of (used item pool) (λ index. only (make index)) ≡ Some x
@@ -49,9 +48,8 @@ module _ (marks : Marks) (form : Form) (said : lines.Operands) where
       let is = used_is item pool p.made p.first_is in
       let known = known_of p.made.0 (make p.made.1) x p.next_is in
       record {
-        extends = subst (λ (q : List Constant). Extends pool q) known.pool_is is.extends;
-        fine = λ last more. fine last p.made.1 x.1 is.small
-            (item_stays item p.made.0 last p.made.1 (subst (λ (q : List Constant). Extends q last) (sym known.pool_is) more) is.is_at) known.found;
+        fine = λ last more. fine last p.made.1 x.1 is.short
+            (item_stays item p.made.0 last p.made.1 (subst (λ (q : List Constant). Extends q last) (sym known.pool_is) more) is.at) known.found;
       }
 
 -- ---- by forms

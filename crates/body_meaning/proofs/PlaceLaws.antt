@@ -11,7 +11,8 @@ use Rattle.code_steps.specs.CodeArray.{by_offsets}
 use Rattle.code_write.specs.declared.operands.Written.{Written}
 use Rattle.code_write.specs.Instruction.{instruction_bytes, operand_bytes, wide_bytes}
 use Rattle.code_write.specs.Meaning.{code_bytes, AreMeant}
-use Rattle.body_meaning.proofs.RowLaws.{cases, same_number}
+use Rattle.assembly_lines.proofs.Cases.{chosen}
+use Rattle.body_meaning.proofs.RowLaws.{same_number}
 
 -- an offset between or behind instructions, and how many stand before it; the first one stands at this offset, and so
 -- many before it
@@ -43,12 +44,12 @@ past at n w ws offset k is same = omega (arith, same, some_bytes at w, not_befor
 pub place_is : (at n : ℕ) (ws : List (Written ℕ)) (offset k j : ℕ) → Stands at n ws offset k → position_from (λ o. nat_eq o offset) n (starts at ws) ≡ Some j → j ≡ k
 place_is at n [] offset k j is e = absurd cc
 place_is at n (w ∷ ws) offset k j (inl is) e =
-    elim (cases (nat_eq at offset) (Some n) (position_from (λ o. nat_eq o offset) (n + 1) (starts (at + length (instruction_bytes at w)) ws)) (Some j) e) [
+    elim (chosen (nat_eq at offset) (Some n) (position_from (λ o. nat_eq o offset) (n + 1) (starts (at + length (instruction_bytes at w)) ws)) (Some j) e) [
       | inl here ↦ sym (same_Some n j here.1) ∙ sym is.1
       | inr there ↦ absurd (let t = same_number at offset (sym is.0) in let f = there.0 in cc)
     ]
 place_is at n (w ∷ ws) offset k j (inr is) e =
-    elim (cases (nat_eq at offset) (Some n) (position_from (λ o. nat_eq o offset) (n + 1) (starts (at + length (instruction_bytes at w)) ws)) (Some j) e) [
+    elim (chosen (nat_eq at offset) (Some n) (position_from (λ o. nat_eq o offset) (n + 1) (starts (at + length (instruction_bytes at w)) ws)) (Some j) e) [
       | inl here ↦ absurd (past at n w ws offset k is (eqb-true at offset here.0))
       | inr there ↦ place_is (at + length (instruction_bytes at w)) (n + 1) ws offset k j is there.1
     ]

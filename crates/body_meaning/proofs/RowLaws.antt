@@ -1,15 +1,11 @@
 -- The row of a mnemonic is the row of its number.
-use Rattle.std.proofs.Common.{◌≡◌, ℕ, ◌+◌, ◌≤◌, Bool, true, false, ◌&&◌, cond, nat_eq, nat_le, List, [], ◌∷◌, Some, refl, subst, ◌⊎◌, inl, inr, arith}
+use Rattle.std.proofs.Common.{◌≡◌, ℕ, ◌+◌, ◌≤◌, Bool, true, false, ◌&&◌, nat_eq, nat_le, List, [], ◌∷◌, Some, refl, subst, inl, inr, arith}
 use Rattle.std.specs.Prelude.{find, bytes_eq}
 use Rattle.std.proofs.lemmas.Bool.{and_parts, leb-true, eqb-true, cases_Bool}
 use Rattle.std.proofs.lemmas.Bool.Decides.{Decides-eqb}
 use Rattle.std.proofs.lemmas.Option.{same_Some}
 use Rattle.instructions.specs.Table.{Instruction, table, row_numbered, row_named}
-
--- a choice, by its test
-pub cases : {A : Type 0} (b : Bool) (x y z : A) → cond b x y ≡ z → ((b ≡ true) × (x ≡ z)) ⊎ ((b ≡ false) × (y ≡ z))
-cases true x y z e = inl (refl, e)
-cases false x y z e = inr (refl, e)
+use Rattle.assembly_lines.proofs.Cases.{chosen}
 
 -- two numbers that aren't the same
 pub other_number : (m n : ℕ) → (m ≡ n → ⊥) → nat_eq m n ≡ false
@@ -41,7 +37,7 @@ found_by_number p low [] row rising e = absurd cc
 found_by_number p low (first ∷ rows) row rising e =
     let both = and_parts (nat_le low first.number) (rise (first.number + 1) rows) rising in
     let le : low ≤ first.number = leb-true low first.number both.0 in
-    elim (cases (p first) (Some first) (find p rows) (Some row) e) [
+    elim (chosen (p first) (Some first) (find p rows) (Some row) e) [
       | inl here ↦ subst (λ (i : Instruction). Numbered low (first ∷ rows) i) (same_Some first row here.1) (found_first low first rows le)
       | inr there ↦ found_later low first row rows le (found_by_number p (first.number + 1) rows row both.1 there.1)
     ]

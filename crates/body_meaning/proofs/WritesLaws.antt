@@ -1,5 +1,5 @@
 -- What operands are written for the ones that a line says.
-use Rattle.std.proofs.Common.{◌≡◌, ℕ, ◌^◌, ◌<◌, ℤ, pos, negsuc, Bool, true, false, cond, nat_lt, List, [], ◌∷◌, Option, Some, None, FitsSigned, All, refl, sym, ap, subst, ◌∙◌, ◌⊎◌, ltb-true}
+use Rattle.std.proofs.Common.{◌≡◌, ℕ, ◌^◌, ◌<◌, ℤ, pos, negsuc, true, cond, nat_lt, List, [], ◌∷◌, Some, None, FitsSigned, All, refl, sym, ap, subst, ◌∙◌, ◌⊎◌, ltb-true}
 use Rattle.std.specs.Int.{w8, w16, w32}
 use Rattle.std.specs.List.{AllByRecursion, AllZip}
 use Rattle.std.proofs.lemmas.Option.{same_Some}
@@ -21,7 +21,8 @@ use Rattle.method_make.specs.Labels.{Marks}
 use Rattle.method_make.specs.Offsets.{each, offset_of, short_offset_of, case_of, narrow, byte}
 use Rattle.method_make.specs.Operands.{loaded_item}
 use Rattle.written_code.specs.Suits.{Suits}
-use Rattle.body_meaning.proofs.RowLaws.{cases}
+use Rattle.method_make.proofs.ShapeLaws.{found_parts}
+use Rattle.method_make.proofs.StepLaws.{chosen}
 use Rattle.body_meaning.proofs.GrammarLaws.{HasIntKey}
 
 -- the label's offset
@@ -65,20 +66,6 @@ pub record Fine (marks : Marks) (pool : List Constant) (form : Form) (said : lin
 
 -- ---- parts that are found
 
-pub record Found {A B : Type 0} (first : Option A) (next : A → Option B) (x : B) : Type 0 where
-  pub value : A
-  pub first_is : first ≡ Some value
-  pub next_is : next value ≡ Some x
-
-pub found_parts : {A B : Type 0} (first : Option A) (next : A → Option B) (x : B) → (first >>= next) ≡ Some x → Found first next x
-found_parts None next x e = absurd cc
-found_parts (Some a) next x e = record { value = a; first_is = refl; next_is = e }
-
--- what passes a test
-pub passed : {A : Type 0} (test : Bool) (y x : A) → cond test (Some y) None ≡ Some x → (test ≡ true) × (x ≡ y)
-passed true y x e = (refl, cc)
-passed false y x e = absurd cc
-
 fits_8 : (n : ℤ) → fits_signed 7 n ≡ true → FitsSigned w8 n
 fits_8 (pos n) e = record { sfits = ltb-true n (2 ^ 7) e }
 fits_8 (negsuc n) e = record { sfits = ltb-true n (2 ^ 7) e }
@@ -89,22 +76,22 @@ fits_16 (negsuc n) e = record { sfits = ltb-true n (2 ^ 15) e }
 
 pub narrow_8 : (n k : ℤ) → narrow 7 n ≡ Some k → (k ≡ n) × FitsSigned w8 k
 unfolding narrow
-narrow_8 n k e = let is = passed (fits_signed 7 n) n k e in (is.1, subst (λ (m : ℤ). FitsSigned w8 m) (sym is.1) (fits_8 n is.0))
+narrow_8 n k e = let is = chosen (fits_signed 7 n) n k e in (is.1, subst (λ (m : ℤ). FitsSigned w8 m) (sym is.1) (fits_8 n is.0))
 
 pub narrow_16 : (n k : ℤ) → narrow 15 n ≡ Some k → (k ≡ n) × FitsSigned w16 k
 unfolding narrow
-narrow_16 n k e = let is = passed (fits_signed 15 n) n k e in (is.1, subst (λ (m : ℤ). FitsSigned w16 m) (sym is.1) (fits_16 n is.0))
+narrow_16 n k e = let is = chosen (fits_signed 15 n) n k e in (is.1, subst (λ (m : ℤ). FitsSigned w16 m) (sym is.1) (fits_16 n is.0))
 
 pub byte_is : (n k : ℕ) → byte n ≡ Some k → (k ≡ n) × (k < 2 ^ 8)
 unfolding byte
-byte_is n k e = let is = passed (nat_lt n (2 ^ 8)) n k e in (is.1, subst (λ (m : ℕ). m < 2 ^ 8) (sym is.1) (ltb-true n (2 ^ 8) is.0))
+byte_is n k e = let is = chosen (nat_lt n (2 ^ 8)) n k e in (is.1, subst (λ (m : ℕ). m < 2 ^ 8) (sym is.1) (ltb-true n (2 ^ 8) is.0))
 
 -- an offset of two bytes is a label's
 pub short_leads : (marks : Marks) (label : List ℕ) (offset : ℕ) → short_offset_of marks label ≡ Some offset → Leads marks label offset × (offset < 2 ^ 16)
 unfolding short_offset_of
 short_leads marks label offset e =
     let p = found_parts (offset_of marks label) (λ o. cond (nat_lt o (2 ^ 16)) (Some o) None) offset e in
-    let is = passed (nat_lt p.value (2 ^ 16)) p.value offset p.next_is in
+    let is = chosen (nat_lt p.value (2 ^ 16)) p.value offset p.next_is in
     (p.first_is ∙ ap (λ (o : ℕ). Some o) (sym is.1), subst (λ (o : ℕ). o < 2 ^ 16) (sym is.1) (ltb-true p.value (2 ^ 16) is.0))
 
 -- ---- lists of them

@@ -7,7 +7,7 @@ use crate::number::{self, COUNT, THROWABLE};
 
 /// An exception that the machine itself makes, with a null message, where JVMS 6.5 or the Java SE 8
 /// API documentation lets an instruction or a built-in method throw it.
-#[derive(Debug, Clone, Copy, PartialEq, Eq)]
+#[derive(Clone, Copy)]
 pub enum MachineException {
     /// A zero divisor of an int or long division or remainder.
     Arithmetic,

@@ -17,7 +17,7 @@ use number::COUNT;
 
 /// The constructor or method of the Java SE 8 API that a built-in method is. The constructors of all
 /// classes from Throwable down share two, and each other built-in method has one of its own.
-#[derive(Debug, Clone, Copy, PartialEq, Eq)]
+#[derive(Clone, Copy)]
 pub enum Native {
     /// `Object()`, which does nothing.
     ObjectInit,
@@ -70,7 +70,7 @@ pub enum Native {
 }
 
 /// A field of a built-in class that a class file can name.
-#[derive(Debug, Clone, Copy, PartialEq, Eq)]
+#[derive(Clone, Copy)]
 pub struct BuiltinField {
     pub name: &'static str,
     /// The field descriptor (JVMS 4.3.2).
@@ -80,7 +80,7 @@ pub struct BuiltinField {
 }
 
 /// A constructor or method that a built-in class declares.
-#[derive(Debug, Clone, Copy, PartialEq, Eq)]
+#[derive(Clone, Copy)]
 pub struct BuiltinMethod {
     /// The name, `<init>` for a constructor.
     pub name: &'static str,
@@ -92,7 +92,7 @@ pub struct BuiltinMethod {
 }
 
 /// A built-in class or interface.
-#[derive(Debug, Clone, Copy, PartialEq, Eq)]
+#[derive(Clone, Copy)]
 pub struct BuiltinClass {
     /// The class's number, 1 to `number::COUNT`.
     pub number: u32,
@@ -155,6 +155,3 @@ fn class_at(classes: &[BuiltinClass], index: usize) -> Option<BuiltinClass>
 {
     classes.get(index).copied()
 }
-
-#[cfg(test)]
-mod tests;

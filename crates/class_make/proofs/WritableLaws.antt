@@ -1,15 +1,15 @@
 -- What is made has the room that it needs to be written.
-use Rattle.std.proofs.Common.{◌≡◌, ℕ, ◌<◌, ◌^◌, Bool, true, false, cond, ltb, List, [], ◌∷◌, length, Some, None, refl, sym, subst, lit<, lit≤}
-use Rattle.std.proofs.lemmas.Bool.{ltb-true}
+use Rattle.std.proofs.Common.{◌≡◌, ℕ, ◌<◌, ◌^◌, List, [], ◌∷◌, length, Some, sym, subst, lit<, lit≤}
 use Rattle.std.specs.List.{AllByRecursion}
 use Rattle.class_walk.specs.declared.class.Constant.{Constant}
 use Rattle.class_walk.specs.declared.class.RawAttribute.{RawAttribute}
 use Rattle.class_walk.specs.declared.class.RawClass.{RawClass}
-use Rattle.class_walk.specs.Layout.{IsCounted, code_spelling}
+use Rattle.class_walk.specs.Layout.{IsCounted}
 use Rattle.class_write.specs.Writable.{IsWritable, IsWritableConstant, IsWritableAttribute}
 use Rattle.class_write.proofs.TableLaws.{class_writable}
 use Rattle.pool_make.specs.Indexed.{IsMade}
-use Rattle.method_make.specs.Body.{MadeBody, code_of, content}
+use Rattle.method_make.specs.Body.{MadeBody, content}
+use Rattle.method_make.proofs.ContentLaws.{content_is}
 use Rattle.class_make.specs.Class.{attribute}
 
 -- a class with nothing but its pool
@@ -40,18 +40,12 @@ made_is_writable made pool same is = subst (AllByRecursion IsWritableConstant) (
 pub made_is_short : (made pool : List Constant) → pool ≡ made → IsMade made → length pool < 2 ^ 16
 made_is_short made pool same is = let P : List Constant → Type 0 = λ p. length p < 2 ^ 16 in subst P (sym same) is.sound.count
 
-content_by : (body : MadeBody) (bytes : List ℕ) (test : Bool) → ltb (length (code_spelling (code_of body))) (2 ^ 32) ≡ test
-    → cond test (Some (code_spelling (code_of body))) None ≡ Some bytes → length bytes < 2 ^ 32
-content_by body bytes false is e = absurd (let none : None ≡ Some bytes = e in cc)
-content_by body bytes true is e =
-    let same : code_spelling (code_of body) ≡ bytes = cc in
-    let P : List ℕ → Type 0 = λ b. length b < 2 ^ 32 in
-    subst P same (ltb-true (length (code_spelling (code_of body))) (2 ^ 32) is)
-
 -- the content of an attribute Code has room in it
 pub content_fits : (body : MadeBody) (bytes : List ℕ) → content body ≡ Some bytes → length bytes < 2 ^ 32
-unfolding content
-content_fits body bytes e = content_by body bytes (ltb (length (code_spelling (code_of body))) (2 ^ 32)) refl e
+content_fits body bytes e =
+    let is = content_is body bytes e in
+    let P : List ℕ → Type 0 = λ b. length b < 2 ^ 32 in
+    subst P (sym is.1) is.0
 
 pub one_attribute_is_writable : (name : ℕ) (bytes : List ℕ) (attributes : List RawAttribute) → attributes ≡ attribute name bytes ∷ [] → length bytes < 2 ^ 32
     → IsCounted IsWritableAttribute attributes

@@ -1,13 +1,12 @@
 -- What a text is assembled to.
-use Rattle.std.specs.Prelude.{◌≡◌, ℕ, List, take, Result}
+use Rattle.std.specs.Prelude.{◌≡◌, ℕ, ◌+◌, List, take, Result}
 use Rattle.assembly_text.specs.declared.lines.TextLines.{TextLines}
-use Rattle.assembly_text.specs.TextLines.{AreLinesOf}
+use Rattle.assembly_text.specs.TextLines.{most_bytes, AreLinesOf}
 use Rattle.class_make.specs.Assembly.{assembled}
 
--- A text has at most 1,048,576 bytes, and what stands behind the next one is not looked at: the line of that one says
--- nothing.
+-- What stands behind the first byte that a text may not have is not looked at: the line of that one says nothing.
 abbrev pub front : List ℕ → List ℕ
-front text = take 1048577 text
+front text = take (most_bytes + 1) text
 
 -- The class file of a text, or the number of the first line that is refused.
 pub record IsAssembled (text : List ℕ) (answer : Result (List ℕ) ℕ) : Type 0 where

@@ -19,7 +19,7 @@ use std::marker::Model;
 const MOST: usize = 65_535;
 
 /// A class as far as it is made, without its pool.
-#[derive(Debug, Drop)]
+#[derive(Drop)]
 pub struct ClassParts {
     pub flags: u16,
     pub this_class: u16,

@@ -13,6 +13,3 @@ mod state;
 pub use laws::texts_have_one_answer;
 pub use make::{assemble, make_class};
 pub use refusal::MakeRefusal;
-
-#[cfg(test)]
-mod tests;

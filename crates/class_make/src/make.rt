@@ -1,7 +1,8 @@
 //! The class of a text.
 
-ghost use Rattle.std.specs.Prelude.{◌≡◌, ◌≤◌, ℕ, List, Result, Ok, Err, IfOk, length};
+ghost use Rattle.std.specs.Prelude.{◌≡◌, ◌≤◌, ◌+◌, ℕ, List, Result, Ok, Err, IfOk, length};
 ghost use Rattle.class_write.specs.Writable.{IsWritable};
+ghost use Rattle.assembly_text.specs.TextLines.{most_bytes};
 ghost use Rattle.method_make.specs.Making.{Finds};
 ghost use Rattle.class_make.specs.Assembly.{Answers, assembled, finished, refusal_at, spelled};
 ghost use Rattle.class_make.specs.States.{state_of};
@@ -93,7 +94,7 @@ fn class_of_lines(alloc: Global, lines: &[Numbered], behind: u32) -> Result<Vec<
 /// The bytes of a text that are looked at: one more than a text has at most.
 fn front(text: &[u8]) -> &[u8]
     ensures value { result.now ≡ front text.now }
-    ensures bound { length result.now ≤ 1048577 }
+    ensures bound { length result.now ≤ most_bytes + 1 }
 {
     if text.len() <= MOST_BYTES {
         return text;

@@ -6,7 +6,7 @@ ghost use Rattle.class_make.specs.declared.refusal.MakeRefusal.TheVariants as re
 use std::alloc::AllocError;
 
 /// Why no class was made of a text.
-#[derive(Clone, Copy, Debug, PartialEq, Eq)]
+#[derive(Clone, Copy)]
 pub enum MakeRefusal {
     /// The number of the first line that is refused, from 1; the line behind the last where the class or the end of a
     /// body is missing.

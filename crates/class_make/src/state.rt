@@ -17,7 +17,7 @@ use rows::Bytes;
 use std::alloc::Global;
 
 /// A method whose body is open.
-#[derive(Debug, Drop)]
+#[derive(Drop)]
 pub struct OpenMethod {
     flags: u16,
     name: u16,
@@ -29,7 +29,7 @@ pub struct OpenMethod {
 }
 
 /// Where a text stands between its lines.
-#[derive(Debug, Drop)]
+#[derive(Drop)]
 pub enum State {
     BeforeClass,
     Outside(ClassParts),

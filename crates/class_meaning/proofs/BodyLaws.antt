@@ -1,5 +1,5 @@
 -- The numbers of a body have two bytes, as far as it is made.
-use Rattle.std.proofs.Common.{◌≡◌, ℕ, ◌^◌, ◌<◌, cond, ltb, List, [], ◌∷◌, ◌++◌, length, Option, Some, None, sym, ap, subst, arith, length-append}
+use Rattle.std.proofs.Common.{◌≡◌, ℕ, ◌^◌, ◌<◌, ltb, List, [], ◌∷◌, ◌++◌, length, Option, Some, None, sym, ap, subst, arith, length-append}
 use Rattle.std.specs.Prelude.{codes}
 use Rattle.std.specs.List.{AllByRecursion}
 use Rattle.std.proofs.lemmas.Bool.Decides.{Decides-ltb}
@@ -12,21 +12,21 @@ use Rattle.assembly_lines.specs.declared.line.Line.TheVariants as kinds
 use Rattle.assembly_lines.specs.declared.line.Room.{Room}
 use Rattle.assembly_lines.specs.declared.operation.Operation.{Operation}
 use Rattle.assembly_lines.specs.declared.frame.FrameItem.{FrameItem}
-use Rattle.assembly_lines.specs.Front.{◌>>=◌}
 use Rattle.assembly_text.specs.declared.lines.Numbered.{Numbered}
 use Rattle.code_write.specs.declared.frames.VerificationType.{VerificationType}
 use Rattle.pool_make.specs.Items.{text, class_named}
 use Rattle.pool_make.specs.Uses.{Extends}
 use Rattle.method_make.specs.Making.{with_pool, each_made}
 use Rattle.method_make.specs.Labels.{Marks}
-use Rattle.method_make.specs.Offsets.{offset_of, short_offset_of}
+use Rattle.method_make.specs.Offsets.{short_offset_of}
 use Rattle.method_make.specs.Put.{Puts}
 use Rattle.method_make.specs.Body.{MadeBody, begun, caught, put_handler, with_handler, type_of, map_name_of, put_frame, with_frame, is_first_at, step_of, step, steps}
-use Rattle.method_make.proofs.GiveLaws.{kept_further}
+use Rattle.pool_make.proofs.UseLaws.{extends_further}
 use Rattle.method_make.proofs.ShapeLaws.{parts_of, found_of}
 use Rattle.method_make.proofs.StepLaws.{chosen, instruction_puts}
-use Rattle.class_meaning.proofs.GrowLaws.{Keeps, keeps_further, keeps_known, pool_of, used_is, used_at, short_index}
-use Rattle.class_meaning.proofs.StepGrows.{types_keep, steps_keep}
+use Rattle.body_meaning.proofs.WritesLaws.{short_leads}
+use Rattle.method_make.proofs.GrowLaws.{Keeps, keeps_further, keeps_known, used_is, used_at}
+use Rattle.method_make.proofs.StepGrows.{types_keep, steps_keep}
 
 -- the name of the stack map stands at its index
 abbrev pub IsMapName : List Constant → Option ℕ → Type 0
@@ -63,25 +63,13 @@ instruction_sound last operation old new puts is =
 
 -- ---- handlers
 
-short_by : (o : Option ℕ) (n : ℕ) → (o >>= λ k. cond (ltb k (2 ^ 16)) (Some k) None) ≡ Some n → n < 2 ^ 16
-short_by None n e = absurd cc
-short_by (Some k) n e =
-    let got = chosen (ltb k (2 ^ 16)) k n e in
-    let less = (Decides-ltb k (2 ^ 16)).0 got.0 in
-    omega (arith, less, got.1)
-
-short_offset : (marks : Marks) (name : List ℕ) (n : ℕ) → short_offset_of marks name ≡ Some n → n < 2 ^ 16
-unfolding short_offset_of
-short_offset marks name n e = short_by (offset_of marks name) n e
-
-caught_short : (last : List Constant) (class : Option (List ℕ)) (pool : List Constant) (x : List Constant × ℕ) → length last < 2 ^ 16 → Extends x.0 last → caught class pool ≡ Some x → x.1 < 2 ^ 16
+caught_short : (class : Option (List ℕ)) (pool : List Constant) (x : List Constant × ℕ) → caught class pool ≡ Some x → x.1 < 2 ^ 16
 unfolding caught
-caught_short last None pool x count more e =
+caught_short None pool x e =
     let zero : Some 0 ≡ Some x.1 = found_of pool (Some 0) x e in
     let is : 0 ≡ x.1 = cc in
     omega (arith, is)
-caught_short last (Some class) pool x count more e =
-    short_index (class_named class) last x.1 count (used_at (class_named class) pool last x (used_is (class_named class) pool x e) more)
+caught_short (Some class) pool x e = (used_is (class_named class) pool x e).short
 
 put_sound : (last : List Constant) (handler : RawHandler) (old new : MadeBody) → IsHandler handler → put_handler handler old ≡ Some new → IsSoundBody last old → IsSoundBody last new
 unfolding put_handler
@@ -98,21 +86,20 @@ put_sound last handler old new right e is =
       map_name = subst (IsMapName last) (sym (ap (λ (b : MadeBody). b.map_name) new_is)) is.map_name;
     }
 
-handler_sound : (last : List Constant) (marks : Marks) (from to at : List ℕ) (class : Option (List ℕ)) (old : MadeBody) (pool : List Constant) (x : List Constant × MadeBody) → length last < 2 ^ 16 → Extends x.0 last
+handler_sound : (last : List Constant) (marks : Marks) (from to at : List ℕ) (class : Option (List ℕ)) (old : MadeBody) (pool : List Constant) (x : List Constant × MadeBody)
     → with_handler marks from to at class old pool ≡ Some x → IsSoundBody last old → IsSoundBody last x.1
 unfolding with_handler
-handler_sound last marks from to at class old pool x count more e is =
+handler_sound last marks from to at class old pool x e is =
     let p = parts_of (with_pool pool (short_offset_of marks from)) _ x e in
     let q = parts_of (with_pool p.made.0 (short_offset_of marks to)) _ x p.next_is in
     let r = parts_of (with_pool q.made.0 (short_offset_of marks at)) _ x q.next_is in
     let k = parts_of (caught class r.made.0) _ x r.next_is in
     let handler : RawHandler = record { from = p.made.1; to = q.made.1; at = r.made.1; kind = k.made.1 } in
-    let same : x.0 ≡ k.made.0 = pool_of k.made.0 (put_handler handler old) x k.next_is in
     let right : IsHandler handler = record {
-      from = short_offset marks from p.made.1 (found_of pool (short_offset_of marks from) p.made p.first_is);
-      to = short_offset marks to q.made.1 (found_of p.made.0 (short_offset_of marks to) q.made q.first_is);
-      at = short_offset marks at r.made.1 (found_of q.made.0 (short_offset_of marks at) r.made r.first_is);
-      kind = caught_short last class r.made.0 k.made count (subst (λ (l : List Constant). Extends l last) same more) k.first_is;
+      from = (short_leads marks from p.made.1 (found_of pool (short_offset_of marks from) p.made p.first_is)).1;
+      to = (short_leads marks to q.made.1 (found_of p.made.0 (short_offset_of marks to) q.made q.first_is)).1;
+      at = (short_leads marks at r.made.1 (found_of q.made.0 (short_offset_of marks at) r.made r.first_is)).1;
+      kind = caught_short class r.made.0 k.made k.first_is;
     } in
     put_sound last handler old x.1 right (found_of k.made.0 (put_handler handler old) x k.next_is) is
 
@@ -148,7 +135,7 @@ frame_sound last marks locals stack old pool x more e is =
     let kept : Keeps p.made.0 x.0 =
     keeps_further p.made.0 q.made.0 x.0 (types_keep marks locals p.made.0 q.made q.first_is)
     (keeps_further q.made.0 r.made.0 x.0 (types_keep marks stack q.made.0 r.made r.first_is) (keeps_known r.made.0 put x r.next_is)) in
-    let named = name_sound last old.map_name pool p.made (kept_further p.made.0 x.0 last kept.extends more) is.map_name p.first_is in
+    let named = name_sound last old.map_name pool p.made (extends_further p.made.0 x.0 last kept.extends more) is.map_name p.first_is in
     put_frame_sound last p.made.1 q.made.1 r.made.1 old x.1 named (found_of r.made.0 put x r.next_is) is
 
 -- ---- lines
@@ -159,7 +146,7 @@ step_sound last marks number (Some (kinds.Label name)) old pool x count more e i
     let same = (chosen (is_first_at number (marks name)) old x.1 (found_of pool _ x e)).1 in
     subst (IsSoundBody last) (sym same) is
 step_sound last marks number (Some (kinds.Instruction operation)) old pool x count more e is = instruction_sound last operation old x.1 (instruction_puts marks operation old pool x e) is
-step_sound last marks number (Some (kinds.Handler from to at class)) old pool x count more e is = handler_sound last marks from to at class old pool x count more e is
+step_sound last marks number (Some (kinds.Handler from to at class)) old pool x count more e is = handler_sound last marks from to at class old pool x e is
 step_sound last marks number (Some (kinds.Frame locals stack)) old pool x count more e is = frame_sound last marks locals stack old pool x more e is
 step_sound last marks number _ old pool x count more e is = absurd cc
 
@@ -174,4 +161,4 @@ steps_sound last marks (n ∷ lines) old pool x count more e is =
     let p = parts_of (step marks n old pool) (λ b. steps marks lines b) x e in
     let behind = (steps_keep marks lines p.made.1 p.made.0 x p.next_is).extends in
     steps_sound last marks lines p.made.1 p.made.0 x count more p.next_is
-    (step_sound last marks n.number n.line old pool p.made count (kept_further p.made.0 x.0 last behind more) p.first_is is)
+    (step_sound last marks n.number n.line old pool p.made count (extends_further p.made.0 x.0 last behind more) p.first_is is)

@@ -12,12 +12,12 @@ use Rattle.assembly_text.specs.declared.lines.Numbered.{Numbered}
 use Rattle.pool_make.specs.Indexed.{IsMade}
 use Rattle.pool_make.specs.Items.{class_named}
 use Rattle.pool_make.specs.Uses.{Extends}
-use Rattle.method_make.proofs.GiveLaws.{kept_further}
+use Rattle.pool_make.proofs.UseLaws.{extends_further}
 use Rattle.class_make.specs.Assembly.{class_of, with_super, finished, spelled}
 use Rattle.class_make.specs.Class.{MadeClass, outside, superclass}
 use Rattle.class_meaning.specs.Class.{IsNamed}
 use Rattle.class_meaning.specs.Parts.{SaidField, said_super, super_named, name_or_object, or_else, super_in, interfaces_in, fields_in, methods_in}
-use Rattle.class_meaning.proofs.GrowLaws.{Used, used_at}
+use Rattle.method_make.proofs.GrowLaws.{Used, used_at}
 use Rattle.class_meaning.proofs.MemberLaws.{IsField, IsMethod}
 use Rattle.class_meaning.proofs.PartLaws.{IsSuperIndex, SuperMade, super_made, InterfaceMade, FieldMade, MethodMade, said_alone}
 
@@ -121,7 +121,7 @@ ends_first class lines old x bytes super ih = record {
   pool = ih.pool;
   super = ih.super;
   spells = ih.spells;
-  extends = kept_further old x.0 ih.pool super.keeps.extends ih.extends;
+  extends = extends_further old x.0 ih.pool super.keeps.extends ih.extends;
   made = ih.made;
   flags = ih.flags;
   this_class = ih.this_class;
@@ -151,7 +151,7 @@ module _ (number : ℕ) (lines : List Numbered) (class : MadeClass) (old : List 
     pool = ih.pool;
     super = ih.super;
     spells = ih.spells;
-    extends = kept_further old x.0 ih.pool named.keeps.extends ih.extends;
+    extends = extends_further old x.0 ih.pool named.keeps.extends ih.extends;
     made = ih.made;
     flags = ih.flags;
     this_class = ih.this_class;
@@ -170,7 +170,7 @@ module _ (number : ℕ) (lines : List Numbered) (class : MadeClass) (old : List 
     pool = ih.pool;
     super = ih.super;
     spells = ih.spells;
-    extends = kept_further old x.0 ih.pool made.keeps.extends ih.extends;
+    extends = extends_further old x.0 ih.pool made.keeps.extends ih.extends;
     made = ih.made;
     flags = ih.flags;
     this_class = ih.this_class;
@@ -187,7 +187,7 @@ module _ (number : ℕ) (lines : List Numbered) (class : MadeClass) (old : List 
     pool = ih.pool;
     super = ih.super;
     spells = ih.spells;
-    extends = kept_further old x.0 ih.pool made.keeps.extends ih.extends;
+    extends = extends_further old x.0 ih.pool made.keeps.extends ih.extends;
     made = ih.made;
     flags = ih.flags;
     this_class = ih.this_class;
@@ -204,7 +204,7 @@ module _ (number : ℕ) (lines : List Numbered) (class : MadeClass) (old : List 
     pool = ih.pool;
     super = ih.super;
     spells = ih.spells;
-    extends = kept_further old x.0 ih.pool made.keeps.extends ih.extends;
+    extends = extends_further old x.0 ih.pool made.keeps.extends ih.extends;
     made = ih.made;
     flags = ih.flags;
     this_class = ih.this_class;

@@ -1,6 +1,4 @@
 pub mod Bodies
-pub mod GrowLaws
-pub mod StepGrows
 pub mod BodyLaws
 pub mod MemberLaws
 pub mod SaidLaws

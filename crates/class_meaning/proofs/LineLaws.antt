@@ -15,7 +15,7 @@ use Rattle.pool_make.specs.Uses.{Extends}
 use Rattle.method_make.specs.Making.{next_of, only}
 use Rattle.method_make.specs.Labels.{marks_in}
 use Rattle.method_make.specs.Body.{MadeBody, begun, steps, code_of}
-use Rattle.method_make.proofs.GiveLaws.{kept_further}
+use Rattle.pool_make.proofs.UseLaws.{extends_further}
 use Rattle.method_make.proofs.ShapeLaws.{parts_of}
 use Rattle.class_make.specs.Assembly.{assembled_from}
 use Rattle.class_make.specs.Class.{MadeClass, OpenMethod, State, outside, inside, superclass, super_line, interface_line, field_line, method_line, body_line, with_code, part_line, outside_line}
@@ -29,7 +29,7 @@ use Rattle.class_meaning.proofs.LeaveLaws.{went, known_of, Leaves, leaves}
 use Rattle.class_meaning.proofs.MemberLaws.{IsField, IsMethod}
 use Rattle.class_meaning.proofs.PartLaws.{super_made, super_named_once, interface_made, field_made, method_made, BodyMade, body_begun, Closes, closes}
 use Rattle.class_meaning.proofs.SaidLaws.{MayBeSaid, MayBeSaidAt, field_flags, method_flags, method_room}
-use Rattle.class_meaning.proofs.StepGrows.{steps_keep}
+use Rattle.method_make.proofs.StepGrows.{steps_keep}
 
 -- ---- methods with bodies
 
@@ -64,7 +64,7 @@ module _ (bodies : BodiesAreReadAgain) (number behind flags : ℕ) (name descrip
       → Extends l.after last → IsMade last → flags < 2 ^ 16 → room.stack < 2 ^ 16 → room.locals < 2 ^ 16 → length (code_spelling (code_of l.body)) < 2 ^ 32 → IsMethod last said (member_of made.n made.d made.c l.body)
   is_method x made l last more whole short stack locals size =
       let kept = (steps_keep (marks_in lines) (before_end lines) (begun room) x.0 (l.after, l.body) l.made).extends in
-      let from_line = kept_further x.0 l.after last kept more in
+      let from_line = extends_further x.0 l.after last kept more in
       record {
         flags = refl;
         short = short;
@@ -97,7 +97,7 @@ module _ (bodies : BodiesAreReadAgain) (number behind flags : ℕ) (name descrip
         pool = ih.pool;
         super = ih.super;
         spells = ih.spells;
-        extends = kept_further old x.0 ih.pool made.keeps.extends (kept_further x.0 l.after ih.pool kept more);
+        extends = extends_further old x.0 ih.pool made.keeps.extends (extends_further x.0 l.after ih.pool kept more);
         made = ih.made;
         flags = ih.flags;
         this_class = ih.this_class;

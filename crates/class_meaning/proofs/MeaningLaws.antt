@@ -1,11 +1,11 @@
 -- The class file that is read is what the lines of the text say.
-use Rattle.std.proofs.Common.{◌≡◌, ℕ, ◌+◌, ◌^◌, ◌<◌, ◌≤◌, List, [], ◌∷◌, length, map, Option, Some, None, Ok, refl, sym, ap, subst, ◌∙◌, arith}
+use Rattle.std.proofs.Common.{◌≡◌, ℕ, ◌+◌, ◌^◌, ◌<◌, List, [], ◌∷◌, length, map, Option, Some, None, Ok, refl, sym, ap, subst, ◌∙◌, arith}
 use Rattle.std.specs.List.{AllZip, AllByRecursion}
 use Rattle.class_walk.specs.declared.class.Constant.{Constant}
 use Rattle.class_walk.specs.declared.class.Constant.TheVariants.{Gap}
 use Rattle.class_walk.specs.declared.class.RawClass.{RawClass}
 use Rattle.class_walk.specs.declared.class.RawMember.{RawMember}
-use Rattle.class_walk.specs.Layout.{member, spelling, IsClassFile, IsCounted}
+use Rattle.class_walk.specs.Layout.{member, IsClassFile, IsCounted}
 use Rattle.class_walk.proofs.ClassLaws.{walk_again}
 use Rattle.class_read.specs.declared.class_file.ClassFile.{ClassFile}
 use Rattle.class_read.specs.declared.class_file.Member.{Member}
@@ -32,7 +32,7 @@ use Rattle.class_meaning.proofs.Bodies.{BodiesAreReadAgain}
 use Rattle.class_meaning.specs.Class.{IsNamed, SaysField, SaysMethod, IsClassOf}
 use Rattle.class_meaning.specs.Parts.{super_in, interfaces_in, fields_in, methods_in}
 use Rattle.class_meaning.proofs.EndLaws.{Adds, IsSuper, Ends, numbered}
-use Rattle.class_meaning.proofs.GrowLaws.{used_at, short_index}
+use Rattle.method_make.proofs.GrowLaws.{used_at, short_index}
 use Rattle.class_meaning.proofs.LeaveLaws.{went, known_of}
 use Rattle.class_meaning.proofs.LineLaws.{class_ends}
 use Rattle.class_meaning.proofs.MemberLaws.{IsField, IsMethod, field_fits, field_says, method_fits, method_says}
@@ -135,7 +135,7 @@ one_class bytes c other h k =
 read_is : (lines : List Numbered) (bytes : List ℕ) (b : Begins lines bytes) (c : RawClass) → IsClassFile bytes c → c ≡ placed (class_of b.ends.last b.ends.pool b.ends.super)
 read_is lines bytes b c is =
     let made = class_of b.ends.last b.ends.pool b.ends.super in
-    let size : length (spelling made) ≤ 1048576 = omega (arith, ap length b.ends.spells, is.size) in
+    let size = rw b.ends.spells at is.size in
     let File : List ℕ → Type 0 = λ list. IsClassFile list (placed made) in
     one_class bytes c (placed made) is (subst File (sym b.ends.spells) (written_class made (written lines bytes b) size))
 

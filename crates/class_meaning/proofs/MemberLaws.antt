@@ -31,7 +31,7 @@ use Rattle.body_meaning.specs.Body.{IsBodyOf, maps_content, attribute_of}
 use Rattle.class_meaning.specs.Class.{SaysValue, SaysField, SaysCode, SaysMethod}
 use Rattle.class_meaning.specs.Parts.{SaidField, SaidBody, SaidMethod}
 use Rattle.class_meaning.proofs.BodyLaws.{IsMapName, IsSoundBody}
-use Rattle.class_meaning.proofs.GrowLaws.{short_index}
+use Rattle.method_make.proofs.GrowLaws.{short_index}
 
 -- ---- attributes by their names
 

@@ -1,5 +1,5 @@
 -- The parts of a class as they are made, line by line.
-use Rattle.std.proofs.Common.{◌≡◌, ℕ, ◌^◌, ◌<◌, ltb, List, [], ◌∷◌, ◌++◌, length, Option, Some, None, refl, sym, ap, subst, ◌∙◌}
+use Rattle.std.proofs.Common.{◌≡◌, ℕ, ◌^◌, ◌<◌, List, [], ◌∷◌, ◌++◌, length, Option, Some, None, refl, sym, ap, subst, ◌∙◌}
 use Rattle.std.specs.Prelude.{codes}
 use Rattle.std.proofs.lemmas.Bool.{and_parts}
 use Rattle.std.proofs.lemmas.Bool.Decides.{Decides-ltb}
@@ -15,12 +15,13 @@ use Rattle.pool_make.specs.Uses.{Extends}
 use Rattle.method_make.specs.Making.{with_pool, used}
 use Rattle.method_make.specs.Labels.{Marks}
 use Rattle.method_make.specs.Body.{begun, code_of, content}
-use Rattle.method_make.proofs.GiveLaws.{kept_further}
+use Rattle.pool_make.proofs.UseLaws.{extends_further}
+use Rattle.method_make.proofs.ContentLaws.{content_is}
 use Rattle.method_make.proofs.ShapeLaws.{parts_of, found_of}
 use Rattle.method_make.proofs.StepLaws.{chosen}
 use Rattle.class_make.specs.Class.{MadeClass, OpenMethod, has_place, put_interface, put_field, put_method, member, attribute, value_item, constant_value, class_line, super_line, superclass, interface_line, field_line, method_line, opened, body_line, with_code, closed}
 use Rattle.class_meaning.specs.Parts.{SaidField, SaidMethod}
-use Rattle.class_meaning.proofs.GrowLaws.{Keeps, keeps_further, keeps_known, pool_of, Used, used_is, used_at}
+use Rattle.method_make.proofs.GrowLaws.{Keeps, keeps_further, keeps_known, pool_of, Used, used_is, used_at}
 use Rattle.class_meaning.proofs.MemberLaws.{IsValued, IsField, IsMethod}
 
 -- what comes of a pool comes of the pool that it was left as
@@ -119,7 +120,7 @@ value_made (Some value) pool x e =
       keeps = keeps_further pool p.made.0 x.0 named.keeps (keeps_further p.made.0 q.made.0 x.0 valued.keeps (keeps_known q.made.0 (Some one) x q.next_is));
       is = λ last more.
           let then_value = later q.made.0 last (Some one) x q.next_is more in
-          let then_name = kept_further p.made.0 q.made.0 last valued.keeps.extends then_value in
+          let then_name = extends_further p.made.0 q.made.0 last valued.keeps.extends then_value in
           (p.made.1, q.made.1, same, used_at (text (codes "ConstantValue")) pool last p.made named then_name, used_at (value_item value) p.made.0 last q.made valued then_value);
     }
 
@@ -153,8 +154,8 @@ field_made said class pool x e =
       keeps = keeps_further pool p.made.0 x.0 named.keeps (keeps_further p.made.0 q.made.0 x.0 described.keeps (keeps_further q.made.0 r.made.0 x.0 valued.keeps (keeps_known r.made.0 put x r.next_is)));
       at = λ last more short.
           let then_value = later r.made.0 last put x r.next_is more in
-          let then_descriptor = kept_further q.made.0 r.made.0 last valued.keeps.extends then_value in
-          let then_name = kept_further p.made.0 q.made.0 last described.keeps.extends then_descriptor in
+          let then_descriptor = extends_further q.made.0 r.made.0 last valued.keeps.extends then_value in
+          let then_name = extends_further p.made.0 q.made.0 last described.keeps.extends then_descriptor in
           record {
             flags = refl;
             short = short;
@@ -200,7 +201,7 @@ method_made flags name descriptor class pool x e =
       keeps = keeps_further pool p.made.0 x.0 named.keeps (keeps_further p.made.0 q.made.0 x.0 described.keeps (keeps_known q.made.0 put x q.next_is));
       at = λ last more short.
           let then_descriptor = later q.made.0 last put x q.next_is more in
-          let then_name = kept_further p.made.0 q.made.0 last described.keeps.extends then_descriptor in
+          let then_name = extends_further p.made.0 q.made.0 last described.keeps.extends then_descriptor in
           record {
             flags = refl;
             short = short;
@@ -237,8 +238,8 @@ body_begun marks flags name descriptor room class pool x e =
     let put : Option OpenMethod = opened class begins in
     let done = (chosen (has_place class.methods) begins x.1 (found_of r.made.0 put x r.next_is)).1 in
     let at_code : (last : List Constant) → Extends x.0 last → Extends r.made.0 last = λ last more. later r.made.0 last put x r.next_is more in
-    let at_descriptor : (last : List Constant) → Extends x.0 last → Extends q.made.0 last = λ last more. kept_further q.made.0 r.made.0 last coded.keeps.extends (at_code last more) in
-    let at_name : (last : List Constant) → Extends x.0 last → Extends p.made.0 last = λ last more. kept_further p.made.0 q.made.0 last described.keeps.extends (at_descriptor last more) in
+    let at_descriptor : (last : List Constant) → Extends x.0 last → Extends q.made.0 last = λ last more. extends_further q.made.0 r.made.0 last coded.keeps.extends (at_code last more) in
+    let at_name : (last : List Constant) → Extends x.0 last → Extends p.made.0 last = λ last more. extends_further p.made.0 q.made.0 last described.keeps.extends (at_descriptor last more) in
     record {
       n = p.made.1;
       d = q.made.1;
@@ -257,17 +258,11 @@ pub record Closes (method : OpenMethod) (class : MadeClass) (pool : List Constan
   pub few : length class.methods < 65535
   pub is : x.1 ≡ record class { methods = class.methods ++ with_code method (code_spelling (code_of method.body)) ∷ [] }
 
-content_is : (method : OpenMethod) (bytes : List ℕ) → content method.body ≡ Some bytes → (length (code_spelling (code_of method.body)) < 2 ^ 32) × (bytes ≡ code_spelling (code_of method.body))
-unfolding content
-content_is method bytes e =
-    let got = chosen (ltb (length (code_spelling (code_of method.body))) (2 ^ 32)) (code_spelling (code_of method.body)) bytes e in
-    ((Decides-ltb (length (code_spelling (code_of method.body))) (2 ^ 32)).0 got.0, got.1)
-
 pub closes : (method : OpenMethod) (class : MadeClass) (pool : List Constant) (x : List Constant × MadeClass) → closed method class pool ≡ Some x → Closes method class pool x
 unfolding closed
 closes method class pool x e =
     let p = parts_of (with_pool pool (content method.body)) _ x e in
-    let bytes = content_is method p.made.1 (found_of pool (content method.body) p.made p.first_is) in
+    let bytes = content_is method.body p.made.1 (found_of pool (content method.body) p.made p.first_is) in
     let put = put_method (with_code method p.made.1) class in
     let done = method_put (with_code method p.made.1) class x.1 (found_of p.made.0 put x p.next_is) in
     record {

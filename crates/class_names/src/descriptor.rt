@@ -88,7 +88,7 @@ fn returned_shape(bytes: &[u8]) -> Option<Option<KindShape<'_>>>
 
 /// A method descriptor as it stands: the size of its parameters, the bytes from the first parameter on, and
 /// the result.
-#[derive(Clone, Copy, Debug)]
+#[derive(Clone, Copy)]
 pub(crate) struct MethodShape<'a> {
     size: ParameterSize,
     parameters: &'a [u8],

@@ -7,7 +7,7 @@ use rows::{Bytes, Rows};
 use std::alloc::{AllocError, AllocFailed};
 
 /// A type that is no array: a primitive type, or a class or interface (JVMS 4.3.2).
-#[derive(Debug, Drop)]
+#[derive(Drop)]
 pub enum BaseKind {
     Int,
     Byte,
@@ -23,7 +23,7 @@ pub enum BaseKind {
 }
 
 /// The type of a field, a parameter or a result (JVMS 4.3.2).
-#[derive(Debug, Drop)]
+#[derive(Drop)]
 pub enum Kind {
     /// A value that is no array.
     Base(BaseKind),
@@ -32,7 +32,7 @@ pub enum Kind {
 }
 
 /// What a descriptor says (JVMS 4.3.2, 4.3.3).
-#[derive(Debug, Drop)]
+#[derive(Drop)]
 pub enum Descriptor {
     /// The kind of a field.
     Field(Kind),
@@ -41,7 +41,7 @@ pub enum Descriptor {
 }
 
 /// How much the parameters of a method are; the receiver isn't counted.
-#[derive(Clone, Copy, Debug, PartialEq, Eq)]
+#[derive(Clone, Copy)]
 pub struct ParameterSize {
     /// How many there are.
     pub count: u8,
@@ -50,7 +50,7 @@ pub struct ParameterSize {
 }
 
 /// Why there is no descriptor or text.
-#[derive(Clone, Copy, Debug, PartialEq, Eq)]
+#[derive(Clone, Copy)]
 pub enum NameRefusal {
     /// The bytes are no descriptor, or the constant is no text.
     Bad,

@@ -20,6 +20,3 @@ pub use kind::{BaseKind, Descriptor, Kind, NameRefusal, ParameterSize};
 pub use laws::{bytes_have_one_descriptor, bytes_have_one_text};
 pub use modified_utf8::{decode_text, is_modified_utf8};
 pub use names::{is_class_name, is_member_name, is_method_name};
-
-#[cfg(test)]
-mod tests;

@@ -12,7 +12,7 @@ use rows::Bytes;
 use std::alloc::{AllocError, Global};
 
 /// A kind that is no array. The name of a class is lent.
-#[derive(Clone, Copy, Debug)]
+#[derive(Clone, Copy)]
 pub(crate) enum BaseShape<'a> {
     Int,
     Byte,
@@ -26,7 +26,7 @@ pub(crate) enum BaseShape<'a> {
 }
 
 /// A kind. Without a dimension it is no array.
-#[derive(Clone, Copy, Debug)]
+#[derive(Clone, Copy)]
 pub(crate) struct KindShape<'a> {
     pub dimensions: u8,
     pub base: BaseShape<'a>,

@@ -1,5 +1,6 @@
 -- The tests of the pool say what they ask.
-use Rattle.std.proofs.Common.{◌≡◌, ℕ, Bool, true, false, List, Option, None, Some, slice_get, ◌&&◌, refl, subst, ap, sym, ◌∙◌, [], ◌∷◌, length, ◌==◌, suc, arith}
+use Rattle.std.proofs.Common.{◌≡◌, ℕ, Bool, true, List, Option, None, Some, slice_get, refl, subst, ap, sym, ◌∙◌, [], ◌∷◌, length, ◌==◌, suc, arith}
+use Rattle.std.proofs.lemmas.Bool.{and_parts, and_from}
 use Rattle.std.proofs.lemmas.Bool.Decides.{nat_tests}
 use Rattle.std.specs.Bool.{Decides}
 use Rattle.std.proofs.lemmas.Slice.Eq.{bytes_eq-Decides}
@@ -7,13 +8,6 @@ use Rattle.class_walk.specs.declared.class.Constant.{Constant}
 use Rattle.class_walk.specs.declared.class.Constant.TheVariants.{Utf8, Class, Field, Method, Pair}
 use Rattle.class_read.specs.Pool.{Reference, IsUtf8At, IsClassAt, IsPairAt, IsFieldAt, IsMethodAt}
 use Rattle.class_read.specs.PoolTest.{is_text, is_class, is_pair, is_field, is_method, has_field, has_method}
-
-both_true : (a b : Bool) → (a && b) ≡ true → (a ≡ true) × (b ≡ true)
-both_true true b h = (refl, h)
-both_true false b h = absurd (cc)
-
-true_both : (a b : Bool) → a ≡ true → b ≡ true → (a && b) ≡ true
-true_both a b e f = rw (e, f)
 
 pub is_text-Decides : (text : List ℕ) (o : Option Constant) → Decides (is_text text o) (o ≡ Some (Utf8 text))
 is_text-Decides text None = (λ h. absurd (cc), λ h. cc)
@@ -36,14 +30,14 @@ is_class-Decides pool name (Some _) = (λ h. absurd (cc), λ h. let e = h.1 in c
 pub is_pair-Decides : (pool : List Constant) (name descriptor : List ℕ) (o : Option Constant) → Decides (is_pair pool name descriptor o) ((n d : ℕ) × (o ≡ Some (Pair n d)) × IsUtf8At pool n name × IsUtf8At pool d descriptor)
 is_pair-Decides pool name descriptor None = (λ h. absurd (cc), λ h. let e = h.2 in cc)
 is_pair-Decides pool name descriptor (Some (Pair n d)) = (
-  λ h. let both = both_true (is_text name (slice_get pool n)) (is_text descriptor (slice_get pool d)) h in
+  λ h. let both = and_parts (is_text name (slice_get pool n)) (is_text descriptor (slice_get pool d)) h in
       (n, d, refl, (is_text-Decides name (slice_get pool n)).0 both.0, (is_text-Decides descriptor (slice_get pool d)).0 both.1),
   λ h. let P : ℕ → Type 0 = λ k. IsUtf8At pool k name in
       let Q : ℕ → Type 0 = λ k. IsUtf8At pool k descriptor in
       let e = h.2 in
       let same : h.0 ≡ n = cc in
       let same_too : h.1 ≡ d = cc in
-      true_both (is_text name (slice_get pool n)) (is_text descriptor (slice_get pool d))
+      and_from (is_text name (slice_get pool n)) (is_text descriptor (slice_get pool d))
       ((is_text-Decides name (slice_get pool n)).1 (subst P same h.3))
       ((is_text-Decides descriptor (slice_get pool d)).1 (subst Q same_too h.4)),
 )
@@ -52,14 +46,14 @@ is_pair-Decides pool name descriptor (Some _) = (λ h. absurd (cc), λ h. let e 
 is_field-Decides : (pool : List Constant) (r : Reference) (o : Option Constant) → Decides (is_field pool r o) ((c p : ℕ) × (o ≡ Some (Field c p)) × IsClassAt pool c r.class × IsPairAt pool p r.name r.descriptor)
 is_field-Decides pool r None = (λ h. absurd (cc), λ h. let e = h.2 in cc)
 is_field-Decides pool r (Some (Field c p)) = (
-  λ h. let both = both_true (is_class pool r.class (slice_get pool c)) (is_pair pool r.name r.descriptor (slice_get pool p)) h in
+  λ h. let both = and_parts (is_class pool r.class (slice_get pool c)) (is_pair pool r.name r.descriptor (slice_get pool p)) h in
       (c, p, refl, (is_class-Decides pool r.class (slice_get pool c)).0 both.0, (is_pair-Decides pool r.name r.descriptor (slice_get pool p)).0 both.1),
   λ h. let P : ℕ → Type 0 = λ k. IsClassAt pool k r.class in
       let Q : ℕ → Type 0 = λ k. IsPairAt pool k r.name r.descriptor in
       let e = h.2 in
       let same : h.0 ≡ c = cc in
       let same_too : h.1 ≡ p = cc in
-      true_both (is_class pool r.class (slice_get pool c)) (is_pair pool r.name r.descriptor (slice_get pool p))
+      and_from (is_class pool r.class (slice_get pool c)) (is_pair pool r.name r.descriptor (slice_get pool p))
       ((is_class-Decides pool r.class (slice_get pool c)).1 (subst P same h.3))
       ((is_pair-Decides pool r.name r.descriptor (slice_get pool p)).1 (subst Q same_too h.4)),
 )
@@ -68,14 +62,14 @@ is_field-Decides pool r (Some _) = (λ h. absurd (cc), λ h. let e = h.2 in cc)
 is_method-Decides : (pool : List Constant) (r : Reference) (o : Option Constant) → Decides (is_method pool r o) ((c p : ℕ) × (o ≡ Some (Method c p)) × IsClassAt pool c r.class × IsPairAt pool p r.name r.descriptor)
 is_method-Decides pool r None = (λ h. absurd (cc), λ h. let e = h.2 in cc)
 is_method-Decides pool r (Some (Method c p)) = (
-  λ h. let both = both_true (is_class pool r.class (slice_get pool c)) (is_pair pool r.name r.descriptor (slice_get pool p)) h in
+  λ h. let both = and_parts (is_class pool r.class (slice_get pool c)) (is_pair pool r.name r.descriptor (slice_get pool p)) h in
       (c, p, refl, (is_class-Decides pool r.class (slice_get pool c)).0 both.0, (is_pair-Decides pool r.name r.descriptor (slice_get pool p)).0 both.1),
   λ h. let P : ℕ → Type 0 = λ k. IsClassAt pool k r.class in
       let Q : ℕ → Type 0 = λ k. IsPairAt pool k r.name r.descriptor in
       let e = h.2 in
       let same : h.0 ≡ c = cc in
       let same_too : h.1 ≡ p = cc in
-      true_both (is_class pool r.class (slice_get pool c)) (is_pair pool r.name r.descriptor (slice_get pool p))
+      and_from (is_class pool r.class (slice_get pool c)) (is_pair pool r.name r.descriptor (slice_get pool p))
       ((is_class-Decides pool r.class (slice_get pool c)).1 (subst P same h.3))
       ((is_pair-Decides pool r.name r.descriptor (slice_get pool p)).1 (subst Q same_too h.4)),
 )

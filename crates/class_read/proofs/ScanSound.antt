@@ -1,6 +1,7 @@
 -- What was scanned begins as the code of statements does.
-use Rattle.std.proofs.Common.{◌≡◌, ℕ, suc, ◌+◌, ◌-◌, ◌*◌, ◌^◌, ◌<◌, ◌≤◌, Bool, true, false, ◌&&◌, ◌||◌, nat_le, ◌==◌, List, [], ◌∷◌, ◌++◌, length, fold, if◌then◌else◌, arith, refl, sym, ◌∙◌, ap, subst, append_assoc, append-nil, ◌⊎◌, inl, inr}
+use Rattle.std.proofs.Common.{◌≡◌, ℕ, suc, ◌+◌, ◌-◌, ◌*◌, ◌^◌, ◌<◌, ◌≤◌, Bool, true, false, ◌&&◌, ◌||◌, nat_le, ◌==◌, List, [], ◌∷◌, ◌++◌, length, fold, if◌then◌else◌, arith, refl, sym, ◌∙◌, ap, subst, append_assoc, append-nil, inl, inr}
 use Rattle.std.specs.List.{AllByRecursion, flat_map}
+use Rattle.std.proofs.lemmas.Bool.{and_parts, or_cases, eqb-true, leb-true}
 use Rattle.std.proofs.lemmas.Bool.Decides.{nat_tests}
 use Rattle.std.proofs.lemmas.Grind.{flat_map-append}
 use Rattle.class_walk.specs.Layout.{u2}
@@ -190,66 +191,52 @@ gone-between f g bytes byte w =
     subst (λ n. After (Whole f g) (177 ∷ []) (bytes ++ n ∷ [])) (sym is) (after (Whole f g) bytes (177 ∷ []) w))
     (λ _. tt))
 
-both : (a b : Bool) → (a && b) ≡ true → (a ≡ true) × (b ≡ true)
-both true b h = (refl, h)
-both false b h = absurd (cc)
-
-either : (a b : Bool) → (a || b) ≡ true → (a ≡ true) ⊎ (b ≡ true)
-either true b h = inl refl
-either false b h = inr h
-
-is_same : (a b : ℕ) → (a == b) ≡ true → a ≡ b
-is_same a b t = grind (arith, nat_tests)
-
 -- an operator of each of its numbers
 operator_of : (byte : ℕ) → is_operator byte ≡ true → (operator : Operator) × (opcode_of operator ≡ byte)
 operator_of byte t =
-    elim (either (byte == 96 || byte == 100 || byte == 104 || byte == 126 || byte == 128) (byte == 130) t) [
-      | inr e ↦ (ixor, sym (is_same byte 130 e))
-      | inl t ↦ elim (either (byte == 96 || byte == 100 || byte == 104 || byte == 126) (byte == 128) t) [
-        | inr e ↦ (ior, sym (is_same byte 128 e))
-        | inl t ↦ elim (either (byte == 96 || byte == 100 || byte == 104) (byte == 126) t) [
-          | inr e ↦ (iand, sym (is_same byte 126 e))
-          | inl t ↦ elim (either (byte == 96 || byte == 100) (byte == 104) t) [
-            | inr e ↦ (imul, sym (is_same byte 104 e))
-            | inl t ↦ elim (either (byte == 96) (byte == 100) t) [
-              | inr e ↦ (isub, sym (is_same byte 100 e))
-              | inl e ↦ (iadd, sym (is_same byte 96 e))
+    elim (or_cases (byte == 96 || byte == 100 || byte == 104 || byte == 126 || byte == 128) (byte == 130) t) [
+      | inr e ↦ (ixor, sym (eqb-true byte 130 e))
+      | inl t ↦ elim (or_cases (byte == 96 || byte == 100 || byte == 104 || byte == 126) (byte == 128) t) [
+        | inr e ↦ (ior, sym (eqb-true byte 128 e))
+        | inl t ↦ elim (or_cases (byte == 96 || byte == 100 || byte == 104) (byte == 126) t) [
+          | inr e ↦ (iand, sym (eqb-true byte 126 e))
+          | inl t ↦ elim (or_cases (byte == 96 || byte == 100) (byte == 104) t) [
+            | inr e ↦ (imul, sym (eqb-true byte 104 e))
+            | inl t ↦ elim (or_cases (byte == 96) (byte == 100) t) [
+              | inr e ↦ (isub, sym (eqb-true byte 100 e))
+              | inl e ↦ (iadd, sym (eqb-true byte 96 e))
             ]
           ]
         ]
       ]
     ]
 
-is_at_most : (a b : ℕ) → nat_le a b ≡ true → a ≤ b
-is_at_most a b t = grind (arith, nat_tests)
-
 gone_constant : (f g : ℕ → Bool) (bytes : List ℕ) (depth byte : ℕ) → Open f g bytes depth → (nat_le 2 byte && nat_le byte 8) ≡ true → Open f g (bytes ++ byte ∷ []) (depth + 1)
 gone_constant f g bytes depth byte o t =
-    let two = both (nat_le 2 byte) (nat_le byte 8) t in
-    let low : 2 ≤ byte = is_at_most 2 byte two.0 in
-    let high : byte ≤ 8 = is_at_most byte 8 two.1 in
+    let two = and_parts (nat_le 2 byte) (nat_le byte 8) t in
+    let low : 2 ≤ byte = leb-true 2 byte two.0 in
+    let high : byte ≤ 8 = leb-true byte 8 two.1 in
     more_open f g bytes (byte ∷ []) depth (iconst (byte - 2)) (omega arith) (let e : 2 + (byte - 2) ≡ byte = omega arith in ap (λ n. n ∷ []) e) o
 
 gone_byte : (f g : ℕ → Bool) (P : List ℕ → Type 0) (bytes : List ℕ) (opcode byte : ℕ) → P bytes → (byte == opcode) ≡ true → After P (opcode ∷ []) (bytes ++ byte ∷ [])
 gone_byte f g P bytes opcode byte is t =
-    subst (λ n. After P (opcode ∷ []) (bytes ++ n ∷ [])) (sym (is_same byte opcode t)) (after P bytes (opcode ∷ []) is)
+    subst (λ n. After P (opcode ∷ []) (bytes ++ n ∷ [])) (sym (eqb-true byte opcode t)) (after P bytes (opcode ∷ []) is)
 
 gone_negated : (f g : ℕ → Bool) (bytes : List ℕ) (depth byte : ℕ) → Open f g bytes depth → (byte == 116 && nat_le 1 depth) ≡ true → Open f g (bytes ++ byte ∷ []) depth
 gone_negated f g bytes depth byte o t =
-    let two = both (byte == 116) (nat_le 1 depth) t in
-    subst (λ n. Open f g (bytes ++ n ∷ []) depth) (sym (is_same byte 116 two.0)) (negate_open f g bytes depth (is_at_most 1 depth two.1) o)
+    let two = and_parts (byte == 116) (nat_le 1 depth) t in
+    subst (λ n. Open f g (bytes ++ n ∷ []) depth) (sym (eqb-true byte 116 two.0)) (negate_open f g bytes depth (leb-true 1 depth two.1) o)
 
 gone_joined : (f g : ℕ → Bool) (bytes : List ℕ) (depth byte : ℕ) → Open f g bytes depth → (is_operator byte && nat_le 2 depth) ≡ true → Open f g (bytes ++ byte ∷ []) (depth - 1)
 gone_joined f g bytes depth byte o t =
-    let two = both (is_operator byte) (nat_le 2 depth) t in
+    let two = and_parts (is_operator byte) (nat_le 2 depth) t in
     let operator = operator_of byte two.0 in
-    subst (λ n. Open f g (bytes ++ n ∷ []) (depth - 1)) operator.1 (join_open f g bytes depth operator.0 (is_at_most 2 depth two.1) o)
+    subst (λ n. Open f g (bytes ++ n ∷ []) (depth - 1)) operator.1 (join_open f g bytes depth operator.0 (leb-true 2 depth two.1) o)
 
 gone_method : (f g : ℕ → Bool) (bytes : List ℕ) (depth byte : ℕ) → Open f g bytes depth → (byte == 182 && depth == 1) ≡ true → After (λ front. Open f g front 1) (182 ∷ []) (bytes ++ byte ∷ [])
 gone_method f g bytes depth byte o t =
-    let two = both (byte == 182) (depth == 1) t in
-    gone_byte f g (λ front. Open f g front 1) bytes 182 byte (subst (λ n. Open f g bytes n) (is_same depth 1 two.1) o) two.0
+    let two = and_parts (byte == 182) (depth == 1) t in
+    gone_byte f g (λ front. Open f g front 1) bytes 182 byte (subst (λ n. Open f g bytes n) (eqb-true depth 1 two.1) o) two.0
 
 gone-inside : (f g : ℕ → Bool) (bytes : List ℕ) (depth byte : ℕ) → Open f g bytes depth → Gone f g (inside depth byte) (bytes ++ byte ∷ [])
 unfolding inside

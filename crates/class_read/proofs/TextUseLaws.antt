@@ -1,5 +1,5 @@
 -- What the texts of the pool may be used as.
-use Rattle.std.proofs.Common.{◌≡◌, ◌+◌, ◌<◌, ◌≤◌, ℕ, List, [], ◌∷◌, ◌++◌, length, refl, sym, ap, subst, ◌∙◌, arith, inl, inr, length-append}
+use Rattle.std.proofs.Common.{◌≡◌, ◌+◌, ◌<◌, ℕ, List, [], ◌∷◌, ◌++◌, length, refl, sym, ap, subst, ◌∙◌, arith, inl, inr, length-append}
 use Rattle.std.specs.Prelude.{Option, Some, None, slice_get, ◌↔◌, IfSome, IsTrue, Bool, true, false, not, nat_le}
 use Rattle.std.proofs.lemmas.Bool.{leb-true, le-leb}
 use Rattle.std.proofs.lemmas.Option.{same_Some, slice_get_within}
@@ -71,16 +71,13 @@ pub not_so : {P : Type 0} (b : Bool) → not b ≡ true → (IsTrue b ↔ P) →
 not_so true e both p = absurd cc
 not_so false e both p = let t = both.1 p in absurd cc
 
-is_at_most : (a b : ℕ) → nat_le a b ≡ true → a ≤ b
-is_at_most a b t = leb-true a b t
-
 -- a descriptor whose parameters a method may have
 pub taken : (flags : ℕ) (text : List ℕ) (u : TextUse) (o : Option ParameterSize) → u.parameters ≡ o → IsUseOf text u → may_take flags o ≡ true → IsTypeOfMethod flags text
 taken flags text u None same is takes = absurd cc
 taken flags text u (Some size) same is takes =
     let t = is.parameters size same in
     let within : nat_le (receiver_words flags + size.words) 255 ≡ true = takes in
-    (t.0, t.1, t.2, omega (arith, is_at_most (receiver_words flags + size.words) 255 within, ap (λ (s : ParameterSize). s.words) t.3))
+    (t.0, t.1, t.2, omega (arith, leb-true (receiver_words flags + size.words) 255 within, ap (λ (s : ParameterSize). s.words) t.3))
 
 pub not_taken : (flags : ℕ) (text : List ℕ) (u : TextUse) → IsUseOf text u → may_take flags u.parameters ≡ false → IsTypeOfMethod flags text → ⊥
 not_taken flags text u is takes t =

@@ -4,7 +4,7 @@ use rows::Bytes;
 use std::alloc::AllocError;
 
 /// A straight class: its name, and the code of its main method.
-#[derive(Debug, Drop)]
+#[derive(Drop)]
 pub struct Straight {
     /// The internal name, as the bytes of its pool entry.
     pub name: Bytes,
@@ -12,7 +12,7 @@ pub struct Straight {
 }
 
 /// Why bytes weren't taken for a straight class.
-#[derive(Clone, Copy, Debug, PartialEq, Eq)]
+#[derive(Clone, Copy)]
 pub enum StraightRefusal {
     /// They aren't the file of a straight class.
     NotYet,

@@ -4,7 +4,7 @@ use class_walk::{Constant, RawHandler};
 use rows::{Bytes, Rows};
 
 /// A class file: all that is kept of it.
-#[derive(Debug, Drop)]
+#[derive(Drop)]
 pub struct ClassFile {
     /// The major version: 50, 51 or 52.
     pub major: u16,
@@ -23,7 +23,7 @@ pub struct ClassFile {
 }
 
 /// A field or a method (JVMS 4.5, 4.6).
-#[derive(Debug, Drop)]
+#[derive(Drop)]
 pub struct Member {
     pub flags: u16,
     /// The index of the name.
@@ -37,7 +37,7 @@ pub struct Member {
 }
 
 /// The code of a method (JVMS 4.7.3).
-#[derive(Debug, Drop)]
+#[derive(Drop)]
 pub struct CodeAttribute {
     pub max_stack: u16,
     pub max_locals: u16,

@@ -24,12 +24,9 @@ mod texts;
 pub use answer::{Straight, StraightRefusal};
 pub use class_file::{ClassFile, CodeAttribute, Member};
 pub use class_names::{BaseKind, Descriptor, Kind, NameRefusal, descriptor_of};
-pub use class_walk::{Constant, RawHandler};
+pub use class_walk::{Constant, MOST_BYTES, RawHandler};
 pub use read::read_class;
 pub use reading::straight;
 pub use refusal::ReadRefusal;
 pub use text_uses::{Pool, TextUse};
 pub use texts::text_of;
-
-#[cfg(test)]
-mod tests;

@@ -15,7 +15,7 @@ use class_walk::Constant;
 use std::alloc::{AllocError, Global};
 
 /// What an entry of the pool uses a text as.
-#[derive(Clone, Copy, Debug, PartialEq, Eq)]
+#[derive(Clone, Copy)]
 pub enum Role {
     /// The name of a class or the descriptor of an array class (JVMS 4.4.1).
     ClassName,
@@ -26,7 +26,7 @@ pub enum Role {
 }
 
 /// For each use and index whether an entry of the pool uses the text there so.
-#[derive(Debug, Drop)]
+#[derive(Drop)]
 pub struct Uses {
     class_names: Vec<bool>,
     member_names: Vec<bool>,

@@ -8,7 +8,7 @@ use thiserror::Error;
 
 /// Why a class file was refused. Each number is an index of the constant pool or a place in the file, which
 /// is how many bytes stand before.
-#[derive(Clone, Copy, Debug, PartialEq, Eq, Error)]
+#[derive(Clone, Copy, Debug, Error)]
 pub enum ReadRefusal {
     /// The file doesn't begin with `CAFEBABE` (JVMS 4.1).
     #[error("Magic")]

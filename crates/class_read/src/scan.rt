@@ -9,7 +9,7 @@ use crate::lookup::{is_println_int, is_system_out};
 use class_walk::Constant;
 
 /// What stands before the next byte of straight code.
-#[derive(Clone, Copy, Debug, PartialEq, Eq)]
+#[derive(Clone, Copy)]
 pub enum Scan {
     /// Whole statements.
     Between,

@@ -57,12 +57,10 @@ fn element_word(element: PrimitiveType) -> &'static str {
 /// Prints the operands that stand behind the name of an instruction, and ends the line.
 fn show_operands<R: Print>(rt: &R, form: Option<Form>, what: &What<Target>) -> io::Result<()> {
     match what {
-        What::Int(value) if form == Some(Form::ByteInt) || form == Some(Form::ShortInt) => {
+        What::Int(value) if matches!(form, Some(Form::ByteInt | Form::ShortInt)) => {
             println!(rt; " {value}")
         }
-        What::Local(access, local) if form == Some(Form::Local(*access)) => println!(rt;
-            " {local}"
-        ),
+        What::Local(_, local) if matches!(form, Some(Form::Local(_))) => println!(rt; " {local}"),
         What::Increment { local, by } => println!(rt; " {local} {by}"),
         What::Constant(index)
         | What::LongConstant(index)

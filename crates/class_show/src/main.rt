@@ -8,7 +8,9 @@ ghost use Rattle.class_show.specs.Accepted.{IsAccepted, HasCodes};
 
 mod code;
 
-use class_read::{ClassFile, Constant, Member, NameRefusal, ReadRefusal, read_class, text_of};
+use class_read::{
+    ClassFile, Constant, MOST_BYTES, Member, NameRefusal, ReadRefusal, read_class, text_of,
+};
 use code::show_codes;
 use code_decode::{CodeAt, CodeRefusal, decode_class};
 use std::env;
@@ -16,9 +18,6 @@ use std::fs::File;
 use std::io::{self, Read};
 use std::process::ExitCode;
 use std::rt::{Env, Files};
-
-/// How many bytes of a file are read at most: one more than a class file may have.
-const MOST_READ: u64 = 1_048_577;
 
 fn no_memory() -> io::Error {
     io::Error::from(io::ErrorKind::OutOfMemory)
@@ -150,7 +149,7 @@ fn show_bytes<R: Print + AllocGlobal>(rt: &R, bytes: &[u8]) -> io::Result<bool>
 fn show_file<R: Print + AllocGlobal + Files>(rt: &R, path: &str) -> io::Result<bool> {
     let mut bytes = Vec::new(rt.alloc());
     File::open(rt, path)?
-        .take(MOST_READ)
+        .take(MOST_BYTES as u64 + 1)
         .read_to_end(&mut bytes)?;
     show_bytes(rt, bytes.as_slice())
 }

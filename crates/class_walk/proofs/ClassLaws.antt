@@ -1,7 +1,7 @@
 -- The two laws of a class file.
 use Rattle.std.proofs.Common.{◌≡◌, ℕ, ◌^◌, ◌<◌, ◌≤◌, Bool, true, false, cond, List, [], ◌++◌, length, Result, Ok, Err, refl, sym, ap, subst, ◌∙◌, arith, zero-add}
 use Rattle.std.specs.Prelude.{◌==◌, ◌&&◌, nat_le, nat_lt, IfOk}
-use Rattle.std.proofs.lemmas.Bool.{eqb-true, leb-true, le-leb, ltb-false, le-ltb}
+use Rattle.std.proofs.lemmas.Bool.{and_parts, eqb-true, leb-true, le-leb, ltb-false, le-ltb}
 use Rattle.std.proofs.lemmas.List.{append-nil, nil_from_length}
 use Rattle.class_walk.specs.declared.class.Constant.{Constant}
 use Rattle.class_walk.specs.declared.class.RawAttribute.{RawAttribute}
@@ -12,7 +12,7 @@ use Rattle.class_walk.specs.declared.refusal.WalkFault.TheVariants.{TooLong}
 use Rattle.class_walk.specs.declared.refusal.WalkRefusal.{WalkRefusal}
 use Rattle.class_walk.specs.Place.{Place}
 use Rattle.class_walk.specs.Layout.{u2, u4, table, IsTable, attribute, IsAttribute, member, IsMember, pool_table, front, spelling, IsClass, IsClassFile}
-use Rattle.class_walk.specs.Reading.{Gives, number_at, table_at, attribute_at, member_at, pool_at, magic_at, versions_at, class_at, start_of, ended, walk_of}
+use Rattle.class_walk.specs.Reading.{Gives, number_at, table_at, attribute_at, member_at, pool_at, magic_at, versions_at, head_at, rest_at, class_at, start_of, end_at, ended, walk_of}
 use Rattle.class_walk.proofs.Fields.{IsBytes, Takes, Takes-then, Takes-first, Takes-second, split_then, bytes_after, bind_ok, bind_then, guard_ok, ok_is, wide2, wide4, number_takes, number_again}
 use Rattle.class_walk.proofs.Laws.{Law, counted, placed, number_law, table_law, attribute_law, member_law}
 use Rattle.class_walk.proofs.PoolLaws.{pool_law}
@@ -21,10 +21,6 @@ use Rattle.class_walk.proofs.PoolLaws.{pool_law}
 pub met_ok : {A : Type 0} (b : Bool) (r : Result A WalkFault) (d : WalkFault) (y : A) → cond b r (Err d) ≡ Ok y → (b ≡ true) × (r ≡ Ok y)
 met_ok true r d y e = (refl, e)
 met_ok false r d y e = absurd cc
-
-both_true : (a b : Bool) → (a && b) ≡ true → (a ≡ true) × (b ≡ true)
-both_true true b e = (refl, e)
-both_true false b e = absurd cc
 
 magic_takes : (p q : Place) → IsBytes p.left → magic_at p ≡ Ok q → Takes p (u4 0xCAFEBABE) q
 unfolding magic_at
@@ -51,7 +47,7 @@ versions_take p v q fits e =
     let a = bind_ok (number_at 2 p) _ _ e in
     let b = bind_ok (number_at 2 a.0.1) _ _ a.2 in
     let g = met_ok (nat_le 50 b.0.0 && nat_le b.0.0 52) _ _ _ b.2 in
-    let both = both_true (nat_le 50 b.0.0) (nat_le b.0.0 52) g.0 in
+    let both = and_parts (nat_le 50 b.0.0) (nat_le b.0.0 52) g.0 in
     let t = number_takes 2 wide2 p a.0.0 a.0.1 fits a.1 in
     let u = number_takes 2 wide2 a.0.1 b.0.0 b.0.1 (bytes_after fits t.0) b.1 in
     let made : (ℕ × ℕ) × Place = ((a.0.0, b.0.0), b.0.1) in
@@ -68,7 +64,7 @@ versions_again p minor major q is =
 members : Law (table_at member_at) (table member) (IsTable member IsMember)
 members = table_law member_at member IsMember member_law
 
-attributes : Law (table_at attribute_at) (table attribute) (IsTable attribute IsAttribute)
+pub attributes : Law (table_at attribute_at) (table attribute) (IsTable attribute IsAttribute)
 attributes = table_law attribute_at attribute IsAttribute attribute_law
 
 indices : Law (table_at (number_at 2)) (table u2) (IsTable u2 (λ at index. index < 2 ^ 16))
@@ -138,10 +134,10 @@ parts_take bytes c q fits a b d f g h i j k l ea eb ed ef eg eh ei ej ek el e =
     })
 
 class_takes : (bytes : List ℕ) (c : RawClass) (q : Place) → IsBytes bytes → class_at (start_of bytes) ≡ Ok (c, q) → IsAtFront bytes c q
-unfolding class_at
+unfolding class_at head_at rest_at
 class_takes bytes c q fits e =
-    bind_then (magic_at (start_of bytes)) _ _ _ e (λ a ea e.
-    bind_then (versions_at a) _ _ _ e (λ b eb e.
+    bind_then (head_at (start_of bytes)) _ _ _ e (λ b eh e.
+    bind_then (magic_at (start_of bytes)) _ _ _ eh (λ a ea eb.
     bind_then (pool_at b.1) _ _ _ e (λ d ed e.
     bind_then (number_at 2 d.1) _ _ _ e (λ f ef e.
     bind_then (number_at 2 f.1) _ _ _ e (λ g eg e.
@@ -180,7 +176,7 @@ parts_again : (bytes : List ℕ) (c : RawClass) (a b d f g h i j k q : Place) �
     → Takes i (table member c.fields) j → Takes j (table member c.methods) k → Takes k (table attribute c.attributes) q
     → Takes (start_of bytes) (front c) i → Takes (start_of bytes) (to_fields c) j → Takes (start_of bytes) (to_methods c) k
     → class_at (start_of bytes) ≡ Ok (c, q)
-unfolding class_at
+unfolding class_at head_at rest_at
 parts_again bytes c a b d f g h i j k q right ta tb td tf tg th ti tj tk tl si sj sk =
     let versions = versions_again a c.minor c.major b (record { takes = tb; minor_fits = right.minor; oldest = right.oldest; newest = right.newest }) in
     let interfaces = indices.again h c.interfaces i (placed u2 (λ index. index < 2 ^ 16) h.at c.interfaces right.interfaces) ti in
@@ -221,11 +217,12 @@ unfolding walk_of ended
 walk_takes bytes c fits e =
     let g = guard_ok (nat_lt 1048576 (length bytes)) TooLong _ _ e in
     let a = bind_ok (class_at (start_of bytes)) _ _ g.1 in
-    let m = met_ok (length a.0.1.left == 0) _ _ _ a.2 in
+    let b = bind_ok (end_at a.0.1) _ _ a.2 in
+    let m = met_ok (length a.0.1.left == 0) _ _ _ b.1 in
     let t = class_takes bytes a.0.0 a.0.1 fits a.1 in
     let nothing : a.0.1.left ≡ [] = nil_from_length a.0.1.left (eqb-true _ _ m.0) in
     let whole : bytes ≡ spelling a.0.0 = t.takes.parts ∙ ap (λ (r : List ℕ). spelling a.0.0 ++ r) nothing ∙ append-nil (spelling a.0.0) in
-    subst (λ (y : RawClass). IsClassFile bytes y) (ok_is a.0.0 c m.1) (record { holds = t.holds; spelled = whole; size = ltb-false _ _ g.0 })
+    subst (λ (y : RawClass). IsClassFile bytes y) (ok_is a.0.0 c b.2) (record { holds = t.holds; spelled = whole; size = ltb-false _ _ g.0 })
 
 pub walk_again : (bytes : List ℕ) (c : RawClass) → IsClassFile bytes c → walk_of bytes ≡ Ok c
 unfolding walk_of ended

@@ -7,7 +7,7 @@ use Rattle.class_walk.specs.declared.refusal.WalkRefusal.TheVariants as refusals
 use Rattle.class_walk.specs.declared.class.Constant.{Constant}
 use Rattle.class_walk.specs.Place.{Place}
 use Rattle.class_walk.specs.Layout.{is_wide}
-use Rattle.class_walk.specs.Reading.{◌>>=◌, Fails, items_at, slot_at, next_slot, slots_at}
+use Rattle.class_walk.specs.Reading.{◌>>=◌, Fails, FailsExactly, items_at, slot_at, next_slot, slots_at}
 
 -- what was read before, and what is still read
 abbrev pub with_front : {S X : Type 0} → List X → Result (List X × S) WalkFault → Result (List X × S) WalkFault
@@ -24,6 +24,11 @@ goes_on item front count i s x after total lt h so_far =
     let k : count - i ≡ suc (count - (i + 1)) = omega arith in
     let one : with_front front (items_at item (count - i) s) ≡ with_front (front ++ x ∷ []) (items_at item (count - (i + 1)) after) = rw (k, h) (regroup front x (items_at item (count - (i + 1)) after)) in
     sym one ∙ so_far
+
+-- a failure of a function that takes no memory is one of a function that does
+pub fails : {X : Type 0} (e : WalkRefusal) (read : Result X WalkFault) → FailsExactly e read → Fails e read
+fails refusals.NoMemory read failed = tt
+fails (refusals.Fault f) read failed = failed
 
 pub ends : {S X : Type 0} (e : WalkRefusal) (item : S → Result (X × S) WalkFault) (front : List X) (count i : ℕ) (s : S) (total : Result (List X × S) WalkFault) → i < count → Fails e (item s)
     → with_front front (items_at item (count - i) s) ≡ total → Fails e total

@@ -16,7 +16,7 @@ use Rattle.class_walk.specs.declared.pool.Tag.TheVariants as tags
 use Rattle.class_walk.specs.declared.refusal.WalkFault.TheVariants.{PoolTag}
 use Rattle.class_walk.specs.Place.{Place}
 use Rattle.class_walk.specs.Layout.{u1, u2, u4, u8, constant, Fits, is_gap, is_wide, IsGapped, IsPool, pool_table}
-use Rattle.class_walk.specs.Reading.{bytes_at, number_at, items_at, tag_of, one_at, two_at, utf8_at, content_at, tagged_at, entry_at, PoolPlace, slot_at, next_slot, slots_at, pool_at}
+use Rattle.class_walk.specs.Reading.{bytes_at, number_at, items_at, tag_of, one_at, two_at, utf8_at, content_at, tagged, tag_at, entry_at, PoolPlace, slot_at, next_slot, slots_at, count_at, pool_at}
 use Rattle.class_walk.proofs.Fields.{IsBytes, Takes, Takes-nothing, Takes-then, Takes-first, Takes-second, between, bytes_after, bind_ok, bind_then, guard_ok, ok_is, bytes_take, bytes_again, IsWide, wide1, wide2, wide4, wide8, number_takes, number_again}
 use Rattle.class_walk.proofs.Laws.{Law, place_is}
 
@@ -231,14 +231,9 @@ entry_tag (Dynamic m n) e fits = (tags.Dynamic, record { parts = refl; again = �
 
 -- ---- entries
 
-tagged_ok : (o : Option Tag) (index : ℕ) (p : Place) (y : Constant × Place) → tagged_at o index p ≡ Ok y → (t : Tag) × (o ≡ Some t) × (content_at t p ≡ Ok y)
-unfolding tagged_at
+tagged_ok : (o : Option Tag) (index : ℕ) (p : Place) (y : Tag × Place) → tagged o index p ≡ Ok y → (t : Tag) × (o ≡ Some t) × ((t, p) ≡ y)
 tagged_ok None index p y e = absurd cc
-tagged_ok (Some t) index p y e = (t, refl, e)
-
-tagged_is : (o : Option Tag) (t : Tag) (index : ℕ) (p : Place) → o ≡ Some t → tagged_at o index p ≡ content_at t p
-unfolding tagged_at
-tagged_is o t index p is = rw is refl
+tagged_ok (Some t) index p y e = (t, refl, ok_is (t, p) y e)
 
 record IsSlot (due : Bool) (p : Place) (c : Constant) (q : Place) : Type 0 where
   pub takes : Takes p (constant c) q
@@ -246,25 +241,25 @@ record IsSlot (due : Bool) (p : Place) (c : Constant) (q : Place) : Type 0 where
   pub fits : Fits c
 
 entry_takes : (index : ℕ) (p : Place) (c : Constant) (q : Place) → IsBytes p.left → entry_at index p ≡ Ok (c, q) → IsSlot false p c q
-unfolding entry_at
+unfolding entry_at tag_at
 entry_takes index p c q fits e =
-    let a = bind_ok (number_at 1 p) _ _ e in
-    let o = tagged_ok (tag_of a.0.0) index a.0.1 (c, q) a.2 in
+    let b = bind_ok (tag_at index p) _ _ e in
+    let a = bind_ok (number_at 1 p) _ _ b.1 in
+    let o = tagged_ok (tag_of a.0.0) index a.0.1 b.0 a.2 in
+    let read = subst (λ (y : Tag × Place). content_at y.0 y.1 ≡ Ok (c, q)) (sym o.2) b.2 in
     let u = number_takes 1 wide1 p a.0.0 a.0.1 fits a.1 in
-    let is = content_takes o.0 a.0.1 c q (bytes_after fits u.0) o.2 in
+    let is = content_takes o.0 a.0.1 c q (bytes_after fits u.0) read in
     let number : u1 a.0.0 ++ behind c ≡ constant c = ap (λ (n : ℕ). u1 n ++ behind c) (tag_number a.0.0 o.0 o.1) ∙ sym is.tagged in
     record { takes = subst (λ (text : List ℕ). Takes p text q) number (Takes-then u.0 is.takes); gap = is.entry; fits = is.fits }
 
 entry_again : (index : ℕ) (p : Place) (c : Constant) (q : Place) → is_gap c ≡ false → Fits c → Takes p (constant c) q → entry_at index p ≡ Ok (c, q)
-unfolding entry_at
+unfolding entry_at tag_at
 entry_again index p c q entry fits t =
     let tag = entry_tag c entry fits in
     let whole : Takes p (u1 (number_of tag.0) ++ behind c) q = subst (λ (text : List ℕ). Takes p text q) tag.1.parts t in
     let number = number_again 1 p (number_of tag.0) _ (tag_fits tag.0) (Takes-first p (u1 (number_of tag.0)) (behind c) q whole) in
     let r = between p (u1 (number_of tag.0)) (behind c) q in
-    let read : tagged_at (tag_of (number_of tag.0)) index r ≡ Ok (c, q) =
-    tagged_is (tag_of (number_of tag.0)) tag.0 index r (tag_again tag.0) ∙ tag.1.again r q (Takes-second p (u1 (number_of tag.0)) (behind c) q whole) in
-    rw number read
+    rw (number, tag_again tag.0) (tag.1.again r q (Takes-second p (u1 (number_of tag.0)) (behind c) q whole))
 
 slot_takes : (due : Bool) (index : ℕ) (p : Place) (c : Constant) (q : Place) → IsBytes p.left → slot_at due index p ≡ Ok (c, q) → IsSlot due p c q
 slot_takes true index p c q fits e =
@@ -342,21 +337,28 @@ slots_again s (c ∷ cs) q right t =
     let others = slots_again next cs q right.2 (Takes-second s.place (constant c) (flat_map constant cs) q whole) in
     record { end = others.end; read = rw (one, others.read) refl; place = others.place }
 
+count_takes : (p : Place) (n : ℕ) (q : Place) → IsBytes p.left → count_at p ≡ Ok (n, q) → Takes p (u2 n) q × (n < 2 ^ 16) × ((n == 0) ≡ false)
+unfolding count_at
+count_takes p n q fits e =
+    let a = bind_ok (number_at 2 p) _ _ e in
+    let g = guard_ok (a.0.0 == 0) (PoolTag 0) _ _ a.2 in
+    let t = number_takes 2 wide2 p a.0.0 a.0.1 fits a.1 in
+    subst (λ (y : ℕ × Place). Takes p (u2 y.0) y.1 × (y.0 < 2 ^ 16) × ((y.0 == 0) ≡ false)) {x = a.0} (ok_is a.0 (n, q) g.1) (t.0, t.1, g.0)
+
 pool_takes : (p : Place) (pool : List Constant) (q : Place) → IsBytes p.left → pool_at p ≡ Ok (pool, q) → Takes p (pool_table pool) q × IsPool pool
 unfolding pool_at slots_at
 pool_takes p pool q fits e =
-    let a = bind_ok (number_at 2 p) _ _ e in
-    let g = guard_ok (a.0.0 == 0) (PoolTag 0) _ _ a.2 in
-    let b = bind_ok (items_at next_slot a.0.0 (record { due = true; index = 0; place = a.0.1 })) _ _ g.1 in
-    let t = number_takes 2 wide2 p a.0.0 a.0.1 fits a.1 in
+    let a = bind_ok (count_at p) _ _ e in
+    let b = bind_ok (items_at next_slot a.0.0 (record { due = true; index = 0; place = a.0.1 })) _ _ a.2 in
+    let t = count_takes p a.0.0 a.0.1 fits a.1 in
     let u = slots_take a.0.0 (record { due = true; index = 0; place = a.0.1 }) b.0.0 b.0.1 (bytes_after fits t.0) b.1 in
     let made : List Constant × Place = (b.0.0, b.0.1.place) in
-    let some = eqb-false a.0.0 0 g.0 in
+    let some = eqb-false a.0.0 0 t.2 in
     subst (λ (y : List Constant × Place). Takes p (pool_table y.0) y.1 × IsPool y.0) {x = made} (ok_is made (pool, q) b.2)
     (subst (λ (n : ℕ). Takes p (u2 n ++ flat_map constant b.0.0) b.0.1.place) (sym u.count) (Takes-then t.0 u.takes), record { above = omega (arith, u.count, some); count = omega (arith, t.1, u.count); gaps = u.gaps })
 
 pool_again : (p : Place) (pool : List Constant) (q : Place) → IsPool pool → Takes p (pool_table pool) q → pool_at p ≡ Ok (pool, q)
-unfolding pool_at slots_at
+unfolding pool_at count_at slots_at
 pool_again p pool q right t =
     let count = number_again 2 p (length pool) _ right.count (Takes-first p (u2 (length pool)) (flat_map constant pool) q t) in
     let some : (length pool == 0) ≡ false = ne_eqb (length pool) 0 (omega (arith, right.above)) in

@@ -1,8 +1,8 @@
 -- The layout of a class file: its bytes as a function of what it holds (JVMS SE 8, chapter 4).
-use Rattle.std.specs.Prelude.{◌≡◌, ℕ, ◌+◌, ◌<◌, ◌≤◌, ◌^◌, Bool, true, false, List, [], ◌∷◌, ◌++◌, length, FitsSigned}
+use Rattle.std.specs.Prelude.{◌≡◌, ℕ, ◌+◌, ◌<◌, ◌≤◌, ◌^◌, Bool, true, false, List, [], ◌∷◌, ◌++◌, length, take, drop, FitsSigned}
 use Rattle.std.specs.List.{flat_map, AllByRecursion}
 use Rattle.std.specs.Int.{w32, w64, cast_unsigned}
-use Rattle.byteorder.specs.Endian.{big_bytes}
+use Rattle.byteorder.specs.Endian.{big_bytes, big_number}
 use Rattle.class_walk.specs.declared.class.Constant.{Constant}
 use Rattle.class_walk.specs.declared.class.Constant.TheVariants.{Gap, Utf8, Integer, Float, Long, Double, Class, Str, Field, Method, IfaceMethod, Pair, Handle, MethodType, Dynamic}
 use Rattle.class_walk.specs.declared.class.RawAttribute.{RawAttribute}
@@ -180,3 +180,7 @@ pub record IsCodeContent (content : List ℕ) (c : RawCode) : Type 0 where
   pub holds : IsCode c
   pub spelled : content ≡ code_spelling c
   pub size : length content < 2 ^ 32
+
+-- the content ends before its instructions do: so many bytes stand behind its first eight as the last four of these say
+abbrev pub IsCut : List ℕ → Type 0
+IsCut content = length content < 8 + big_number 4 (take 4 (drop 4 content))

@@ -41,10 +41,19 @@ abbrev pub GivesAndLeaves : {X : Type 0} → Result X WalkRefusal → Place → 
 GivesAndLeaves (Ok x) after read = read ≡ Ok (x, after)
 GivesAndLeaves (Err e) after read = Fails e read
 
--- The same of a function that gives nothing else.
+-- The same of a function that takes no memory.
+abbrev pub FailsExactly : {Y : Type 0} → WalkRefusal → Result Y WalkFault → Type 0
+FailsExactly refusals.NoMemory read = ⊥
+FailsExactly (refusals.Fault f) read = read ≡ Err f
+
+abbrev pub GivesExactly : {X : Type 0} → Result X WalkRefusal → Place → Result (X × Place) WalkFault → Type 0
+GivesExactly (Ok x) after read = read ≡ Ok (x, after)
+GivesExactly (Err e) after read = FailsExactly e read
+
+-- The same of one that gives nothing else.
 abbrev pub PassesTo : {X : Type 0} → Result X WalkRefusal → Place → Result Place WalkFault → Type 0
 PassesTo (Ok _) after read = read ≡ Ok after
-PassesTo (Err e) after read = Fails e read
+PassesTo (Err e) after read = FailsExactly e read
 
 -- so many bytes from a place on; where they go past the end, the length of the file is what stands before the place and behind it
 abbrev pub bytes_at : ℕ → Place → Result (List ℕ × Place) WalkFault
@@ -124,15 +133,21 @@ content_at tags.Handle p = two_at 1 (λ m n. Handle m n) p
 content_at tags.MethodType p = one_at 2 (λ n. MethodType n) p
 content_at tags.Dynamic p = two_at 2 (λ m n. Dynamic m n) p
 
-unfoldable pub tagged_at : Option Tag → ℕ → Place → Result (Constant × Place) WalkFault
-tagged_at None index p = Err (PoolTag index)
-tagged_at (Some tag) index p = content_at tag p
+abbrev pub tagged : Option Tag → ℕ → Place → Result (Tag × Place) WalkFault
+tagged None index p = Err (PoolTag index)
+tagged (Some tag) index p = Ok (tag, p)
+
+-- the tag of the entry of an index
+unfoldable pub tag_at : ℕ → Place → Result (Tag × Place) WalkFault
+tag_at index p = do
+  tag ← number_at 1 p
+  tagged (tag_of tag.0) index tag.1
 
 -- the entry of an index
 unfoldable pub entry_at : ℕ → Place → Result (Constant × Place) WalkFault
 entry_at index p = do
-  tag ← number_at 1 p
-  tagged_at (tag_of tag.0) index tag.1
+  tag ← tag_at index p
+  content_at tag.0 tag.1
 
 -- where the reading of the pool stands: whether the index is a gap, the index, and the place
 pub record PoolPlace : Type 0 where
@@ -156,11 +171,17 @@ slots_at count p = do
   slots ← items_at next_slot count (record { due = true; index = 0; place = p })
   Ok (slots.0, slots.1.place)
 
--- the count, which isn't 0, and the indices below it
+-- the count, which isn't 0
+unfoldable pub count_at : Place → Result (ℕ × Place) WalkFault
+count_at p = do
+  count ← number_at 2 p
+  if count.0 == 0 then Err (PoolTag 0) else Ok count
+
+-- the count, and the indices below it
 unfoldable pub pool_at : Place → Result (List Constant × Place) WalkFault
 pool_at p = do
-  count ← number_at 2 p
-  if count.0 == 0 then Err (PoolTag 0) else slots_at count.0 count.1
+  count ← count_at p
+  slots_at count.0 count.1
 
 unfoldable pub attribute_at : Place → Result (RawAttribute × Place) WalkFault
 attribute_at p = do
@@ -190,11 +211,16 @@ versions_at p = do
   major ← number_at 2 minor.1
   if nat_le 50 major.0 && nat_le major.0 52 then Ok ((minor.0, major.0), major.1) else Err Version
 
-unfoldable pub class_at : Place → Result (RawClass × Place) WalkFault
-class_at p = do
+-- the magic number and the versions
+unfoldable pub head_at : Place → Result ((ℕ × ℕ) × Place) WalkFault
+head_at p = do
   start ← magic_at p
-  versions ← versions_at start
-  pool ← pool_at versions.1
+  versions_at start
+
+-- what stands behind the versions
+unfoldable pub rest_at : ℕ × ℕ → Place → Result (RawClass × Place) WalkFault
+rest_at versions p = do
+  pool ← pool_at p
   flags ← number_at 2 pool.1
   this_class ← number_at 2 flags.1
   super_class ← number_at 2 this_class.1
@@ -204,8 +230,8 @@ class_at p = do
   attributes ← table_at attribute_at methods.1
   Ok (
     record {
-      minor = versions.0.0;
-      major = versions.0.1;
+      minor = versions.0;
+      major = versions.1;
       pool = pool.0;
       flags = flags.0;
       this_class = this_class.0;
@@ -218,13 +244,28 @@ class_at p = do
     attributes.1,
   )
 
+unfoldable pub class_at : Place → Result (RawClass × Place) WalkFault
+class_at p = do
+  versions ← head_at p
+  rest_at versions.0 versions.1
+
 -- the front of a list of bytes
 abbrev pub start_of : List ℕ → Place
 start_of bytes = record { at = 0; left = bytes }
 
+-- nothing is left
+abbrev pub end_at : Place → Result Place WalkFault
+end_at p = if length p.left == 0 then Ok p else Err (Trailing p.at)
+
 -- all of the bytes
 unfoldable pub ended : {X : Type 0} → X × Place → Result X WalkFault
-ended x = if length x.1.left == 0 then Ok x.0 else Err (Trailing x.1.at)
+ended x = do
+  _ ← end_at x.1
+  Ok x.0
+
+-- the magic number and the versions of a file that isn't too long, or what is wrong with them
+unfoldable pub head_of : List ℕ → Result ((ℕ × ℕ) × Place) WalkFault
+head_of bytes = if nat_lt 1048576 (length bytes) then Err TooLong else head_at (start_of bytes)
 
 -- the class that the bytes spell, or the first fault from the front
 unfoldable pub walk_of : List ℕ → Result RawClass WalkFault
@@ -238,15 +279,29 @@ handler_at p = do
   kind ← number_at 2 at.1
   Ok (record { from = from.0; to = to.0; at = at.0; kind = kind.0 }, kind.1)
 
-unfoldable pub code_at : Place → Result (RawCode × Place) WalkFault
-code_at p = do
+-- the two sizes and the instructions
+unfoldable pub code_head_at : Place → Result ((ℕ × ℕ × List ℕ) × Place) WalkFault
+code_head_at p = do
   max_stack ← number_at 2 p
   max_locals ← number_at 2 max_stack.1
   size ← number_at 4 max_locals.1
   bytes ← bytes_at size.0 size.1
-  handlers ← table_at handler_at bytes.1
+  Ok ((max_stack.0, max_locals.0, bytes.0), bytes.1)
+
+-- what stands behind them
+unfoldable pub code_rest_at : ℕ × ℕ × List ℕ → Place → Result (RawCode × Place) WalkFault
+code_rest_at head p = do
+  handlers ← table_at handler_at p
   attributes ← table_at attribute_at handlers.1
-  Ok (record { max_stack = max_stack.0; max_locals = max_locals.0; bytes = bytes.0; handlers = handlers.0; attributes = attributes.0 }, attributes.1)
+  Ok (record { max_stack = head.0; max_locals = head.1; bytes = head.2; handlers = handlers.0; attributes = attributes.0 }, attributes.1)
+
+unfoldable pub code_at : Place → Result (RawCode × Place) WalkFault
+code_at p = do
+  head ← code_head_at p
+  code_rest_at head.0 head.1
+
+unfoldable pub code_head_of : List ℕ → Result ((ℕ × ℕ × List ℕ) × Place) WalkFault
+code_head_of content = code_head_at (start_of content)
 
 unfoldable pub content_of : List ℕ → Result RawCode WalkFault
 content_of content = code_at (start_of content) >>= ended
@@ -254,6 +309,11 @@ content_of content = code_at (start_of content) >>= ended
 -- the code that a content spells; an attribute's content has at most 2 ^ 32 - 1 bytes (JVMS 4.7)
 unfoldable pub code_of : List ℕ → Option RawCode
 code_of content = if nat_lt 4294967295 (length content) then None else result_ok (content_of content)
+
+-- each fault of a content is that it is malformed
+abbrev pub refused : WalkRefusal → CodeRefusal
+refused refusals.NoMemory = codes.NoMemory
+refused (refusals.Fault _) = codes.Malformed
 
 -- What a function returned is this code, or is Malformed where there is none, unless memory ran out.
 abbrev pub Reads : Result RawCode CodeRefusal → Option RawCode → Type 0

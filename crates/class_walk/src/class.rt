@@ -3,7 +3,7 @@
 use rows::{Bytes, Rows};
 
 /// An entry of the constant pool (JVMS 4.4).
-#[derive(Debug, Drop)]
+#[derive(Drop)]
 pub enum Constant {
     /// No entry: index 0, and the index behind a `Long` or a `Double`.
     Gap,
@@ -48,7 +48,7 @@ impl Constant {
 }
 
 /// An attribute (JVMS 4.7).
-#[derive(Debug, Drop)]
+#[derive(Drop)]
 pub struct RawAttribute {
     /// The place of the attribute: how many bytes stand before its name's first.
     pub at: u32,
@@ -57,7 +57,7 @@ pub struct RawAttribute {
 }
 
 /// A field or a method (JVMS 4.5, 4.6).
-#[derive(Debug, Drop)]
+#[derive(Drop)]
 pub struct RawMember {
     /// The place of the member in the file: how many bytes stand before its flags.
     pub at: u32,
@@ -68,7 +68,7 @@ pub struct RawMember {
 }
 
 /// A class file (JVMS 4.1).
-#[derive(Debug, Drop)]
+#[derive(Drop)]
 pub struct RawClass {
     pub minor: u16,
     pub major: u16,
@@ -85,7 +85,7 @@ pub struct RawClass {
 }
 
 /// An entry of an exception table (JVMS 4.7.3).
-#[derive(Debug, Drop, Clone, Copy, PartialEq, Eq)]
+#[derive(Clone, Copy)]
 pub struct RawHandler {
     pub from: u16,
     pub to: u16,
@@ -94,7 +94,7 @@ pub struct RawHandler {
 }
 
 /// The content of a Code attribute (JVMS 4.7.3).
-#[derive(Debug, Drop)]
+#[derive(Drop)]
 pub struct RawCode {
     pub max_stack: u16,
     pub max_locals: u16,

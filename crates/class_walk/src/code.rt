@@ -1,15 +1,16 @@
 //! The content of a Code attribute (JVMS 4.7.3).
 
-ghost use Rattle.std.specs.Prelude.{◌≡◌, ◌<◌, ◌^◌, length, Some, IfOk};
+ghost use Rattle.std.specs.Prelude.{◌≡◌, ◌<◌, ◌≤◌, ◌^◌, length, Some, Ok, Err, IfOk, MatchResult};
 ghost use Rattle.class_walk.specs.declared.class.RawCode.{RawCode};
-ghost use Rattle.class_walk.specs.Layout.{IsCodeContent};
-ghost use Rattle.class_walk.specs.Reading.{Gives, GivesAndLeaves, Reads, items_at, table_at, handler_at, code_at, content_of, code_of};
+ghost use Rattle.class_walk.specs.declared.refusal.WalkFault.{WalkFault};
+ghost use Rattle.class_walk.specs.Layout.{IsCodeContent, IsCut};
+ghost use Rattle.class_walk.specs.Reading.{FailsExactly, Gives, GivesAndLeaves, GivesExactly, Reads, items_at, table_at, handler_at, code_head_at, code_rest_at, code_head_of, content_of, code_of, refused};
 
 use crate::class::{RawCode, RawHandler};
 use crate::cursor::Cursor;
 use crate::members::attributes;
-use crate::refusal::{CodeRefusal, WalkFault, WalkRefusal};
-use rows::Rows;
+use crate::refusal::{CodeRefusal, WalkRefusal};
+use rows::{Bytes, Rows};
 use std::alloc::Global;
 
 /// The most bytes that the content of an attribute has.
@@ -17,7 +18,7 @@ const MAX_CONTENT: usize = 0xFFFF_FFFF;
 
 #[tactic(auto, unfolding(crate::specs::Reading::handler_at))]
 fn handler(cursor: &mut Cursor<'_>) -> Result<RawHandler, WalkRefusal>
-    ensures { GivesAndLeaves result cursor.new (handler_at cursor.old) }
+    ensures { GivesExactly result cursor.new (handler_at cursor.old) }
 {
     let from = cursor.u16()?;
     let to = cursor.u16()?;
@@ -49,14 +50,32 @@ fn handlers(alloc: Global, cursor: &mut Cursor<'_>) -> Result<Rows<RawHandler>, 
     counted_handlers(alloc, count, cursor)
 }
 
-#[tactic(auto, unfolding(crate::specs::Reading::code_at))]
-fn code(alloc: Global, cursor: &mut Cursor<'_>) -> Result<RawCode, WalkRefusal>
-    ensures { GivesAndLeaves result cursor.new (code_at cursor.old) }
+/// The two sizes, and the instructions.
+#[tactic(auto, unfolding(crate::specs::Reading::code_head_at))]
+fn head<'a>(cursor: &mut Cursor<'a>) -> Result<(u16, u16, &'a [u8]), WalkRefusal>
+    ensures { MatchResult result
+        (λ x. code_head_at cursor.old ≡ Ok ((x.0, x.1, x.2.now), cursor.new))
+        (λ e. FailsExactly e (code_head_at cursor.old)) }
 {
     let max_stack = cursor.u16()?;
     let max_locals = cursor.u16()?;
     let length = cursor.u32()?;
-    let bytes = cursor.bytes(alloc, length)?;
+    let bytes = cursor.next(length as usize)?;
+    Ok((max_stack, max_locals, bytes))
+}
+
+/// What stands behind the head.
+#[tactic(auto, unfolding(crate::specs::Reading::code_rest_at))]
+fn rest(
+    alloc: Global,
+    max_stack: u16,
+    max_locals: u16,
+    bytes: &[u8],
+    cursor: &mut Cursor<'_>,
+) -> Result<RawCode, WalkRefusal>
+    ensures { GivesAndLeaves result cursor.new (code_rest_at (max_stack, max_locals, bytes.now) cursor.old) }
+{
+    let bytes = Bytes::from_slice(alloc, bytes)?;
     let handlers = handlers(alloc, cursor)?;
     let attributes = attributes(alloc, cursor)?;
     Ok(RawCode {
@@ -68,29 +87,40 @@ fn code(alloc: Global, cursor: &mut Cursor<'_>) -> Result<RawCode, WalkRefusal>
     })
 }
 
-#[tactic(auto, unfolding(crate::specs::Reading::content_of, crate::specs::Reading::ended))]
+#[tactic(auto, unfolding(crate::specs::Reading::content_of, crate::specs::Reading::code_at, crate::specs::Reading::ended, crate::specs::Reading::code_head_of))]
 fn whole(alloc: Global, content: &[u8]) -> Result<RawCode, WalkRefusal>
     requires { length content.now < 2 ^ 32 }
-    ensures { Gives result (content_of content.now) }
+    ensures exact { Gives result (content_of content.now) }
+    ensures head { (f : WalkFault) → code_head_of content.now ≡ Err f → result ≡ Err (WalkRefusal.Fault f) }
 {
     let mut cursor = Cursor::new(content);
-    let code = code(alloc, &mut cursor)?;
-    if !cursor.is_empty() {
-        return Err(WalkRefusal::Fault(WalkFault::Trailing(cursor.place())));
-    }
+    let (max_stack, max_locals, bytes) = head(&mut cursor)?;
+    let code = rest(alloc, max_stack, max_locals, bytes, &mut cursor)?;
+    cursor.end()?;
     Ok(code)
 }
 
+/// Each fault is that the content is malformed.
+fn refused(refusal: WalkRefusal) -> CodeRefusal
+    ensures { result ≡ refused refusal }
+{
+    match refusal {
+        WalkRefusal::NoMemory => CodeRefusal::NoMemory,
+        WalkRefusal::Fault(_) => CodeRefusal::Malformed,
+    }
+}
+
 fn whole_or_malformed(alloc: Global, content: &[u8]) -> Result<RawCode, CodeRefusal>
-    ensures { Reads result (code_of content.now) }
+    ensures exact { Reads result (code_of content.now) }
+    ensures cut { IsCut content.now → result ≡ Err CodeRefusal.Malformed }
+    ensures length { 2 ^ 32 ≤ length content.now → result ≡ Err CodeRefusal.Malformed }
 {
     if content.len() > MAX_CONTENT {
         return Err(CodeRefusal::Malformed);
     }
     match whole(alloc, content) {
         Ok(code) => Ok(code),
-        Err(WalkRefusal::NoMemory) => Err(CodeRefusal::NoMemory),
-        Err(WalkRefusal::Fault(_)) => Err(CodeRefusal::Malformed),
+        Err(refusal) => Err(refused(refusal)),
     }
 }
 
@@ -98,7 +128,7 @@ fn whole_or_malformed(alloc: Global, content: &[u8]) -> Result<RawCode, CodeRefu
 /// first byte.
 ///
 /// `Malformed` comes exactly where the bytes are no such content from their first to their last. `NoMemory`
-/// may come anywhere.
+/// may come anywhere behind the instructions.
 pub fn code_content(alloc: Global, content: &[u8]) -> Result<RawCode, CodeRefusal>
     // What is read is spelled so, each byte of it.
     ensures found { IfOk result (λ c. IsCodeContent content.now c) }
@@ -106,6 +136,10 @@ pub fn code_content(alloc: Global, content: &[u8]) -> Result<RawCode, CodeRefusa
     ensures only { (c : RawCode) → IsCodeContent content.now c → Reads result (Some c) }
     // What isn't is malformed.
     ensures exact { Reads result (code_of content.now) }
+    // Bytes that end before the instructions do, or more than a content may have, are malformed before
+    // memory is taken.
+    ensures cut { IsCut content.now → result ≡ Err CodeRefusal.Malformed }
+    ensures length { 2 ^ 32 ≤ length content.now → result ≡ Err CodeRefusal.Malformed }
 {
     whole_or_malformed(alloc, content)
 }

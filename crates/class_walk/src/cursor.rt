@@ -1,7 +1,7 @@
 //! Reading bytes from the front.
 
-ghost use Rattle.std.specs.Prelude.{◌≡◌, ◌==◌, ◌<◌, ◌^◌, length, Ok, MatchResult};
-ghost use Rattle.class_walk.specs.Reading.{Fails, GivesAndLeaves, number_at, bytes_at, start_of};
+ghost use Rattle.std.specs.Prelude.{◌≡◌, ◌<◌, ◌^◌, length, Ok, MatchResult};
+ghost use Rattle.class_walk.specs.Reading.{FailsExactly, GivesAndLeaves, GivesExactly, PassesTo, number_at, bytes_at, start_of, end_at};
 
 use crate::refusal::{WalkFault, WalkRefusal};
 use byteorder::{BigEndian, ByteOrder};
@@ -43,18 +43,22 @@ impl<'a> Cursor<'a> {
         self.at
     }
 
-    /// Whether nothing is left.
-    pub fn is_empty(&self) -> bool
-        ensures { result ≡ (length self.now.left == 0) }
+    /// Nothing is left.
+    pub fn end(&self) -> Result<(), WalkRefusal>
+        ensures { PassesTo result self.now (end_at self.now) }
     {
-        self.left.is_empty()
+        if self.left.is_empty() {
+            Ok(())
+        } else {
+            Err(WalkRefusal::Fault(WalkFault::Trailing(self.at)))
+        }
     }
 
     /// The next bytes.
     pub fn next(&mut self, count: usize) -> Result<&'a [u8], WalkRefusal>
         ensures { MatchResult result
             (λ bytes. bytes_at count self.old ≡ Ok (bytes.now, self.new))
-            (λ e. Fails e (bytes_at count self.old)) }
+            (λ e. FailsExactly e (bytes_at count self.old)) }
     {
         if self.left.len() < count {
             let length = self.at + self.left.len() as u32;
@@ -76,7 +80,7 @@ impl<'a> Cursor<'a> {
 
     /// The next byte.
     pub fn u8(&mut self) -> Result<u8, WalkRefusal>
-        ensures { GivesAndLeaves result self.new (number_at 1 self.old) }
+        ensures { GivesExactly result self.new (number_at 1 self.old) }
     {
         let bytes = self.next(1)?;
         Ok(bytes[0])
@@ -84,7 +88,7 @@ impl<'a> Cursor<'a> {
 
     /// The next number of two bytes.
     pub fn u16(&mut self) -> Result<u16, WalkRefusal>
-        ensures { GivesAndLeaves result self.new (number_at 2 self.old) }
+        ensures { GivesExactly result self.new (number_at 2 self.old) }
     {
         let bytes = self.next(2)?;
         Ok(BigEndian::read_u16(bytes))
@@ -92,7 +96,7 @@ impl<'a> Cursor<'a> {
 
     /// The next number of four bytes.
     pub fn u32(&mut self) -> Result<u32, WalkRefusal>
-        ensures { GivesAndLeaves result self.new (number_at 4 self.old) }
+        ensures { GivesExactly result self.new (number_at 4 self.old) }
     {
         let bytes = self.next(4)?;
         Ok(BigEndian::read_u32(bytes))
@@ -100,7 +104,7 @@ impl<'a> Cursor<'a> {
 
     /// The next number of eight bytes.
     pub fn u64(&mut self) -> Result<u64, WalkRefusal>
-        ensures { GivesAndLeaves result self.new (number_at 8 self.old) }
+        ensures { GivesExactly result self.new (number_at 8 self.old) }
     {
         let bytes = self.next(8)?;
         Ok(BigEndian::read_u64(bytes))

@@ -16,7 +16,4 @@ mod walking;
 pub use class::{Constant, RawAttribute, RawClass, RawCode, RawHandler, RawMember};
 pub use code::code_content;
 pub use refusal::{CodeRefusal, WalkFault, WalkRefusal};
-pub use walking::walk;
-
-#[cfg(test)]
-mod tests;
+pub use walking::{MOST_BYTES, walk};

@@ -1,7 +1,7 @@
 //! The constant pool (JVMS 4.4).
 
 ghost use Rattle.std.specs.Prelude.{◌≡◌};
-ghost use Rattle.class_walk.specs.Reading.{GivesAndLeaves, tag_of, content_at, entry_at, slot_at, slots_at, pool_at};
+ghost use Rattle.class_walk.specs.Reading.{GivesAndLeaves, GivesExactly, tag_of, tag_at, content_at, entry_at, slot_at, slots_at, count_at, pool_at};
 
 use crate::class::Constant;
 use crate::cursor::Cursor;
@@ -10,7 +10,7 @@ use rows::Rows;
 use std::alloc::Global;
 
 /// The tag of a pool entry (JVMS 4.4, table 4.4-A).
-#[derive(Clone, Copy, Debug, PartialEq, Eq)]
+#[derive(Clone, Copy)]
 pub enum Tag {
     Utf8,
     Integer,
@@ -78,16 +78,25 @@ fn content(alloc: Global, tag: Tag, cursor: &mut Cursor<'_>) -> Result<Constant,
     })
 }
 
-/// The entry of an index.
-#[tactic(auto, unfolding(crate::specs::Reading::entry_at, crate::specs::Reading::tagged_at))]
-fn entry(alloc: Global, index: u16, cursor: &mut Cursor<'_>) -> Result<Constant, WalkRefusal>
-    ensures { GivesAndLeaves result cursor.new (entry_at index cursor.old) }
+/// The tag of the entry of an index.
+#[tactic(auto, unfolding(crate::specs::Reading::tag_at))]
+fn next_tag(index: u16, cursor: &mut Cursor<'_>) -> Result<Tag, WalkRefusal>
+    ensures { GivesExactly result cursor.new (tag_at index cursor.old) }
 {
     let number = cursor.u8()?;
     match tag_from(number) {
         None => Err(WalkRefusal::Fault(WalkFault::PoolTag(index))),
-        Some(tag) => content(alloc, tag, cursor),
+        Some(tag) => Ok(tag),
     }
+}
+
+/// The entry of an index.
+#[tactic(auto, unfolding(crate::specs::Reading::entry_at))]
+fn entry(alloc: Global, index: u16, cursor: &mut Cursor<'_>) -> Result<Constant, WalkRefusal>
+    ensures { GivesAndLeaves result cursor.new (entry_at index cursor.old) }
+{
+    let tag = next_tag(index, cursor)?;
+    content(alloc, tag, cursor)
 }
 
 /// What an index holds: nothing where a gap is due.
@@ -119,14 +128,23 @@ fn slots(alloc: Global, count: u16, cursor: &mut Cursor<'_>) -> Result<Rows<Cons
     Ok(slots)
 }
 
-/// The count, and what the indices below it hold.
-#[tactic(auto, unfolding(crate::specs::Reading::pool_at))]
-pub fn pool(alloc: Global, cursor: &mut Cursor<'_>) -> Result<Rows<Constant>, WalkRefusal>
-    ensures { GivesAndLeaves result cursor.new (pool_at cursor.old) }
+/// The count, which isn't 0.
+#[tactic(auto, unfolding(crate::specs::Reading::count_at))]
+fn count(cursor: &mut Cursor<'_>) -> Result<u16, WalkRefusal>
+    ensures { GivesExactly result cursor.new (count_at cursor.old) }
 {
     let count = cursor.u16()?;
     if count == 0 {
         return Err(WalkRefusal::Fault(WalkFault::PoolTag(0)));
     }
+    Ok(count)
+}
+
+/// The count, and what the indices below it hold.
+#[tactic(auto, unfolding(crate::specs::Reading::pool_at))]
+pub fn pool(alloc: Global, cursor: &mut Cursor<'_>) -> Result<Rows<Constant>, WalkRefusal>
+    ensures { GivesAndLeaves result cursor.new (pool_at cursor.old) }
+{
+    let count = count(cursor)?;
     slots(alloc, count, cursor)
 }

@@ -6,7 +6,7 @@ ghost use Rattle.class_walk.specs.declared.refusal.WalkRefusal.TheVariants as wa
 use std::alloc::{AllocError, AllocFailed};
 
 /// What is wrong with the layout of a class file: the first fault from its front (JVMS 4.1, 4.4).
-#[derive(Clone, Copy, Debug, PartialEq, Eq)]
+#[derive(Clone, Copy)]
 pub enum WalkFault {
     /// The file has more than 1,048,576 bytes.
     TooLong,
@@ -23,7 +23,7 @@ pub enum WalkFault {
 }
 
 /// Why a class file wasn't walked.
-#[derive(Clone, Copy, Debug, PartialEq, Eq)]
+#[derive(Clone, Copy)]
 pub enum WalkRefusal {
     /// There was no memory.
     NoMemory,
@@ -48,7 +48,7 @@ impl<T: Drop> From<AllocFailed<T>> for WalkRefusal {
 }
 
 /// Why the content of a Code attribute wasn't read.
-#[derive(Clone, Copy, Debug, PartialEq, Eq)]
+#[derive(Clone, Copy)]
 pub enum CodeRefusal {
     /// There was no memory.
     NoMemory,

@@ -1,9 +1,10 @@
 //! The walk through a class file (JVMS 4.1).
 
-ghost use Rattle.std.specs.Prelude.{◌≡◌, ◌<◌, ◌^◌, length, Ok, IfOk};
+ghost use Rattle.std.specs.Prelude.{◌≡◌, Ok, Err, IfOk};
 ghost use Rattle.class_walk.specs.declared.class.RawClass.{RawClass};
+ghost use Rattle.class_walk.specs.declared.refusal.WalkFault.{WalkFault};
 ghost use Rattle.class_walk.specs.Layout.{IsClassFile};
-ghost use Rattle.class_walk.specs.Reading.{Gives, GivesAndLeaves, PassesTo, magic_at, versions_at, class_at, walk_of};
+ghost use Rattle.class_walk.specs.Reading.{Gives, GivesAndLeaves, GivesExactly, PassesTo, magic_at, versions_at, head_at, rest_at, head_of, walk_of};
 
 use crate::class::RawClass;
 use crate::cursor::Cursor;
@@ -13,7 +14,7 @@ use crate::refusal::{WalkFault, WalkRefusal};
 use std::alloc::Global;
 
 /// The most bytes that a class file may have.
-const MAX_LENGTH: usize = 1_048_576;
+pub const MOST_BYTES: usize = 1_048_576;
 
 /// The first four bytes of each class file.
 const MAGIC: u32 = 0xCAFE_BABE;
@@ -31,7 +32,7 @@ fn magic(cursor: &mut Cursor<'_>) -> Result<(), WalkRefusal>
 /// The minor version, and the major one.
 #[tactic(auto, unfolding(crate::specs::Reading::versions_at))]
 fn versions(cursor: &mut Cursor<'_>) -> Result<(u16, u16), WalkRefusal>
-    ensures { GivesAndLeaves result cursor.new (versions_at cursor.old) }
+    ensures { GivesExactly result cursor.new (versions_at cursor.old) }
 {
     let minor = cursor.u16()?;
     let major = cursor.u16()?;
@@ -41,12 +42,25 @@ fn versions(cursor: &mut Cursor<'_>) -> Result<(u16, u16), WalkRefusal>
     Ok((minor, major))
 }
 
-#[tactic(auto, unfolding(crate::specs::Reading::class_at))]
-fn class(alloc: Global, cursor: &mut Cursor<'_>) -> Result<RawClass, WalkRefusal>
-    ensures { GivesAndLeaves result cursor.new (class_at cursor.old) }
+/// The magic number and the versions.
+#[tactic(auto, unfolding(crate::specs::Reading::head_at))]
+fn head(cursor: &mut Cursor<'_>) -> Result<(u16, u16), WalkRefusal>
+    ensures { GivesExactly result cursor.new (head_at cursor.old) }
 {
     magic(cursor)?;
-    let (minor, major) = versions(cursor)?;
+    versions(cursor)
+}
+
+/// What stands behind the minor and the major version.
+#[tactic(auto, unfolding(crate::specs::Reading::rest_at))]
+fn rest(
+    alloc: Global,
+    versions: (u16, u16),
+    cursor: &mut Cursor<'_>,
+) -> Result<RawClass, WalkRefusal>
+    ensures { GivesAndLeaves result cursor.new (rest_at versions cursor.old) }
+{
+    let (minor, major) = versions;
     let pool = pool(alloc, cursor)?;
     let flags = cursor.u16()?;
     let this_class = cursor.u16()?;
@@ -69,25 +83,25 @@ fn class(alloc: Global, cursor: &mut Cursor<'_>) -> Result<RawClass, WalkRefusal
     })
 }
 
-#[tactic(auto, unfolding(crate::specs::Reading::walk_of, crate::specs::Reading::ended))]
+#[tactic(auto, unfolding(crate::specs::Reading::walk_of, crate::specs::Reading::class_at, crate::specs::Reading::ended, crate::specs::Reading::head_of))]
 fn whole(alloc: Global, bytes: &[u8]) -> Result<RawClass, WalkRefusal>
-    ensures { Gives result (walk_of bytes.now) }
+    ensures exact { Gives result (walk_of bytes.now) }
+    ensures head { (f : WalkFault) → head_of bytes.now ≡ Err f → result ≡ Err (WalkRefusal.Fault f) }
 {
-    if bytes.len() > MAX_LENGTH {
+    if bytes.len() > MOST_BYTES {
         return Err(WalkRefusal::Fault(WalkFault::TooLong));
     }
     let mut cursor = Cursor::new(bytes);
-    let class = class(alloc, &mut cursor)?;
-    if !cursor.is_empty() {
-        return Err(WalkRefusal::Fault(WalkFault::Trailing(cursor.place())));
-    }
+    let versions = head(&mut cursor)?;
+    let class = rest(alloc, versions, &mut cursor)?;
+    cursor.end()?;
     Ok(class)
 }
 
 /// Takes a class file apart by its counts and lengths alone.
 ///
 /// The fault is the first one from the front: each is met as soon as the bytes that show it are there.
-/// `NoMemory` may come anywhere.
+/// `NoMemory` may come anywhere behind the versions.
 pub fn walk(alloc: Global, bytes: &[u8]) -> Result<RawClass, WalkRefusal>
     // What is read is spelled so, each byte of it.
     ensures found { IfOk result (λ c. IsClassFile bytes.now c) }
@@ -95,6 +109,8 @@ pub fn walk(alloc: Global, bytes: &[u8]) -> Result<RawClass, WalkRefusal>
     ensures only { (c : RawClass) → IsClassFile bytes.now c → Gives result (Ok c) }
     // Which fault it is.
     ensures exact { Gives result (walk_of bytes.now) }
+    // A fault of the length, the magic number or the versions is refused before memory is taken.
+    ensures head { (f : WalkFault) → head_of bytes.now ≡ Err f → result ≡ Err (WalkRefusal.Fault f) }
 {
     whole(alloc, bytes)
 }

@@ -17,6 +17,3 @@ pub use laws::{
     classes_can_be_written, read_classes_can_be_written, written_class_is_read,
     written_code_is_read,
 };
-
-#[cfg(test)]
-mod tests;

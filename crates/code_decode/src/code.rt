@@ -8,7 +8,7 @@ use rows::Rows;
 
 /// An exception handler (JVMS 4.7.3). Each place is given by its offset, and by the number of the instruction
 /// there.
-#[derive(Clone, Copy, Debug, PartialEq, Eq)]
+#[derive(Clone, Copy)]
 pub struct Handler {
     /// The first offset that is covered.
     pub from: u32,
@@ -27,7 +27,7 @@ pub struct Handler {
 }
 
 /// The code of a method.
-#[derive(Debug, Drop)]
+#[derive(Drop)]
 pub struct Code {
     /// The most words that the operand stack may have.
     pub max_stack: u16,
@@ -40,7 +40,7 @@ pub struct Code {
 }
 
 /// A class file with the code of each method.
-#[derive(Debug, Drop)]
+#[derive(Drop)]
 pub struct ClassUnit {
     pub file: ClassFile,
     /// By the number of the method; a method that is abstract or native has none.
@@ -48,7 +48,7 @@ pub struct ClassUnit {
 }
 
 /// Why a class was refused: the number of its first method whose code was, and why that was.
-#[derive(Clone, Copy, Debug, PartialEq, Eq)]
+#[derive(Clone, Copy)]
 pub struct CodeAt {
     pub method: u16,
     pub refusal: CodeRefusal,

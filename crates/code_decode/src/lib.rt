@@ -21,6 +21,3 @@ pub use instructions::{
 pub use method::decode;
 pub use refusal::CodeRefusal;
 pub use unit::decode_class;
-
-#[cfg(test)]
-mod tests;

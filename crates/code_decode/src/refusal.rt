@@ -7,7 +7,7 @@ use std::alloc::{AllocError, AllocFailed};
 use thiserror::Error;
 
 /// Why the code of a method was refused. The number is an offset in the code, but in `Handler` and `Frame`.
-#[derive(Clone, Copy, Debug, PartialEq, Eq, Error)]
+#[derive(Clone, Copy, Debug, Error)]
 pub enum CodeRefusal {
     /// At this offset stands a number above 201, which no instruction has (JVMS 6.2).
     #[error("Opcode {0}")]

@@ -7,7 +7,7 @@ use Rattle.instructions.specs.declared.what.Target.{Target}
 use Rattle.code_frames.specs.declared.types.VType.{VType}
 use Rattle.code_frames.specs.declared.refusal.Fault.{Fault}
 use Rattle.code_frames.specs.declared.refusal.Fault.TheVariants as faults
-use Rattle.code_frames.specs.Reading.{◌>>=◌, Fails, item_at, items_at}
+use Rattle.code_frames.specs.Reading.{◌>>=◌, Fails, FailsExactly, item_at, items_at}
 
 -- what was read before, and what is still read
 abbrev pub with_front : List VType → Option (List VType × List ℕ) → Option (List VType × List ℕ)
@@ -24,6 +24,11 @@ goes_on pool steps front count i s x after total lt h so_far =
     let k : count - i ≡ suc (count - (i + 1)) = omega arith in
     let one : with_front front (items_at pool steps (count - i) s) ≡ with_front (front ++ x ∷ []) (items_at pool steps (count - (i + 1)) after) = rw (k, h) (regroup front x (items_at pool steps (count - (i + 1)) after)) in
     sym one ∙ so_far
+
+-- a failure of a function that takes no memory is one of a function that does
+pub fails : {Y : Type 0} (e : Fault) (read : Option Y) → FailsExactly e read → Fails e read
+fails faults.NoMemory read failed = tt
+fails faults.Malformed read failed = failed
 
 pub ends : (e : Fault) (pool : List Constant) (steps : List (Instr Target)) (front : List VType) (count i : ℕ) (s : List ℕ) (total : Option (List VType × List ℕ)) → i < count → Fails e (item_at pool steps s)
     → with_front front (items_at pool steps (count - i) s) ≡ total → Fails e total

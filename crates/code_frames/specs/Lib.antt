@@ -1,4 +1,3 @@
 pub mod Locals
 pub mod StackMap
 pub mod Reading
-pub mod FrameNumbers

@@ -38,6 +38,15 @@ abbrev pub Gives : {X : Type 0} → Result X Fault → List ℕ → Option (X ×
 Gives (Ok x) left read = read ≡ Some (x, left)
 Gives (Err e) left read = Fails e read
 
+-- The same of a function that takes no memory.
+abbrev pub FailsExactly : {Y : Type 0} → Fault → Option Y → Type 0
+FailsExactly faults.Malformed read = read ≡ None
+FailsExactly faults.NoMemory read = ⊥
+
+abbrev pub GivesExactly : {X : Type 0} → Result X Fault → List ℕ → Option (X × List ℕ) → Type 0
+GivesExactly (Ok x) left read = read ≡ Some (x, left)
+GivesExactly (Err e) left read = FailsExactly e read
+
 abbrev pub refusal_of : Fault → ℕ → FrameRefusal
 refusal_of faults.Malformed number = refusals.Frame number
 refusal_of faults.NoMemory number = refusals.NoMemory

@@ -1,7 +1,7 @@
 //! Reading bytes from the front.
 
 ghost use Rattle.std.specs.Prelude.{◌≡◌, ◌==◌, length};
-ghost use Rattle.code_frames.specs.Reading.{Gives, unsigned_at};
+ghost use Rattle.code_frames.specs.Reading.{GivesExactly, unsigned_at};
 
 use crate::refusal::Fault;
 use byteorder::{BigEndian, ByteOrder};
@@ -38,7 +38,7 @@ impl<'a> Cursor<'a> {
 
     /// The next byte.
     pub fn u8(&mut self) -> Result<u8, Fault>
-        ensures { Gives result self.new (unsigned_at 1 self.old) }
+        ensures { GivesExactly result self.new (unsigned_at 1 self.old) }
     {
         if self.left.is_empty() {
             return Err(Fault::Malformed);
@@ -50,7 +50,7 @@ impl<'a> Cursor<'a> {
 
     /// The next number of two bytes.
     pub fn u16(&mut self) -> Result<u16, Fault>
-        ensures { Gives result self.new (unsigned_at 2 self.old) }
+        ensures { GivesExactly result self.new (unsigned_at 2 self.old) }
     {
         if self.left.len() < 2 {
             return Err(Fault::Malformed);

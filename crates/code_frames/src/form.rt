@@ -4,7 +4,7 @@ ghost use Rattle.std.specs.Prelude.{◌≡◌};
 ghost use Rattle.code_frames.specs.Reading.{form_of};
 
 /// The form of a frame, which its kind tells (JVMS 4.7.4).
-#[derive(Clone, Copy, Debug, PartialEq, Eq)]
+#[derive(Clone, Copy)]
 pub enum FrameForm {
     /// The same locals, and an empty stack.
     Same,

@@ -1,33 +1,30 @@
 //! The frames of a method, found by their instructions.
 
 ghost use Rattle.std.specs.Prelude.{◌≡◌, ◌≢◌, ◌==◌, ◌<◌, ◌^◌, [], ◌∷◌, ◌++◌, length, slice_get, option_copied, OnOk, OnErr};
-ghost use Rattle.std.specs.Option.{option_flatten};
 ghost use Rattle.std.specs.List.{AllByRecursion, position_from};
-ghost use Rattle.instructions.specs.Offsets.{IsSameAt};
 
 use crate::types::MapFrame;
-use rows::Rows;
+use instructions::Numbering;
 use std::alloc::{AllocError, Global};
 use std::marker::Model;
 
 /// The stack map frames of a method, in order. Contracts see the list of them.
-#[derive(Debug, Drop)]
+#[derive(Drop)]
 pub struct Frames {
-    frames: Rows<MapFrame>,
-    /// By the number of an instruction: the number of the frame that stands there.
-    numbers: Vec<Option<u32>>,
+    frames: Vec<MapFrame>,
+    /// The numbers of the instructions at which they stand.
+    steps: Numbering,
 }
 
 impl Model for Frames {
-    ghost use Rattle.std.specs.Prelude.{List};
+    ghost use Rattle.std.specs.Prelude.{◌≡◌, List, map};
     ghost use Rattle.code_frames.specs.declared.types.MapFrame.{MapFrame};
-    ghost use Rattle.code_frames.specs.FrameNumbers.{AreNumbersOf};
 
     ghost Value = { List MapFrame };
 
-    ghost view = { λ f. f.frames };
+    ghost view = { λ f. f.frames.items };
 
-    ghost invariant = { λ f. AreNumbersOf f.frames f.numbers.items };
+    ghost invariant = { λ f. f.steps ≡ map (λ g. g.step) f.frames.items };
 }
 
 impl Frames {
@@ -36,8 +33,8 @@ impl Frames {
         ensures { result ≡ [] }
     {
         Frames {
-            frames: Rows::new(alloc),
-            numbers: Vec::new(alloc),
+            frames: Vec::new(alloc),
+            steps: Numbering::new(alloc),
         }
     }
 
@@ -74,7 +71,7 @@ impl Frames {
     pub fn number_at(&self, step: u32) -> Option<u32>
         ensures { result ≡ position_from (λ f. f.step == step) 0 self.now }
     {
-        number_of(self.numbers.as_slice(), step)
+        self.steps.number_at(step)
     }
 
     /// Puts a frame behind the others. An error leaves them as they were, and the frame is dropped.
@@ -84,32 +81,12 @@ impl Frames {
         ensures ok { OnOk result (self.new ≡ self.old ++ frame ∷ []) }
         ensures err { OnErr result (self.new ≡ self.old) }
     {
-        let number = self.frames.len() as u32;
-        let step = frame.step as usize;
-        make_room(&mut self.numbers, step)?;
+        let (count, step) = (self.frames.len(), frame.step);
         self.frames.push(frame)?;
-        self.numbers[step] = Some(number);
-        Ok(())
+        let numbered = self.steps.push(step);
+        if numbered.is_err() {
+            self.frames.truncate(count);
+        }
+        numbered
     }
-}
-
-/// The number that stands at an instruction, or `None` where none does.
-fn number_of(numbers: &[Option<u32>], step: u32) -> Option<u32>
-    ensures { result ≡ option_flatten (slice_get numbers.now step) }
-{
-    match numbers.get(step as usize) {
-        Some(number) => *number,
-        None => None,
-    }
-}
-
-/// Makes the numbers long enough for an instruction.
-fn make_room(numbers: &mut Vec<Option<u32>>, step: usize) -> Result<(), AllocError>
-    ensures room { OnOk result (step < length numbers.new.items) }
-    ensures same { IsSameAt numbers.old.items numbers.new.items }
-{
-    for _ in numbers.len()..=step {
-        numbers.push(None)?;
-    }
-    Ok(())
 }

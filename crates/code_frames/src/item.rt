@@ -1,7 +1,7 @@
 //! The items of a frame: verification types (JVMS 4.7.4).
 
 ghost use Rattle.std.specs.Prelude.{◌≡◌, length};
-ghost use Rattle.code_frames.specs.Reading.{Gives, is_class, is_new, is_class_at, is_new_at, object_at, uninit_at, tagged_item_at, item_at, items_at, items_table_at};
+ghost use Rattle.code_frames.specs.Reading.{Gives, GivesExactly, is_class, is_new, is_class_at, is_new_at, object_at, uninit_at, tagged_item_at, item_at, items_at, items_table_at};
 
 use crate::cursor::Cursor;
 use crate::refusal::Fault;
@@ -46,7 +46,7 @@ fn is_new_at(steps: &Steps, at: u32) -> bool
 
 #[tactic(auto, unfolding(crate::specs::Reading::object_at))]
 fn object(pool: &[Constant], cursor: &mut Cursor<'_>) -> Result<VType, Fault>
-    ensures { Gives result cursor.new (object_at pool.now cursor.old) }
+    ensures { GivesExactly result cursor.new (object_at pool.now cursor.old) }
 {
     let index = cursor.u16()?;
     if !is_class_at(pool, index) {
@@ -57,7 +57,7 @@ fn object(pool: &[Constant], cursor: &mut Cursor<'_>) -> Result<VType, Fault>
 
 #[tactic(auto, unfolding(crate::specs::Reading::uninit_at))]
 fn uninit(steps: &Steps, cursor: &mut Cursor<'_>) -> Result<VType, Fault>
-    ensures { Gives result cursor.new (uninit_at steps.now cursor.old) }
+    ensures { GivesExactly result cursor.new (uninit_at steps.now cursor.old) }
 {
     let at = u32::from(cursor.u16()?);
     if !is_new_at(steps, at) {
@@ -74,7 +74,7 @@ fn tagged_item(
     tag: u8,
     cursor: &mut Cursor<'_>,
 ) -> Result<VType, Fault>
-    ensures { Gives result cursor.new (tagged_item_at pool.now steps.now tag cursor.old) }
+    ensures { GivesExactly result cursor.new (tagged_item_at pool.now steps.now tag cursor.old) }
 {
     match tag {
         0 => Ok(VType::Top),
@@ -93,7 +93,7 @@ fn tagged_item(
 /// The next item.
 #[tactic(auto, unfolding(crate::specs::Reading::item_at))]
 pub fn item(pool: &[Constant], steps: &Steps, cursor: &mut Cursor<'_>) -> Result<VType, Fault>
-    ensures { Gives result cursor.new (item_at pool.now steps.now cursor.old) }
+    ensures { GivesExactly result cursor.new (item_at pool.now steps.now cursor.old) }
 {
     let tag = cursor.u8()?;
     tagged_item(pool, steps, tag, cursor)

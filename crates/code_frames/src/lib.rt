@@ -19,6 +19,3 @@ pub use laws::{frames_rise, locals_are_counted, one_answer};
 pub use reading::read_frames;
 pub use refusal::FrameRefusal;
 pub use types::{LocalsChange, MapFrame, VType};
-
-#[cfg(test)]
-mod tests;

@@ -1,9 +1,9 @@
 //! The StackMapTable of a method (JVMS 4.7.4).
 
-ghost use Rattle.std.specs.Prelude.{◌≡◌, ℕ, ◌+◌, ◌<◌, ◌^◌, List, Ok, Err, IfOk, IfErr};
+ghost use Rattle.std.specs.Prelude.{◌≡◌, ℕ, ◌+◌, ◌<◌, ◌^◌, List, [], length, Ok, Err, IfOk, IfErr};
 ghost use Rattle.code_frames.specs.declared.types.MapFrame.{MapFrame};
 ghost use Rattle.code_frames.specs.StackMap.{IsStackMap, IsFirstBadFrame, Refuses, IsUnlessNoMemory};
-ghost use Rattle.code_frames.specs.Reading.{IsBytes, Gives, previous_of, delta_at, content_at, frame_at, GivesFrames, Answers};
+ghost use Rattle.code_frames.specs.Reading.{IsBytes, Gives, GivesExactly, previous_of, delta_at, content_at, frame_at, GivesFrames, Answers};
 
 use crate::cursor::Cursor;
 use crate::form::FrameForm;
@@ -19,7 +19,7 @@ use std::alloc::Global;
 /// The distance from the frame before, which a kind below 128 has in itself.
 #[tactic(auto, unfolding(crate::specs::Reading::delta_at))]
 fn delta(kind: u8, cursor: &mut Cursor<'_>) -> Result<u16, Fault>
-    ensures { Gives result cursor.new (delta_at kind cursor.old) }
+    ensures { GivesExactly result cursor.new (delta_at kind cursor.old) }
 {
     match kind {
         0..64 => Ok(u16::from(kind)),
@@ -131,7 +131,9 @@ fn whole(
     entry_locals: u16,
     maps: &[u8],
 ) -> Result<Frames, FrameRefusal>
-    ensures { Answers pool.now steps.now entry_locals maps.now result }
+    ensures answer { Answers pool.now steps.now entry_locals maps.now result }
+    ensures none { maps.now ≡ [] → result ≡ Ok [] }
+    ensures count { length maps.now ≡ 1 → result ≡ Err (FrameRefusal.Frame 0) }
 {
     let mut cursor = Cursor::new(maps);
     if cursor.is_empty() {
@@ -176,6 +178,9 @@ pub fn read_frames(
     ensures first { (number : ℕ) →
         IsFirstBadFrame pool.now steps.now entry_locals maps.now number →
         IsUnlessNoMemory result (Err (FrameRefusal.Frame number)) }
+    // No bytes are no frames, and a count that is cut is refused, before memory is taken.
+    ensures none { maps.now ≡ [] → result ≡ Ok [] }
+    ensures count { length maps.now ≡ 1 → result ≡ Err (FrameRefusal.Frame 0) }
 {
     whole(alloc, pool, steps, entry_locals, maps)
 }

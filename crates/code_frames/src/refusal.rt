@@ -8,7 +8,7 @@ ghost use Rattle.code_frames.specs.Reading.{refusal_of};
 use std::alloc::{AllocError, AllocFailed};
 
 /// Why a StackMapTable was refused.
-#[derive(Clone, Copy, Debug, PartialEq, Eq)]
+#[derive(Clone, Copy)]
 pub enum FrameRefusal {
     /// The frame of this number, from 0, is the first that is wrong.
     Frame(u16),
@@ -25,7 +25,7 @@ impl From<AllocError> for FrameRefusal {
 }
 
 /// Why a part of a frame was not read.
-#[derive(Clone, Copy, Debug, PartialEq, Eq)]
+#[derive(Clone, Copy)]
 pub enum Fault {
     /// No right part of a frame stands there.
     Malformed,

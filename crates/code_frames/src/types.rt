@@ -6,7 +6,7 @@ ghost use Rattle.code_frames.specs.Locals.{count_after};
 use rows::Rows;
 
 /// A verification type (JVMS 4.7.4).
-#[derive(Clone, Copy, Debug, PartialEq, Eq)]
+#[derive(Clone, Copy)]
 pub enum VType {
     Top,
     Int,
@@ -26,7 +26,7 @@ pub enum VType {
 }
 
 /// How the locals of a frame come from those of the frame before it (JVMS 4.7.4).
-#[derive(Debug, Drop)]
+#[derive(Drop)]
 pub enum LocalsChange {
     /// They are the same.
     Same,
@@ -54,7 +54,7 @@ impl LocalsChange {
 }
 
 /// A stack map frame (JVMS 4.7.4).
-#[derive(Debug, Drop)]
+#[derive(Drop)]
 pub struct MapFrame {
     /// The offset of the instruction that it stands at.
     pub at: u32,

@@ -1,8 +1,8 @@
 -- Instructions that are laid out from the front are the ones that are read, and no others are.
-use Rattle.std.proofs.Common.{◌≡◌, ℕ, suc, ◌+◌, ◌-◌, ◌<◌, ◌≤◌, Bool, true, false, nat_lt, List, [], ◌∷◌, ◌++◌, length, drop, map, Option, Some, None, Result, Ok, Err, refl, sym, ap, subst, ◌∙◌, arith, inl, inr}
+use Rattle.std.proofs.Common.{◌≡◌, ℕ, suc, ◌+◌, ◌-◌, ◌<◌, ◌≤◌, Bool, true, false, nat_lt, List, [], ◌∷◌, ◌++◌, length, drop, Option, Some, None, Result, Ok, Err, refl, sym, ap, subst, ◌∙◌, arith, inl, inr}
 use Rattle.std.specs.Prelude.{ℤ, All, MatchBool}
 use Rattle.std.proofs.lemmas.Bool.{cases_lt, le-ltb}
-use Rattle.std.proofs.lemmas.List.{drop_all, drop_at, drop-drop, length-append, length-drop, get_or-drop}
+use Rattle.std.proofs.lemmas.List.{drop_all, drop_at, drop-drop, length-append, length-drop, get_or-drop, map-append}
 use Rattle.std.proofs.lemmas.List.Elements.{All-nil, All-push, All-weaker}
 use Rattle.class_walk.specs.declared.class.Constant.{Constant}
 use Rattle.class_walk.proofs.Fields.{IsBytes}
@@ -51,7 +51,8 @@ unfolding ReadsInstruction
 instruction_read pool at [] what rest fits e = absurd e
 instruction_read pool at (number ∷ bytes) what rest fits e = below_read pool at number (nat_lt 201 number) bytes what rest (bytes_tail number bytes fits) (Ok (what, rest)) refl e
 
-number_small : (number : ℕ) (row : Instruction) → row_numbered number ≡ Some row → number ≤ 201
+-- a row of the table has a number of at most 201
+pub number_small : (number : ℕ) (row : Instruction) → row_numbered number ≡ Some row → number ≤ 201
 number_small number row is =
     elim (cases_lt number 202) [
       | inl low ↦ omega arith
@@ -221,10 +222,6 @@ pub laid_push : (pool : List Constant) (code : List ℕ) (from : ℕ) (xs : List
 laid_push pool code from [] i at laid same is = (same ∙ sym laid, is, refl)
 laid_push pool code from (x ∷ xs) i at laid same is = (laid.0, laid.1, laid_push pool code x.next xs i at laid.2 same is)
 
-map-push : {A B : Type 0} (f : A → B) (xs : List A) (x : A) → map f (xs ++ x ∷ []) ≡ map f xs ++ f x ∷ []
-map-push f [] x = refl
-map-push {A = A} {B = B} f (y ∷ ys) x = ap (λ (zs : List B). f y ∷ zs) (map-push f ys x)
-
 -- the instructions that have been read, with these bytes left
 pub record Reached (pool : List Constant) (code : List ℕ) (steps : List (Instr ℤ)) (offsets left : List ℕ) : Type 0 where
   pub here : At code (length code - length left) left
@@ -254,7 +251,7 @@ reached_more pool code steps offsets left what rest fits r reads =
     record {
       here = s.behind;
       laid = laid_push pool code 0 steps i at r.laid refl s.instruction;
-      offsets_are = ap (λ (os : List ℕ). os ++ at ∷ []) r.offsets_are ∙ sym (map-push (λ (j : Instr ℤ). j.at) steps i);
+      offsets_are = ap (λ (os : List ℕ). os ++ at ∷ []) r.offsets_are ∙ sym (map-append (λ (j : Instr ℤ). j.at) steps (i ∷ []));
       below = All-push (λ o. o < length code - length rest) offsets at (All-weaker (λ o. o < at) (λ o. o < length code - length rest) (λ o lt. omega (arith, s.later, lt)) offsets r.below) s.later;
       count = omega (arith, r.count, s.later, length-append offsets (at ∷ []));
     }

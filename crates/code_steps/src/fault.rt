@@ -6,7 +6,7 @@ ghost use Rattle.code_steps.specs.declared.fault.StepRefusal.TheVariants as refu
 use std::alloc::{AllocError, AllocFailed};
 
 /// What is wrong with a code array. The numbers are offsets of instructions.
-#[derive(Clone, Copy, Debug, PartialEq, Eq)]
+#[derive(Clone, Copy)]
 pub enum StepFault {
     /// The code has no byte, or more than 65,535 (JVMS 4.7.3).
     Length,
@@ -25,7 +25,7 @@ pub enum StepFault {
 }
 
 /// Why a code array wasn't read.
-#[derive(Clone, Copy, Debug, PartialEq, Eq)]
+#[derive(Clone, Copy)]
 pub enum StepRefusal {
     /// The code array is at fault.
     Fault(StepFault),

@@ -14,6 +14,3 @@ mod targets;
 
 pub use fault::{StepFault, StepRefusal};
 pub use reading::read_steps;
-
-#[cfg(test)]
-mod tests;

@@ -13,7 +13,7 @@ use crate::fault::{StepFault, StepRefusal};
 use crate::operands::instruction;
 use crate::targets::steps;
 use class_read::Pool;
-use instructions::{Instr, Offsets, Steps};
+use instructions::{Instr, Numbering, Steps};
 use rows::Rows;
 use std::alloc::Global;
 
@@ -26,13 +26,13 @@ fn instructions(
     alloc: Global,
     pool: &Pool<'_>,
     code: &[u8],
-) -> Result<(Rows<Instr<i64>>, Offsets), StepRefusal>
+) -> Result<(Rows<Instr<i64>>, Numbering), StepRefusal>
     requires { IsSized code.now }
     ensures ok { IfOk result (λ x. Lays pool.now code.now x.0 x.1) }
     ensures err { IfErr result (IsFaultOf (IsInstructionFault pool.now code.now)) }
 {
     let mut steps = Rows::new(alloc);
-    let mut offsets = Offsets::new(alloc);
+    let mut offsets = Numbering::new(alloc);
     let mut cursor = Cursor::new(code);
     while !cursor.is_empty() {
         let at = (code.len() - cursor.len()) as u32;

@@ -6,12 +6,12 @@ ghost use Rattle.code_steps.specs.Reading.{Returns};
 ghost use Rattle.code_steps.specs.Targets.{target_of, all_of, case_of, what_of, step_of, steps_of};
 
 use crate::fault::{StepFault, StepRefusal};
-use instructions::{Case, Instr, Offsets, Target, What};
+use instructions::{Case, Instr, Numbering, Target, What};
 use rows::Rows;
 use std::alloc::{AllocError, Global};
 
 /// The instruction at an offset, if one begins there.
-fn target(offsets: &Offsets, to: i64) -> Option<Target>
+fn target(offsets: &Numbering, to: i64) -> Option<Target>
     requires { All (λ o. o < 2 ^ 32) offsets.now }
     ensures { result ≡ target_of offsets.now to }
 {
@@ -24,7 +24,7 @@ fn target(offsets: &Offsets, to: i64) -> Option<Target>
 
 fn targets(
     alloc: Global,
-    offsets: &Offsets,
+    offsets: &Numbering,
     from: &[i64],
 ) -> Result<Option<Rows<Target>>, AllocError>
     requires { All (λ o. o < 2 ^ 32) offsets.now }
@@ -40,7 +40,7 @@ fn targets(
     Ok(Some(targets))
 }
 
-fn case(offsets: &Offsets, from: Case<i64>) -> Option<Case<Target>>
+fn case(offsets: &Numbering, from: Case<i64>) -> Option<Case<Target>>
     requires { All (λ o. o < 2 ^ 32) offsets.now }
     ensures { result ≡ case_of (target_of offsets.now) from }
 {
@@ -53,7 +53,7 @@ fn case(offsets: &Offsets, from: Case<i64>) -> Option<Case<Target>>
 
 fn cases(
     alloc: Global,
-    offsets: &Offsets,
+    offsets: &Numbering,
     from: &[Case<i64>],
 ) -> Result<Option<Rows<Case<Target>>>, AllocError>
     requires { All (λ o. o < 2 ^ 32) offsets.now }
@@ -72,7 +72,7 @@ fn cases(
 #[tactic(auto, unfolding(crate::specs::Targets::what_of))]
 fn table_switch(
     alloc: Global,
-    offsets: &Offsets,
+    offsets: &Numbering,
     default: i64,
     low: i32,
     from: &[i64],
@@ -96,7 +96,7 @@ fn table_switch(
 #[tactic(auto, unfolding(crate::specs::Targets::what_of))]
 fn lookup_switch(
     alloc: Global,
-    offsets: &Offsets,
+    offsets: &Numbering,
     default: i64,
     from: &[Case<i64>],
 ) -> Result<Option<What<Target>>, AllocError>
@@ -116,7 +116,7 @@ fn lookup_switch(
 #[tactic(auto, unfolding(crate::specs::Targets::what_of))]
 fn what(
     alloc: Global,
-    offsets: &Offsets,
+    offsets: &Numbering,
     from: &What<i64>,
 ) -> Result<Option<What<Target>>, AllocError>
     requires { All (λ o. o < 2 ^ 32) offsets.now }
@@ -153,7 +153,7 @@ fn what(
     Ok(Some(same))
 }
 
-fn step(alloc: Global, offsets: &Offsets, from: &Instr<i64>) -> Result<Instr<Target>, StepRefusal>
+fn step(alloc: Global, offsets: &Numbering, from: &Instr<i64>) -> Result<Instr<Target>, StepRefusal>
     requires { All (λ o. o < 2 ^ 32) offsets.now }
     ensures { Returns result (step_of offsets.now from.now) }
 {
@@ -170,7 +170,7 @@ fn step(alloc: Global, offsets: &Offsets, from: &Instr<i64>) -> Result<Instr<Tar
 /// The instructions with their targets.
 pub fn steps(
     alloc: Global,
-    offsets: &Offsets,
+    offsets: &Numbering,
     from: &[Instr<i64>],
 ) -> Result<Rows<Instr<Target>>, StepRefusal>
     requires { All (λ o. o < 2 ^ 32) offsets.now }

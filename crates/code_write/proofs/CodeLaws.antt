@@ -2,9 +2,9 @@
 use Rattle.std.proofs.Common.{◌≡◌, ℕ, suc, ◌+◌, ◌<◌, ◌^◌, ℤ, pos, negsuc, ◌≤◌, ◌+ℤ◌, ◌-ℤ◌, ◌≤ℤ◌, List, [], ◌∷◌, ◌++◌, length, drop, map, Option, Some, ◌⊎◌, inl, inr, refl, sym, ap, subst, ◌∙◌, arith, append_assoc, append-nil, length-append, lit<, mod-eq_of_lt, FitsSigned}
 use Rattle.std.specs.List.{All, AllByRecursion, flat_map}
 use Rattle.std.specs.Int.{w8, w16, w32, cast_unsigned, cast_signed}
-use Rattle.std.proofs.lemmas.Bool.{cases_lt}
 use Rattle.std.proofs.lemmas.Int.{ints, to_z-of_z}
 use Rattle.std.proofs.lemmas.Grind.{common_steps}
+use Rattle.std.proofs.lemmas.List.{length-map}
 use Rattle.std.proofs.lemmas.List.Elements.{All-head, All-tail}
 use Rattle.class_walk.specs.declared.class.Constant.{Constant}
 use Rattle.class_walk.specs.Layout.{u1, u2, u4}
@@ -18,8 +18,8 @@ use Rattle.instructions.specs.declared.what.Target.{Target}
 use Rattle.instructions.specs.declared.what.What.{What}
 use Rattle.instructions.specs.declared.what.What.TheVariants as whats
 use Rattle.instructions.specs.Table.{Instruction, row, row_numbered, table}
-use Rattle.instructions.proofs.TableLaws.{row_numbered-past}
-use Rattle.code_steps.specs.CodeArray.{IsInstruction, AreLaidOut, by_offsets, targets_of, IsAmong, IsCodeArray}
+use Rattle.code_steps.specs.CodeArray.{IsInstruction, AreLaidOut, by_offsets, targets_of, with_target, IsAmong, IsCodeArray}
+use Rattle.code_steps.proofs.LayoutLaws.{number_small}
 use Rattle.code_steps.specs.Operands.{HasOne, HasTwo, Any, near_target, far_target, IsTarget, IsKey, IsCase, AreItems, padding_of, IsTableSwitch, IsLookupSwitch, Rise, AreWideOf, AreWide, IsElementCode, IsOperands}
 use Rattle.code_write.specs.declared.operands.Operands.{Operands}
 use Rattle.code_write.specs.declared.operands.Operands.TheVariants.{Absent, Byte, Short, ByteIndex, Index, Local, WideLocal, Increment, WideIncrement, Near, Far, TableSwitch, LookupSwitch, InterfaceCall, NewArray}
@@ -71,14 +71,6 @@ are_cases at (c ∷ cs) all keys = (
   refl,
 )
 
-length_read : (targets : List ℕ) → length (targets_read targets) ≡ length targets
-length_read [] = refl
-length_read (t ∷ ts) = ap suc (length_read ts)
-
-length_cases_read : (cases : List (Case ℕ)) → length (cases_read cases) ≡ length cases
-length_cases_read [] = refl
-length_cases_read (c ∷ cs) = ap suc (length_cases_read cs)
-
 highest_above : (low : ℤ) (n : ℕ) → 0 < n → low ≤ℤ (low +ℤ pos n -ℤ pos 1)
 highest_above low n some = grind (arith, ints)
 
@@ -102,7 +94,7 @@ is_table at default low targets fits width some = record {
   high_is = is_key (highest low targets) fits.highest_fits;
   targets_are = are_targets at targets fits.targets_fit;
   ordered = highest_above low (length targets) some;
-  count = highest_next low (length targets) (length (targets_read targets)) (length_read targets);
+  count = highest_next low (length targets) (length (targets_read targets)) (length-map targets (λ t. pos t));
   spelled = refl;
   made = refl;
 }
@@ -116,10 +108,10 @@ is_lookup at default cases fits keys rising = record {
   cases_bytes = flat_map (case_bytes at) cases;
   filled = length_zeros (padding_of at);
   default_is = is_target at default fits.default_fits;
-  count = rw (length_cases_read cases) fits.count;
+  count = rw (length-map cases (with_target (λ t. pos t))) fits.count;
   cases_are = are_cases at cases fits.cases_fit keys;
   rising = rising;
-  spelled = ap (λ (n : ℕ). padding_bytes at ++ (far_bytes at default ++ (u4 n ++ flat_map (case_bytes at) cases))) (sym (length_cases_read cases));
+  spelled = ap (λ (n : ℕ). padding_bytes at ++ (far_bytes at default ++ (u4 n ++ flat_map (case_bytes at) cases))) (sym (length-map cases (with_target (λ t. pos t))));
   made = refl;
 }
 
@@ -206,19 +198,13 @@ narrow_instruction pool code at next w what m narrow is ends whole = record {
   ends = let size : length (instruction_bytes at w) ≡ suc (length (operand_bytes at w.operands)) = ap (λ (s : List ℕ). length (s ++ (w.number ∷ operand_bytes at w.operands))) narrow in omega (arith, size, ends);
 }
 
-number_small : (n : ℕ) (r : Instruction) → row_numbered n ≡ Some r → n < 256
-number_small n r e = elim (cases_lt n 202) [
-  | inl low ↦ omega (arith, low)
-  | inr high ↦ let none = row_numbered-past n high in absurd cc
-]
-
 one_byte : (n : ℕ) → n < 256 → u1 n ≡ n ∷ []
 one_byte n small = ap (λ (k : ℕ). k ∷ []) (mod-eq_of_lt small)
 
 wide_instruction : (pool : List Constant) (code : List ℕ) (at next : ℕ) (w : Written ℕ) (what : What ℤ) (m : IsMeant pool at w what) → wide_bytes w.operands ≡ 196 ∷ [] → AreWideOf m.row.form what (operand_bytes at w.operands) → next ≡ at + length (instruction_bytes at w) → drop at code ≡ instruction_bytes at w ++ drop next code → IsInstruction pool code (record { at = at; next = next; what = what })
 wide_instruction pool code at next w what m wide is ends whole =
     let Are : Option Instruction → Type 0 = λ r. AreWide r what (operand_bytes at w.operands) in
-    let byte : w.number < 256 = number_small w.number m.row m.numbered in
+    let byte : w.number < 256 = omega (arith, number_small w.number m.row m.numbered) in
     record {
       number = 196;
       row = wide_row;
@@ -229,7 +215,7 @@ wide_instruction pool code at next w what m wide is ends whole =
       ends = let size : length (instruction_bytes at w) ≡ suc (suc (length (operand_bytes at w.operands))) = ap (λ (s : List ℕ). length (s ++ (w.number ∷ operand_bytes at w.operands))) wide in omega (arith, size, ends);
     }
 
-pub is_instruction : (pool : List Constant) (code : List ℕ) (at next : ℕ) (w : Written ℕ) (what : What ℤ) → IsMeant pool at w what → next ≡ at + length (instruction_bytes at w) → drop at code ≡ instruction_bytes at w ++ drop next code → IsInstruction pool code (record { at = at; next = next; what = what })
+is_instruction : (pool : List Constant) (code : List ℕ) (at next : ℕ) (w : Written ℕ) (what : What ℤ) → IsMeant pool at w what → next ≡ at + length (instruction_bytes at w) → drop at code ≡ instruction_bytes at w ++ drop next code → IsInstruction pool code (record { at = at; next = next; what = what })
 is_instruction pool code at next w what m ends whole = elim (coded pool at m.row.form w.operands what m.in_range m.widths m.means) [
   | inl c ↦ narrow_instruction pool code at next w what m c.0 c.1 ends whole
   | inr c ↦ wide_instruction pool code at next w what m c.0 c.1 ends whole

@@ -1,6 +1,7 @@
 -- Instructions have the size of their shape.
-use Rattle.std.proofs.Common.{◌≡◌, ℕ, zero, suc, ◌+◌, ◌*◌, ℤ, List, [], ◌∷◌, ◌++◌, length, replicate, refl, ap, arith, length-append}
+use Rattle.std.proofs.Common.{◌≡◌, ℕ, ◌+◌, ◌*◌, ℤ, List, [], ◌∷◌, ◌++◌, length, replicate, refl, arith, length-append}
 use Rattle.std.specs.List.{flat_map}
+use Rattle.std.proofs.lemmas.List.{length-replicate}
 use Rattle.class_walk.specs.Layout.{u4}
 use Rattle.instructions.specs.declared.what.Case.{Case}
 use Rattle.code_steps.specs.Operands.{padding_of}
@@ -13,8 +14,7 @@ abbrev pub zeros : ℕ → List ℕ
 zeros n = replicate n 0
 
 pub length_zeros : (n : ℕ) → length (zeros n) ≡ n
-length_zeros zero = refl
-length_zeros (suc n) = ap suc (length_zeros n)
+length_zeros n = length-replicate n 0
 
 targets_size : (at : ℕ) (targets : List ℕ) → length (flat_map (far_bytes at) targets) ≡ 4 * length targets
 targets_size at [] = refl

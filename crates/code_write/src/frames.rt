@@ -9,7 +9,7 @@ use crate::numbers::{put_u8, put_u16};
 use std::alloc::AllocError;
 
 /// A verification type as frames spell it (JVMS 4.7.4).
-#[derive(Clone, Copy, Debug, PartialEq, Eq)]
+#[derive(Clone, Copy)]
 pub enum VerificationType {
     Top,
     Int,

@@ -18,14 +18,6 @@ pub fn shapes_have_sizes()
     ensures { (at : ℕ) (w : Written ℕ) → length (instruction_bytes at w) ≡ size at (shape w.operands) }
 {}
 
-/// The bytes of an instruction, where they stand in a code array, are that instruction to its reader.
-pub fn written_instruction_is_read()
-    ensures { (pool : List Constant) (code : List ℕ) (at next : ℕ) (w : Written ℕ) (what : What ℤ) →
-        IsMeant pool at w what → next ≡ at + length (instruction_bytes at w) →
-        drop at code ≡ instruction_bytes at w ++ drop next code →
-        IsInstruction pool code (record { at = at; next = next; what = what }) }
-{}
-
 /// Instructions that are written one behind the other are laid out as their reader wants, and are a code array
 /// where the code has a right length and the targets are among the instructions.
 pub fn written_code_is_read()

@@ -9,7 +9,7 @@ use rows::Rows;
 
 /// The operands of an instruction in the bytes that they are given (JVMS 6.5). Targets are `T`: offsets in the
 /// code once they are known.
-#[derive(Debug, Drop)]
+#[derive(Drop)]
 pub enum Operands<T> {
     /// There are none.
     Absent,
@@ -85,7 +85,7 @@ impl<T> Operands<T> {
 }
 
 /// An instruction as it is written.
-#[derive(Debug, Drop)]
+#[derive(Drop)]
 pub struct Written<T> {
     /// Its number; behind wide that of the instruction which is widened.
     pub number: u8,

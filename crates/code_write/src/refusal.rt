@@ -6,7 +6,7 @@ ghost use Rattle.code_write.specs.declared.refusal.PutRefusal.TheVariants.{NoMem
 use std::alloc::AllocError;
 
 /// Why an instruction wasn't written.
-#[derive(Clone, Copy, Debug, PartialEq, Eq)]
+#[derive(Clone, Copy)]
 pub enum PutRefusal {
     /// The distance of a target, the highest key of a tableswitch, or the count of a lookupswitch doesn't fit
     /// into its operand.

@@ -5,7 +5,7 @@ ghost use Rattle.code_steps.specs.Operands.{padding_of};
 ghost use Rattle.code_write.specs.Instruction.{size};
 
 /// What the size of an instruction depends on, beside the offset that it stands at.
-#[derive(Clone, Copy, Debug, PartialEq, Eq)]
+#[derive(Clone, Copy)]
 pub enum Shape {
     /// It has so many bytes at any offset, with the byte of wide before it.
     Fixed(u8),

@@ -1,3 +1,3 @@
 pub mod Table
-pub mod Offsets
+pub mod Numbering
 pub mod Steps

@@ -3,7 +3,7 @@
 use crate::operation::{Call, ClassUse, FieldAccess, LocalAccess, Plain, Test};
 
 /// The form of an instruction's operands, and what the instruction does besides (JVMS 6.5).
-#[derive(Clone, Copy, Debug, PartialEq, Eq)]
+#[derive(Clone, Copy)]
 pub enum Form {
     /// No operands.
     Plain(Plain),
@@ -51,7 +51,7 @@ pub enum Form {
 }
 
 /// An instruction of the table.
-#[derive(Clone, Copy, Debug, PartialEq, Eq)]
+#[derive(Clone, Copy)]
 pub struct Row {
     pub number: u8,
     pub mnemonic: &'static str,

@@ -6,14 +6,14 @@
 #![tactic(auto)]
 
 mod form;
-mod offsets;
+mod numbering;
 mod operation;
 mod steps;
 mod table;
 mod what;
 
 pub use form::{Form, Row};
-pub use offsets::Offsets;
+pub use numbering::Numbering;
 pub use operation::{
     Arithmetic, Call, ClassUse, Condition, Conversion, ElementKind, FieldAccess, LocalAccess,
     Plain, PrimitiveType, Shift, StackOperation, Test, ValueKind,
@@ -21,6 +21,3 @@ pub use operation::{
 pub use steps::Steps;
 pub use table::{row, row_named};
 pub use what::{Case, Instr, Target, What};
-
-#[cfg(test)]
-mod tests;

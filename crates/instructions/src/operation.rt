@@ -1,7 +1,7 @@
 //! What instructions do, as far as their operands don't say it.
 
 /// The type of a value that is moved (JVMS 2.11.1).
-#[derive(Clone, Copy, Debug, PartialEq, Eq)]
+#[derive(Clone, Copy)]
 pub enum ValueKind {
     Int,
     Long,
@@ -10,7 +10,7 @@ pub enum ValueKind {
 
 /// The type of the elements of an array that is read or written. One instruction serves arrays of byte and
 /// of boolean.
-#[derive(Clone, Copy, Debug, PartialEq, Eq)]
+#[derive(Clone, Copy)]
 pub enum ElementKind {
     Int,
     Long,
@@ -21,7 +21,7 @@ pub enum ElementKind {
 }
 
 /// The element type of an array that newarray makes (JVMS 6.5, table 6.5.newarray-A).
-#[derive(Clone, Copy, Debug, PartialEq, Eq)]
+#[derive(Clone, Copy)]
 pub enum PrimitiveType {
     Boolean,
     Char,
@@ -32,7 +32,7 @@ pub enum PrimitiveType {
 }
 
 /// What is done with the words on top of the operand stack (JVMS 2.11.6).
-#[derive(Clone, Copy, Debug, PartialEq, Eq)]
+#[derive(Clone, Copy)]
 pub enum StackOperation {
     Pop,
     Pop2,
@@ -46,7 +46,7 @@ pub enum StackOperation {
 }
 
 /// What makes one number of two of the same type (JVMS 2.11.3).
-#[derive(Clone, Copy, Debug, PartialEq, Eq)]
+#[derive(Clone, Copy)]
 pub enum Arithmetic {
     Add,
     Subtract,
@@ -59,7 +59,7 @@ pub enum Arithmetic {
 }
 
 /// How a number is shifted by an int (JVMS 2.11.3).
-#[derive(Clone, Copy, Debug, PartialEq, Eq)]
+#[derive(Clone, Copy)]
 pub enum Shift {
     Left,
     Right,
@@ -67,7 +67,7 @@ pub enum Shift {
 }
 
 /// A conversion of a number (JVMS 2.11.4).
-#[derive(Clone, Copy, Debug, PartialEq, Eq)]
+#[derive(Clone, Copy)]
 pub enum Conversion {
     IntToLong,
     LongToInt,
@@ -77,7 +77,7 @@ pub enum Conversion {
 }
 
 /// How a number compares with another, or with zero.
-#[derive(Clone, Copy, Debug, PartialEq, Eq)]
+#[derive(Clone, Copy)]
 pub enum Condition {
     Equal,
     NotEqual,
@@ -88,7 +88,7 @@ pub enum Condition {
 }
 
 /// When a branch is taken (JVMS 2.11.7).
-#[derive(Clone, Copy, Debug, PartialEq, Eq)]
+#[derive(Clone, Copy)]
 pub enum Test {
     /// An int against zero.
     Zero(Condition),
@@ -104,14 +104,14 @@ pub enum Test {
 }
 
 /// Whether a local is read or written.
-#[derive(Clone, Copy, Debug, PartialEq, Eq)]
+#[derive(Clone, Copy)]
 pub enum LocalAccess {
     Load(ValueKind),
     Store(ValueKind),
 }
 
 /// What is done with a field (JVMS 2.11.5).
-#[derive(Clone, Copy, Debug, PartialEq, Eq)]
+#[derive(Clone, Copy)]
 pub enum FieldAccess {
     GetStatic,
     PutStatic,
@@ -120,7 +120,7 @@ pub enum FieldAccess {
 }
 
 /// How a method of a class is called (JVMS 2.11.8).
-#[derive(Clone, Copy, Debug, PartialEq, Eq)]
+#[derive(Clone, Copy)]
 pub enum Call {
     Virtual,
     Special,
@@ -128,7 +128,7 @@ pub enum Call {
 }
 
 /// What is done with a class (JVMS 2.11.5).
-#[derive(Clone, Copy, Debug, PartialEq, Eq)]
+#[derive(Clone, Copy)]
 pub enum ClassUse {
     New,
     /// An array of references, by its element class.
@@ -138,7 +138,7 @@ pub enum ClassUse {
 }
 
 /// An instruction that has no operands.
-#[derive(Clone, Copy, Debug, PartialEq, Eq)]
+#[derive(Clone, Copy)]
 pub enum Plain {
     Nop,
     Null,

@@ -3,16 +3,16 @@
 ghost use Rattle.std.specs.Prelude.{◌≡◌, ◌==◌, length, map, slice_get, option_copied};
 ghost use Rattle.instructions.specs.Steps.{number_at, offsets_of};
 
-use crate::offsets::Offsets;
+use crate::numbering::Numbering;
 use crate::what::{Instr, Target};
 use rows::Rows;
 use std::marker::Model;
 
 /// The instructions of a method, in order. Contracts see the list of them.
-#[derive(Debug, Drop)]
+#[derive(Drop)]
 pub struct Steps {
     steps: Rows<Instr<Target>>,
-    offsets: Offsets,
+    offsets: Numbering,
 }
 
 impl Model for Steps {
@@ -30,7 +30,7 @@ impl Model for Steps {
 
 impl Steps {
     /// The instructions, whose offsets are these. Takes no memory.
-    pub fn new(steps: Rows<Instr<Target>>, offsets: Offsets) -> Self
+    pub fn new(steps: Rows<Instr<Target>>, offsets: Numbering) -> Self
         requires { offsets ≡ offsets_of steps }
         ensures { result ≡ steps }
     {

@@ -4,7 +4,7 @@ use crate::operation::{Call, ClassUse, FieldAccess, LocalAccess, Plain, Primitiv
 use rows::Rows;
 
 /// The target of a branch: an instruction.
-#[derive(Clone, Copy, Debug, PartialEq, Eq, Drop)]
+#[derive(Clone, Copy, Drop)]
 pub struct Target {
     /// Its offset in the code.
     pub at: u32,
@@ -13,7 +13,7 @@ pub struct Target {
 }
 
 /// A key of a lookupswitch, and where it leads.
-#[derive(Clone, Copy, Debug, PartialEq, Eq)]
+#[derive(Clone, Copy)]
 pub struct Case<T> {
     pub key: i32,
     pub target: T,
@@ -21,7 +21,7 @@ pub struct Case<T> {
 
 /// An instruction with its operands (JVMS 6.5). Each `u16` but a local is an index of the constant pool.
 /// Targets of branches are `T`.
-#[derive(Debug, Drop)]
+#[derive(Drop)]
 pub enum What<T> {
     Plain(Plain),
     /// The int is pushed: iconst, bipush and sipush.
@@ -60,7 +60,7 @@ pub enum What<T> {
 }
 
 /// An instruction where it stands.
-#[derive(Debug, Drop)]
+#[derive(Drop)]
 pub struct Instr<T> {
     /// The offset of its first byte.
     pub at: u32,

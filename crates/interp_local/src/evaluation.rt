@@ -10,7 +10,7 @@ use rows::Rows;
 use std::alloc::{AllocError, Global};
 
 /// What the next byte of the code is.
-#[derive(Clone, Copy, Debug, PartialEq, Eq)]
+#[derive(Clone, Copy)]
 pub enum Expects {
     Opcode,
     /// The constant of bipush.
@@ -24,7 +24,7 @@ pub enum Expects {
 }
 
 /// A stack of ints, whose top is the last, and the values that were printed.
-#[derive(Debug, Drop)]
+#[derive(Drop)]
 pub struct Execution {
     expects: Expects,
     stack: Vec<i32>,

@@ -1,16 +1,31 @@
-use Rattle.std.specs.Prelude.{◌≡◌, ℕ, List, [], ◌++◌, Option, option_map, take, length}
+use Rattle.std.specs.Prelude.{◌≡◌, ℕ, ◌⊎◌, List, [], ◌∷◌, ◌++◌, Option, option_map, map, take, length}
 
 -- part is how the list begins
 abbrev pub IsPrefix : List ℕ → List ℕ → Type 0
 IsPrefix part whole = (rest : List ℕ) × (whole ≡ part ++ rest)
 
--- What a sink was given, where it tells it: before, and after these bytes more.
-abbrev pub Gains : Option (List ℕ) → Option (List ℕ) → List ℕ → Type 0
-Gains before after bytes = after ≡ option_map (λ given. given ++ bytes) before
+-- The pieces of a whole were given in order, up to one of which a part came at most.
+abbrev pub IsBegun : List (List ℕ) → List (List ℕ) → Type 0
+IsBegun [] whole = Unit {0}
+IsBegun (piece ∷ begun) [] = ⊥
+IsBegun (piece ∷ begun) (first ∷ whole) = ((piece ≡ first) × IsBegun begun whole) ⊎ ((begun ≡ []) × IsPrefix piece first)
 
--- a sink was given a part of these bytes, from their front
-abbrev pub GainsPart : Option (List ℕ) → Option (List ℕ) → List ℕ → Type 0
-GainsPart before after bytes = (part : List ℕ) × IsPrefix part bytes × Gains before after part
+-- The list that was told before, where one was told, has these items more at its end.
+abbrev pub Gains : {A : Type 0} → Option (List A) → Option (List A) → List A → Type 0
+Gains before after more = after ≡ option_map (λ told. told ++ more) before
+
+-- a sink was given these pieces, up to one of which a part came at most
+abbrev pub GainsPart : Option (List (List ℕ)) → Option (List (List ℕ)) → List (List ℕ) → Type 0
+GainsPart before after pieces = (begun : List (List ℕ)) × IsBegun begun pieces × Gains before after begun
+
+-- a call of a source: how many bytes it asked for, and how many came
+pub record Taken : Type 0 where
+  pub asked : ℕ
+  pub came : ℕ
+
+-- what was asked for and what came, call by call
+abbrev pub takes_of : List (ℕ × ℕ) → List Taken
+takes_of calls = map (λ c. record { asked = c.0; came = c.1 }) calls
 
 -- the piece is how what is left of a source begins, and there is none only at the end
 pub record IsNext (left piece : List ℕ) : Type 0 where

@@ -10,7 +10,7 @@ use std::io::{self, ErrorKind, Read};
 use std::rt::Files;
 
 /// The path of a folder, and the names that were given of it.
-#[derive(Debug, Drop)]
+#[derive(Drop)]
 pub struct Listing {
     dir: String,
     names: Vec<String>,
@@ -100,6 +100,8 @@ impl<R: Files + AllocGlobal + Clone + Drop> ClassDir for FolderDir<R> {
     ghost faults = { λ folder. folder.faults };
 
     ghost contents = { λ _. None };
+
+    ghost read_names = { λ _. None };
 
     fn names(&mut self, alloc: Global, dir: &str) -> Result<Vec<String>, DirFault> {
         let path = String::from_str(alloc, dir)?;

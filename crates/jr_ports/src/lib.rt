@@ -16,6 +16,3 @@ pub use gate::{Gate, NoGate};
 pub use memory::{MemDir, MemSink, MemSource, names_differ};
 pub use ports::{ClassDir, DirFault, MOST_READ, Sink, SinkFault, Source, SourceFault};
 pub use streams::{StdErr, StdOut, StdSource};
-
-#[cfg(test)]
-mod tests;

@@ -3,15 +3,17 @@ ghost use Rattle.std.specs.Prelude.{◌≡◌, ◌+◌, ◌-◌, ◌^◌, ◌<�
 use crate::faults::{Refusal, count_fault};
 
 mod dir;
+mod pieces;
 mod sink;
 mod source;
 
 pub use dir::{MemDir, names_differ};
+use pieces::Pieces;
 pub use sink::MemSink;
 pub use source::MemSource;
 
 /// Which calls of a memory form fail, and how many calls and faults there were.
-#[derive(Debug, Drop)]
+#[derive(Drop)]
 struct Calls {
     /// The calls, counted from 1, that fail.
     fail: Vec<u32>,

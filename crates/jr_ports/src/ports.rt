@@ -1,7 +1,7 @@
-ghost use Rattle.std.specs.Prelude.{◌≡◌, ◌<◌, ◌≤◌, ◌⊎◌, ℕ, List, [], Option, Some, None, OnOk, OnErr, IfOk, IfSome, length, drop, map, string_bytes};
+ghost use Rattle.std.specs.Prelude.{◌≡◌, ◌<◌, ◌≤◌, ◌⊎◌, ℕ, List, [], ◌∷◌, Option, Some, None, OnOk, OnErr, IfOk, IfSome, length, drop, map, string_bytes};
 ghost use Rattle.std.specs.List.Sorted.{IsPermutation};
 ghost use Rattle.jr_ports.specs.Folder.{File, Asked, IsListed, IsRead, names_of};
-ghost use Rattle.jr_ports.specs.Stream.{Gains, GainsPart, IsNext};
+ghost use Rattle.jr_ports.specs.Stream.{Gains, GainsPart, IsNext, Taken};
 
 use std::alloc::{AllocError, AllocFailed, Global};
 
@@ -9,7 +9,7 @@ use std::alloc::{AllocError, AllocFailed, Global};
 pub const MOST_READ: usize = 1_048_577;
 
 /// Why a folder gave no answer.
-#[derive(Clone, Copy, Debug, PartialEq, Eq)]
+#[derive(Clone, Copy)]
 pub enum DirFault {
     /// The system refused; the folder's count of faults rose.
     Failed,
@@ -18,7 +18,7 @@ pub enum DirFault {
 }
 
 /// Why a source gave no bytes.
-#[derive(Clone, Copy, Debug, PartialEq, Eq)]
+#[derive(Clone, Copy)]
 pub enum SourceFault {
     /// The system refused; the source's count of faults rose.
     Failed,
@@ -27,7 +27,7 @@ pub enum SourceFault {
 }
 
 /// Why a sink did not take all bytes.
-#[derive(Clone, Copy, Debug, PartialEq, Eq)]
+#[derive(Clone, Copy)]
 pub enum SinkFault {
     /// The system refused; the sink's count of faults rose.
     Failed,
@@ -46,6 +46,9 @@ pub trait ClassDir {
     /// Its files, where it tells them.
     ghost contents: { Self → Option (List File) };
 
+    /// The names of the files that were read of it, in order, where it tells them.
+    ghost read_names: { Self → Option (List (List ℕ)) };
+
     /// The names of the files of the folder `dir`, in any order; where the folder tells its files, exactly
     /// their names, each once. After a refusal it was asked for `dir` and gave no names, or, for want of
     /// memory, it may still have been asked for nothing.
@@ -57,10 +60,11 @@ pub trait ClassDir {
         ensures no_memory { result ≡ Err DirFault.NoMemory → (asked self.new ≡ None) ⊎ (asked self.new ≡ Some (record { dir = dir.now; names = [] })) }
         ensures cause { result ≡ Err DirFault.Failed → faults self.old < faults self.new }
         ensures faults { faults self.old ≤ faults self.new }
-        ensures contents { contents self.new ≡ contents self.old };
+        ensures contents { contents self.new ≡ contents self.old }
+        ensures read_names { read_names self.new ≡ read_names self.old };
 
     /// The bytes of a file of the folder that was asked for, under a name that it gave, and only the first
-    /// 1,048,577 of a longer one. What was asked stays as it was.
+    /// 1,048,577 of a longer one. What was asked stays as it was, and a refusal reads nothing.
     fn read(&mut self, alloc: Global, dir: &str, name: &str) -> Result<Vec<u8>, DirFault>
         requires { IsListed (asked self.old) dir.now name.now }
         ensures told { IfOk result (λ bytes. IfSome (contents self.old) (λ files. IsRead files name.now bytes.items)) }
@@ -68,13 +72,18 @@ pub trait ClassDir {
         ensures asked { asked self.new ≡ asked self.old }
         ensures cause { result ≡ Err DirFault.Failed → faults self.old < faults self.new }
         ensures faults { faults self.old ≤ faults self.new }
-        ensures contents { contents self.new ≡ contents self.old };
+        ensures contents { contents self.new ≡ contents self.old }
+        ensures read { OnOk result (Gains (read_names self.old) (read_names self.new) (name.now ∷ [])) }
+        ensures refused { OnErr result (read_names self.new ≡ read_names self.old) };
 }
 
 /// Input that is taken piece by piece.
 pub trait Source {
     /// The bytes that are left, where the source tells them.
     ghost left: { Self → Option (List ℕ) };
+
+    /// What was taken of it, call by call, where it tells that.
+    ghost taken: { Self → Option (List Taken) };
 
     /// How often it failed.
     ghost faults: { Self → ℕ };
@@ -84,23 +93,24 @@ pub trait Source {
         requires { 0 < most }
         ensures most { IfOk result (λ piece. length piece.items ≤ most) }
         ensures next { IfOk result (λ piece. IfSome (left self.old) (λ bytes. IsNext bytes piece.items × (left self.new ≡ Some (drop (length piece.items) bytes)))) }
-        ensures err { OnErr result (left self.new ≡ left self.old) }
+        ensures taken { IfOk result (λ piece. Gains (taken self.old) (taken self.new) (record { asked = most; came = length piece.items } ∷ [])) }
+        ensures err { OnErr result ((left self.new ≡ left self.old) × (taken self.new ≡ taken self.old)) }
         ensures cause { result ≡ Err SourceFault.Failed → faults self.old < faults self.new }
         ensures faults { faults self.old ≤ faults self.new };
 }
 
 /// Output that is given piece by piece.
 pub trait Sink {
-    /// The bytes that it was given so far, where the sink tells them.
-    ghost given: { Self → Option (List ℕ) };
+    /// The pieces that it was given so far, one for each put, where the sink tells them.
+    ghost given: { Self → Option (List (List ℕ)) };
 
     /// How often it failed.
     ghost faults: { Self → ℕ };
 
-    /// Gives a piece. After a refusal a part of the piece, from its front, may have been taken.
+    /// Gives a piece. After a refusal nothing was taken, or a part of the piece from its front.
     fn put(&mut self, bytes: &[u8]) -> Result<(), SinkFault>
-        ensures ok { OnOk result (Gains (given self.old) (given self.new) bytes.now) }
-        ensures err { OnErr result (GainsPart (given self.old) (given self.new) bytes.now) }
+        ensures ok { OnOk result (Gains (given self.old) (given self.new) (bytes.now ∷ [])) }
+        ensures err { OnErr result (GainsPart (given self.old) (given self.new) (bytes.now ∷ [])) }
         ensures cause { result ≡ Err SinkFault.Failed → faults self.old < faults self.new }
         ensures faults { faults self.old ≤ faults self.new };
 }
@@ -134,6 +144,17 @@ impl From<AllocError> for SourceFault {
     ghost from_gives = { λ _ fault. fault ≡ NoMemory };
 
     fn from(_error: AllocError) -> SourceFault {
+        SourceFault::NoMemory
+    }
+}
+
+impl<T: Drop> From<AllocFailed<T>> for SourceFault {
+    ghost use Rattle.jr_ports.specs.declared.ports.SourceFault.TheVariants.{NoMemory};
+    ghost use Rattle.std.specs.Prelude.{◌≡◌};
+
+    ghost from_gives = { λ _ fault. fault ≡ NoMemory };
+
+    fn from(_error: AllocFailed<T>) -> SourceFault {
         SourceFault::NoMemory
     }
 }

@@ -6,7 +6,7 @@ use std::alloc::Global;
 use std::io::{Print, Read, Stderr, Stdin, Stdout};
 
 /// A sink over a stream of the system, which tells nothing of what it was given.
-#[derive(Debug, Drop)]
+#[derive(Drop)]
 pub struct StreamSink<P> {
     stream: P,
     faults: u64,
@@ -44,7 +44,7 @@ impl<P: Print> Sink for StreamSink<P> {
 }
 
 /// The standard input, which tells nothing of what it holds.
-#[derive(Debug, Drop)]
+#[derive(Drop)]
 pub struct StdSource {
     stream: Stdin,
     faults: u64,
@@ -61,6 +61,8 @@ impl StdSource {
 
 impl Source for StdSource {
     ghost left = { λ _. None };
+
+    ghost taken = { λ _. None };
 
     ghost faults = { λ source. source.faults };
 

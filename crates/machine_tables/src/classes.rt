@@ -7,7 +7,7 @@ use std::alloc::Global;
 use std::collections::HashMap;
 
 /// How far a class's initialization is (JLS 12.4.2).
-#[derive(Clone, Copy, PartialEq, Eq, Debug)]
+#[derive(Clone, Copy)]
 pub enum ClassProgress {
     /// It has not begun.
     Unready,
@@ -21,7 +21,7 @@ pub enum ClassProgress {
 
 /// How far the initialization of each class is, by the class's number. Contracts see it as a function
 /// (`classes_in`). A class that was never set is unready.
-#[derive(Debug, Drop)]
+#[derive(Drop)]
 pub struct Classes {
     table: HashMap<u32, ClassProgress>,
 }

@@ -16,6 +16,3 @@ pub use classes::{ClassProgress, Classes};
 pub use objects::{HeapObject, MonitorState, Objects};
 pub use threads::{Seat, Standing, Threads, WaitState};
 pub use words::Words;
-
-#[cfg(test)]
-mod tests;

@@ -10,7 +10,7 @@ use std::alloc::Global;
 use std::collections::HashMap;
 
 /// The state of an object's monitor (JLS 17.1).
-#[derive(Clone, Copy, PartialEq, Eq, Debug)]
+#[derive(Clone, Copy)]
 pub enum MonitorState {
     /// No thread owns it.
     Free,
@@ -83,7 +83,7 @@ impl MonitorState {
 }
 
 /// An object of the heap (JVMS 2.5.3), with what threads share of it.
-#[derive(Debug, Drop)]
+#[derive(Drop)]
 pub struct HeapObject {
     /// The number of its class.
     pub class: u32,
@@ -99,7 +99,7 @@ pub struct HeapObject {
 
 /// The objects that are there, by reference. Contracts see the object of each reference, `None` where there is
 /// none (`object_at`).
-#[derive(Debug, Drop)]
+#[derive(Drop)]
 pub struct Objects {
     table: HashMap<u32, HeapObject>,
 }

@@ -9,7 +9,7 @@ use std::alloc::Global;
 use std::collections::HashMap;
 
 /// Where a thread that has begun stands.
-#[derive(Debug, Drop)]
+#[derive(Drop)]
 pub enum Standing<C> {
     /// It goes on from this code.
     Live(C),
@@ -18,7 +18,7 @@ pub enum Standing<C> {
 }
 
 /// What a thread waits for (JLS 17.2).
-#[derive(Clone, Copy, PartialEq, Eq, Debug)]
+#[derive(Clone, Copy)]
 pub enum WaitState {
     /// Nothing.
     Awake,
@@ -72,7 +72,7 @@ impl WaitState {
 }
 
 /// A thread that has begun.
-#[derive(Debug, Drop)]
+#[derive(Drop)]
 pub struct Seat<C> {
     /// Where it stands.
     pub standing: Standing<C>,
@@ -84,7 +84,7 @@ pub struct Seat<C> {
 
 /// The threads that have begun, by number from 1 to 255. Contracts see the seat of each number, `None` where no
 /// thread has begun with it (`seat_at`).
-#[derive(Debug, Drop)]
+#[derive(Drop)]
 pub struct Threads<C> {
     table: HashMap<u8, Seat<C>>,
 }

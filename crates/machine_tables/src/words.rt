@@ -6,7 +6,7 @@ use std::marker::Model;
 
 /// The 32-bit words of an object, by place from 0: its fields or elements, of which a `long` takes two words
 /// (JLS 17.7), or the static fields of a class where the object is the class's. Contracts see the list of them.
-#[derive(Debug, Drop)]
+#[derive(Drop)]
 pub struct Words {
     words: Vec<u32>,
 }

@@ -11,10 +11,18 @@ use Rattle.method_make.specs.declared.refusal.BodyRefusal.{BodyRefusal}
 use Rattle.method_make.specs.declared.refusal.BodyRefusal.TheVariants.{Refused, NoMemory}
 use Rattle.method_make.specs.Making.{Fails}
 use Rattle.method_make.specs.Body.{MadeBody, maps_of, code_of, content}
+use Rattle.method_make.proofs.StepLaws.{chosen}
 
 content_by : (body : MadeBody) (b : Bool) → ltb (length (code_spelling (code_of body))) (2 ^ 32) ≡ b → content body ≡ cond b (Some (code_spelling (code_of body))) None
 unfolding content
 content_by body b is = rw is refl
+
+-- what the content is, where there is one
+pub content_is : (body : MadeBody) (bytes : List ℕ) → content body ≡ Some bytes → (length (code_spelling (code_of body)) < 2 ^ 32) × (bytes ≡ code_spelling (code_of body))
+unfolding content
+content_is body bytes e =
+    let got = chosen (ltb (length (code_spelling (code_of body))) (2 ^ 32)) (code_spelling (code_of body)) bytes e in
+    ((Decides-ltb (length (code_spelling (code_of body))) (2 ^ 32)).0 got.0, got.1)
 
 is_long : (n : ℕ) → 2 ^ 32 ≤ n → (ltb n (2 ^ 32) ≡ true) ⊎ (ltb n (2 ^ 32) ≡ false) → ltb n (2 ^ 32) ≡ false
 is_long n long (inl short) = absurd (let less = (Decides-ltb n (2 ^ 32)).0 short in omega arith)

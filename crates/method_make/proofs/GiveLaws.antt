@@ -1,18 +1,9 @@
--- What is given without the pool, and pools that grow.
-use Rattle.std.proofs.Common.{◌≡◌, List, [], ◌++◌, Option, Some, Result, Ok, Err, sym, ap, ◌∙◌, append_assoc}
-use Rattle.std.proofs.lemmas.List.{append-nil}
+-- What is given without the pool.
+use Rattle.std.proofs.Common.{◌≡◌, List, Option, Some, Result, Ok, Err, ap}
 use Rattle.class_walk.specs.declared.class.Constant.{Constant}
-use Rattle.pool_make.specs.Uses.{Extends}
 use Rattle.method_make.specs.declared.refusal.BodyRefusal.{BodyRefusal}
 use Rattle.method_make.specs.declared.refusal.BodyRefusal.TheVariants.{Refused, NoMemory}
 use Rattle.method_make.specs.Making.{Finds, Gives, only, with_pool, next_of}
-
-pub kept_itself : (pool : List Constant) → Extends pool pool
-kept_itself pool = ([], sym (append-nil pool))
-
-pub kept_further : (old mid new : List Constant) → Extends old mid → Extends mid new → Extends old new
-kept_further old mid new first next =
-    (first.0 ++ next.0, next.1 ∙ ap (λ (pool : List Constant). pool ++ next.0) first.1 ∙ append_assoc old first.0 next.0)
 
 -- what is found without the pool is given with it
 pub gives_only : {X Y : Type 0} (view : X → Y) (r : Result X BodyRefusal) (pool : List Constant) (wanted : Option Y) → Finds view r wanted → Gives view r pool pool (only wanted)

@@ -8,3 +8,5 @@ pub mod LineLaws
 pub mod ShapeLaws
 pub mod StepLaws
 pub mod MadeOfLaws
+pub mod GrowLaws
+pub mod StepGrows

@@ -1,5 +1,5 @@
 -- A body is instructions and frames, as far as it is made.
-use Rattle.std.proofs.Common.{◌≡◌, ℕ, ◌+◌, ◌-◌, ◌^◌, ◌<◌, ◌≤◌, Bool, true, false, cond, List, [], ◌∷◌, ◌++◌, length, Option, Some, None, refl, sym, ap, subst, ◌∙◌, arith, length-append, append_assoc, zero-add}
+use Rattle.std.proofs.Common.{◌≡◌, ℕ, ◌+◌, ◌-◌, List, [], ◌∷◌, ◌++◌, length, Option, Some, refl, sym, ap, subst, ◌∙◌, arith, length-append}
 use Rattle.class_walk.specs.declared.class.Constant.{Constant}
 use Rattle.class_walk.specs.declared.class.RawHandler.{RawHandler}
 use Rattle.assembly_lines.specs.declared.line.Line.{Line}
@@ -15,7 +15,7 @@ use Rattle.code_write.specs.Frame.{Placed, full_frame, frames_bytes, least_behin
 use Rattle.code_write.proofs.CodeLaws.{code_more}
 use Rattle.code_write.proofs.FrameLaws.{frames_more}
 use Rattle.assembly_text.specs.declared.lines.Numbered.{Numbered}
-use Rattle.method_make.specs.Making.{next_of, with_pool, each_made}
+use Rattle.method_make.specs.Making.{with_pool, each_made}
 use Rattle.method_make.specs.Labels.{Marks}
 use Rattle.method_make.specs.Offsets.{short_offset_of}
 use Rattle.method_make.specs.Body.{MadeBody, begun, caught, put_handler, with_handler, map_name_of, type_of, put_frame, with_frame, is_first_at, step_of, step, steps}

@@ -29,16 +29,26 @@ pub parts_of : {A B : Type 0} (first : Option (List Constant × A)) (next : A �
 parts_of None next x e = absurd cc
 parts_of (Some made) next x e = record { made = made; first_is = refl; next_is = e }
 
+-- what is known without the pool leaves it
+pub record Known {A : Type 0} (pool : List Constant) (o : Option A) (x : List Constant × A) : Type 0 where
+  pub pool_is : pool ≡ x.0
+  pub found : o ≡ Some x.1
+
+pub known_of : {A : Type 0} (pool : List Constant) (o : Option A) (x : List Constant × A) → with_pool pool o ≡ Some x → Known pool o x
+known_of pool None x e = absurd cc
+known_of {A = A} pool (Some a) x e =
+    let is : (pool, a) ≡ x = cc in
+    record { pool_is = ap (λ (y : List Constant × A). y.0) is; found = ap (λ (y : List Constant × A). Some y.1) is }
+
 pub found_of : {A : Type 0} (pool : List Constant) (o : Option A) (x : List Constant × A) → with_pool pool o ≡ Some x → o ≡ Some x.1
-found_of pool None x e = absurd cc
-found_of {A = A} pool (Some a) x e = let is : (pool, a) ≡ x = cc in ap (λ (y : List Constant × A). Some y.1) is
+found_of pool o x e = (known_of pool o x e).found
 
 pub record Found {A B : Type 0} (first : Option A) (next : A → Option B) (x : B) : Type 0 where
   pub value : A
   pub first_is : first ≡ Some value
   pub next_is : next value ≡ Some x
 
-found_parts : {A B : Type 0} (first : Option A) (next : A → Option B) (x : B) → (first >>= next) ≡ Some x → Found first next x
+pub found_parts : {A B : Type 0} (first : Option A) (next : A → Option B) (x : B) → (first >>= next) ≡ Some x → Found first next x
 found_parts None next x e = absurd cc
 found_parts (Some a) next x e = record { value = a; first_is = refl; next_is = e }
 

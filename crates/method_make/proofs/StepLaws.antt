@@ -26,18 +26,19 @@ use Rattle.method_make.specs.Put.{Puts}
 use Rattle.method_make.proofs.RangeLaws.{decides_range}
 use Rattle.method_make.proofs.ShapeLaws.{parts_of, found_of, operands_shape}
 
+-- what passes a test
 pub chosen : {A : Type 0} (test : Bool) (y x : A) → cond test (Some y) None ≡ Some x → (test ≡ true) × (x ≡ y)
 chosen true y x e = (refl, cc)
 chosen false y x e = absurd cc
 
 -- ---- instructions
 
-record Code (w : Written ℕ) (old code : List ℕ) : Type 0 where
+pub record Code (w : Written ℕ) (old code : List ℕ) : Type 0 where
   pub in_range : IsInRange (length old) w.operands
   pub put : code ≡ old ++ instruction_bytes (length old) w
   pub room : length code < 2 ^ 16
 
-code_is : (w : Written ℕ) (old code : List ℕ) → code_with w old ≡ Some code → Code w old code
+pub code_is : (w : Written ℕ) (old code : List ℕ) → code_with w old ≡ Some code → Code w old code
 unfolding code_with
 code_is w old code e =
     let got = chosen (is_in_range (length old) w.operands && ltb (length (old ++ instruction_bytes (length old) w)) (2 ^ 16)) (old ++ instruction_bytes (length old) w) code e in
@@ -49,12 +50,12 @@ code_is w old code e =
       room = omega (arith, ap length got.1, less);
     }
 
-record With (body : MadeBody) (o : Option (List ℕ)) (new : MadeBody) : Type 0 where
+pub record With (body : MadeBody) (o : Option (List ℕ)) (new : MadeBody) : Type 0 where
   pub code : List ℕ
   pub is : o ≡ Some code
   pub new_is : new ≡ record body { code = code }
 
-with_is : (body : MadeBody) (o : Option (List ℕ)) (new : MadeBody) → with_code body o ≡ Some new → With body o new
+pub with_is : (body : MadeBody) (o : Option (List ℕ)) (new : MadeBody) → with_code body o ≡ Some new → With body o new
 with_is body None new e = absurd cc
 with_is body (Some code) new e = record { code = code; is = refl; new_is = cc }
 

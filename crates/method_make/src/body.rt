@@ -38,7 +38,7 @@ const MOST: usize = 65_535;
 const MOST_CONTENT: usize = 0xFFFF_FFFF;
 
 /// The code of one method as far as it is made (JVMS 4.7.3).
-#[derive(Debug, Drop)]
+#[derive(Drop)]
 pub struct Body {
     room: Room,
     code: Vec<u8>,
@@ -145,7 +145,7 @@ fn maps_of(
 }
 
 /// The index of the class that a handler catches, or 0 for any.
-#[tactic(auto, using(crate::proofs::GiveLaws::kept_itself), unfolding(crate::specs::Body::caught))]
+#[tactic(auto, using(pool_make::proofs::UseLaws::extends_itself), unfolding(crate::specs::Body::caught))]
 fn caught(pool: &mut PoolMaker, class: Option<&[u8]>) -> Result<u16, BodyRefusal>
     ensures gives { Gives (λ index. index) result pool.old pool.new (caught (option_copied class.entry)) }
     ensures kept { Extends pool.old pool.new }
@@ -185,7 +185,7 @@ impl Body {
         }
     }
 
-    #[tactic(auto, using(crate::proofs::GiveLaws::kept_itself), unfolding(crate::specs::Body::with_instruction))]
+    #[tactic(auto, using(pool_make::proofs::UseLaws::extends_itself), unfolding(crate::specs::Body::with_instruction))]
     fn instruction(
         &mut self,
         pool: &mut PoolMaker,
@@ -227,7 +227,7 @@ impl Body {
         Ok(())
     }
 
-    #[tactic(auto, using(crate::proofs::GiveLaws::kept_itself), unfolding(crate::specs::Body::with_handler))]
+    #[tactic(auto, using(pool_make::proofs::UseLaws::extends_itself), unfolding(crate::specs::Body::with_handler))]
     fn handler(
         &mut self,
         pool: &mut PoolMaker,
@@ -274,7 +274,7 @@ impl Body {
         Ok(())
     }
 
-    #[tactic(auto, using(crate::proofs::GiveLaws::kept_itself, crate::proofs::GiveLaws::kept_further), unfolding(crate::specs::Body::with_frame))]
+    #[tactic(auto, using(pool_make::proofs::UseLaws::extends_itself, pool_make::proofs::UseLaws::extends_further), unfolding(crate::specs::Body::with_frame))]
     fn frame(
         &mut self,
         pool: &mut PoolMaker,

@@ -16,7 +16,7 @@ use pool_make::PoolMaker;
 use std::alloc::Global;
 
 /// The index of the name of the stack map, which is made at the first frame.
-#[tactic(auto, using(crate::proofs::GiveLaws::kept_itself), unfolding(crate::specs::Body::map_name_of))]
+#[tactic(auto, using(pool_make::proofs::UseLaws::extends_itself), unfolding(crate::specs::Body::map_name_of))]
 pub(crate) fn map_name(pool: &mut PoolMaker, known: Option<u16>) -> Result<u16, BodyRefusal>
     ensures gives { Gives (λ index. index) result pool.old pool.new (map_name_of known) }
     ensures kept { Extends pool.old pool.new }
@@ -28,7 +28,7 @@ pub(crate) fn map_name(pool: &mut PoolMaker, known: Option<u16>) -> Result<u16, 
 }
 
 /// The type of a local or of an operand (JVMS 4.7.4).
-#[tactic(auto, using(crate::proofs::GiveLaws::kept_itself), unfolding(crate::specs::Body::type_of))]
+#[tactic(auto, using(pool_make::proofs::UseLaws::extends_itself), unfolding(crate::specs::Body::type_of))]
 fn type_of(
     pool: &mut PoolMaker,
     labels: &Labels,

@@ -14,7 +14,7 @@ use std::alloc::{AllocError, Global};
 use std::collections::BTreeMap;
 
 /// Where a label stands.
-#[derive(Clone, Copy, Debug, PartialEq, Eq)]
+#[derive(Clone, Copy)]
 pub struct Mark {
     /// The number of its line.
     pub line: u32,
@@ -23,7 +23,7 @@ pub struct Mark {
 }
 
 /// The labels of a body. Contracts see the mark of each name as `marks_of` gives it.
-#[derive(Debug, Drop)]
+#[derive(Drop)]
 pub struct Labels {
     marks: BTreeMap<Vec<u8>, Mark>,
 }

@@ -21,6 +21,3 @@ pub use laws::{
 };
 pub use pool::{Entry, index_of};
 pub use refusal::BodyRefusal;
-
-#[cfg(test)]
-mod tests;

@@ -74,7 +74,7 @@ fn interface_entry<'a>(class: &'a Bytes, name: &'a Bytes, descriptor: &'a Bytes)
 
 /// The operands of an instruction of a form, with wide before it or without. An error may leave more entries in
 /// the pool.
-#[tactic(auto, using(crate::proofs::GiveLaws::kept_itself), unfolding(crate::specs::Operands::operands_of))]
+#[tactic(auto, using(pool_make::proofs::UseLaws::extends_itself), unfolding(crate::specs::Operands::operands_of))]
 pub(crate) fn operands_of(
     alloc: Global,
     pool: &mut PoolMaker,

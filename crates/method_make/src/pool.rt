@@ -9,7 +9,7 @@ use crate::refusal::BodyRefusal;
 use pool_make::{PoolMaker, PoolRefusal};
 
 /// An entry of the pool by what it stands for (JVMS 4.4).
-#[derive(Clone, Copy, Debug)]
+#[derive(Clone, Copy)]
 pub enum Entry<'a> {
     /// The bytes of a text.
     Text(&'a [u8]),

@@ -8,7 +8,7 @@ ghost use Rattle.method_make.specs.declared.refusal.BodyRefusal.TheVariants as r
 use std::alloc::{AllocError, AllocFailed};
 
 /// Why nothing was made of a line.
-#[derive(Clone, Copy, Debug, PartialEq, Eq)]
+#[derive(Clone, Copy)]
 pub enum BodyRefusal {
     /// The line may not stand there, or a class file has no room for what it makes.
     Refused,

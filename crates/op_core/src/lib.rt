@@ -20,7 +20,7 @@ pub use thread_code::{ThreadCode, after_silent_steps};
 
 /// Memory was wanted and there was none. It is merged with no other answer, and nothing ties it
 /// to a growth that was refused.
-#[derive(Clone, Copy, PartialEq, Eq, Debug)]
+#[derive(Clone, Copy)]
 pub struct NoMemory;
 
 impl From<AllocError> for NoMemory {
@@ -32,7 +32,7 @@ impl From<AllocError> for NoMemory {
 }
 
 /// One printed line, as `println` was given it.
-#[derive(Clone, Copy, PartialEq, Eq, Debug)]
+#[derive(Clone, Copy, PartialEq, Eq)]
 pub enum Line {
     /// `println()`: no text.
     Empty,
@@ -55,7 +55,7 @@ pub enum Line {
 ///
 /// A first `u32` is a reference: the number of an object, from 1. Class objects are objects too,
 /// and their words are the class's static fields.
-#[derive(Clone, Copy, PartialEq, Eq, Debug)]
+#[derive(Clone, Copy, PartialEq, Eq)]
 pub enum Op {
     /// The class and the length of an object, as `getClass`, a call of a virtual method or
     /// `arraylength` needs them. Neither ever changes.
@@ -96,7 +96,7 @@ pub enum Op {
 }
 
 /// What an operation answered.
-#[derive(Clone, Copy, PartialEq, Eq, Debug)]
+#[derive(Clone, Copy)]
 pub enum Reply {
     /// To ClassOf: the class and the length, which is 0 for an object that isn't an array.
     Class(u32, u32),
@@ -125,7 +125,7 @@ pub enum Reply {
 }
 
 /// One step of an execution.
-#[derive(Clone, Copy, PartialEq, Eq, Debug)]
+#[derive(Clone, Copy)]
 pub struct Event {
     /// The thread's number, from 1. Thread 1 executes `main`.
     pub thread: u8,
@@ -138,7 +138,7 @@ pub struct Event {
 }
 
 /// The numbers that end a run where it reaches them.
-#[derive(Clone, Copy, PartialEq, Eq, Debug)]
+#[derive(Clone, Copy)]
 pub struct Limits {
     /// Counted turns of each thread, from 1 to 1,000,000,000.
     pub turns: u64,
@@ -149,7 +149,7 @@ pub struct Limits {
 }
 
 /// What was reached where a limit ended a run.
-#[derive(Clone, Copy, PartialEq, Eq, Debug)]
+#[derive(Clone, Copy)]
 pub enum Limit {
     /// The thread made its number of counted turns and hasn't ended.
     Turns,
@@ -168,7 +168,7 @@ pub enum Limit {
 }
 
 /// How a run ended.
-#[derive(Clone, Copy, PartialEq, Eq, Debug)]
+#[derive(Clone, Copy)]
 pub enum How {
     /// Each thread ended normally.
     Done,
@@ -182,14 +182,14 @@ pub enum How {
 
 /// A thread that has ended: its number, and the class of the exception that ended it, `None`
 /// where it ended normally.
-#[derive(Clone, Copy, PartialEq, Eq, Debug)]
+#[derive(Clone, Copy)]
 pub struct ThreadEnd {
     pub thread: u8,
     pub class: Option<u32>,
 }
 
 /// What a run came to.
-#[derive(Debug, Drop)]
+#[derive(Drop)]
 pub struct Outcome {
     /// The printed lines in order.
     pub lines: Rows<Line>,
@@ -206,7 +206,7 @@ pub struct Outcome {
 }
 
 /// What a thread does next.
-#[derive(Clone, Copy, PartialEq, Eq, Debug)]
+#[derive(Clone, Copy)]
 pub enum Next {
     /// A silent step: it touches the thread alone, and no other thread can see it.
     Silent,
@@ -217,7 +217,7 @@ pub enum Next {
 }
 
 /// Why a thread didn't make its silent step.
-#[derive(Clone, Copy, PartialEq, Eq, Debug)]
+#[derive(Clone, Copy)]
 pub enum CodeStop {
     /// The step would make a 1,025th frame.
     Frames,

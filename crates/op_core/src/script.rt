@@ -9,7 +9,7 @@ use std::alloc::{AllocError, Global};
 use std::marker::Model;
 
 /// One step of a [`Script`].
-#[derive(Clone, Copy, PartialEq, Eq, Debug)]
+#[derive(Clone, Copy)]
 pub enum ScriptStep {
     /// A silent step that changes no frame.
     Pass,
@@ -22,7 +22,7 @@ pub enum ScriptStep {
 }
 
 /// Where a thread stands in a script.
-#[derive(Clone, Copy, PartialEq, Eq, Debug)]
+#[derive(Clone, Copy)]
 pub struct ScriptPlace {
     /// The number of the step that comes next, from 0.
     pub step: usize,
@@ -31,7 +31,7 @@ pub struct ScriptPlace {
 }
 
 /// The saved places, the last one first.
-#[derive(Debug, Drop)]
+#[derive(Drop)]
 pub struct ScriptSaves {
     places: Vec<ScriptPlace>,
 }
@@ -85,7 +85,7 @@ fn has_frames(places: &[ScriptPlace], frames: u32) -> bool
 
 /// A thread code that makes the steps of a list one after another and then has ended. The thread
 /// that object r starts begins at step r. A new object has as many words as its length says.
-#[derive(Debug, Drop)]
+#[derive(Drop)]
 pub struct Script<'a> {
     /// What the thread does, in order.
     pub steps: &'a [ScriptStep],
@@ -202,6 +202,3 @@ impl<'a> ThreadCode for Script<'a> {
         length as u64
     }
 }
-
-#[cfg(test)]
-mod tests;

@@ -10,7 +10,7 @@ use machine_tables::{ClassProgress, Standing};
 use op_core::{Event, Limit, Limits, Next, NoMemory, Op, Reply, ThreadCode, after_silent_steps};
 
 /// What a thread did, or why it did nothing.
-#[derive(Clone, Copy, PartialEq, Eq, Debug)]
+#[derive(Clone, Copy)]
 pub enum Advance {
     /// It made a silent step.
     Silent,

@@ -23,6 +23,3 @@ pub use ordinary::Ordinary;
 pub use replay::ReplayRefusal;
 pub use start::FixedObject;
 pub use step::StepRefusal;
-
-#[cfg(test)]
-mod tests;

@@ -8,7 +8,7 @@ use op_core::{Line, Op, Reply, Rows, ThreadCode, ThreadEnd};
 use std::alloc::Global;
 
 /// The ordinary machine: what threads share, and where each thread stands.
-#[derive(Debug, Drop)]
+#[derive(Drop)]
 pub struct Ordinary<C> {
     pub(crate) alloc: Global,
     pub(crate) objects: Objects,

@@ -6,7 +6,7 @@ use crate::{Ordinary, StepRefusal};
 use op_core::{Event, ThreadCode};
 
 /// The first event of a list whose step wasn't made, and why.
-#[derive(Clone, Copy, PartialEq, Eq, Debug)]
+#[derive(Clone, Copy)]
 pub struct ReplayRefusal {
     /// How many events stand before it.
     pub place: usize,

@@ -16,7 +16,7 @@ use op_core::{NoMemory, Rows, ThreadCode};
 use std::alloc::Global;
 
 /// An object that is there from the start, as a class object or a string literal is.
-#[derive(Debug, Drop)]
+#[derive(Drop)]
 pub struct FixedObject {
     pub reference: u32,
     pub class: u32,

@@ -9,7 +9,7 @@ use machine_tables::Standing;
 use op_core::{Event, Line, Next, NoMemory, Op, ThreadCode, after_silent_steps};
 
 /// Why an event isn't the next step of an execution, the first cause in this order.
-#[derive(Clone, Copy, PartialEq, Eq, Debug)]
+#[derive(Clone, Copy)]
 pub enum StepRefusal {
     /// The thread hasn't begun, or has ended.
     NoThread,

@@ -7,7 +7,7 @@ ghost use Rattle.pool_make.specs.Key.{constant_of};
 use class_walk::Constant;
 
 /// An entry other than a text.
-#[derive(Clone, Copy, Debug, PartialEq, Eq, PartialOrd, Ord)]
+#[derive(Clone, Copy, PartialEq, Eq, PartialOrd, Ord)]
 pub enum Key {
     Integer(i32),
     Long(i64),

@@ -16,6 +16,3 @@ pub use laws::{
 };
 pub use maker::PoolMaker;
 pub use refusal::PoolRefusal;
-
-#[cfg(test)]
-mod tests;

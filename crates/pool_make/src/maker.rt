@@ -29,7 +29,7 @@ const MOST: usize = 65_535;
 ///
 /// An entry is looked up in a tree, so that a pool of n entries is made by about n log n comparisons of entries,
 /// whatever they are.
-#[derive(Debug, Drop)]
+#[derive(Drop)]
 pub struct PoolMaker {
     entries: Vec<Constant>,
     /// The index of each text, by its bytes.

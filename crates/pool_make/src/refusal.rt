@@ -6,7 +6,7 @@ ghost use Rattle.pool_make.specs.declared.refusal.PoolRefusal.TheVariants as ref
 use std::alloc::{AllocError, AllocFailed};
 
 /// Why the pool has no index for an entry.
-#[derive(Clone, Copy, Debug, PartialEq, Eq)]
+#[derive(Clone, Copy)]
 pub enum PoolRefusal {
     /// The entry or one of its parts would have an index above 65,534 (JVMS 4.1), or a text has more than
     /// 65,535 bytes (JVMS 4.4.7).

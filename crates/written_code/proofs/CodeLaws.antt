@@ -1,6 +1,5 @@
 -- Instructions that are laid out in written code are those that were written.
 use Rattle.std.proofs.Common.{◌≡◌, ℕ, suc, ◌+◌, ◌<◌, ℤ, List, [], ◌∷◌, ◌++◌, length, drop, Option, Some, ◌⊎◌, inl, inr, refl, sym, ap, subst, ◌∙◌, arith, length-append, mod-eq_of_lt}
-use Rattle.std.proofs.lemmas.Bool.{cases_lt}
 use Rattle.std.proofs.Math.Seq.{drop-length}
 use Rattle.class_walk.specs.declared.class.Constant.{Constant}
 use Rattle.class_walk.specs.Layout.{u1}
@@ -8,7 +7,6 @@ use Rattle.instructions.specs.declared.form.Form.TheVariants as forms
 use Rattle.instructions.specs.declared.what.Instr.{Instr}
 use Rattle.instructions.specs.declared.what.What.{What}
 use Rattle.instructions.specs.Table.{Instruction, row, row_numbered, table}
-use Rattle.instructions.proofs.TableLaws.{row_numbered-past}
 use Rattle.code_frames.proofs.ByteLaws.{some_is}
 use Rattle.code_steps.specs.CodeArray.{IsInstruction, AreLaidOut}
 use Rattle.code_steps.specs.Operands.{AreWide, IsOperands}
@@ -37,12 +35,6 @@ wide_numbered = refl
 wide_is : (pool : List Constant) (at n : ℕ) (r : Instruction) (what : What ℤ) (text : List ℕ) → n ≡ 196 → row_numbered n ≡ Some r → IsOperands pool at r.form what text → IsOperands pool at forms.Wide what text
 unfolding wide_row
 wide_is pool at n r what text e numbered is = subst (λ (s : Instruction). IsOperands pool at s.form what text) (same_row n 196 r wide_row e numbered wide_numbered) is
-
-number_small : (n : ℕ) (r : Instruction) → row_numbered n ≡ Some r → n < 256
-number_small n r e = elim (cases_lt n 202) [
-  | inl low ↦ omega (arith, low)
-  | inr high ↦ let none = row_numbered-past n high in absurd cc
-]
 
 one_byte : (n : ℕ) → n < 256 → u1 n ≡ n ∷ []
 one_byte n small = ap (λ (k : ℕ). k ∷ []) (mod-eq_of_lt small)

@@ -1,4 +1,4 @@
-ghost use Rattle.std.specs.Prelude.{◌≡◌, ◌<◌, ◌≤◌, Some, None, map, IfOk, IfSome, IfNone, Contains, string_bytes, take, length, IsTrue, ◌↔◌};
+ghost use Rattle.std.specs.Prelude.{◌≡◌, ◌<◌, ◌≤◌, [], Some, None, map, IfOk, IfSome, IfNone, Contains, string_bytes, take, length, IsTrue, ◌↔◌};
 ghost use Rattle.jr_ports.specs.Folder.{AreDifferent, IsOneOf, names_of, most_read};
 ghost use Rattle.jr_ports.specs.Memory.{files_of, asked_of};
 
@@ -8,7 +8,7 @@ use crate::ports::{ClassDir, DirFault, MOST_READ};
 use std::alloc::{AllocError, Global};
 
 /// A folder that holds its files, and gives them for every path.
-#[derive(Debug, Drop)]
+#[derive(Drop)]
 pub struct MemDir {
     files: Vec<(String, Vec<u8>)>,
     calls: Calls,
@@ -16,6 +16,8 @@ pub struct MemDir {
     dir: Option<String>,
     /// Whether the names were given.
     gave: bool,
+    /// The names of the files that were read.
+    read: Vec<String>,
 }
 
 /// The names of the files, in their order.
@@ -76,10 +78,11 @@ pub fn names_differ(files: &[(String, Vec<u8>)]) -> bool
 
 impl MemDir {
     /// A folder of these files, whose names differ; `fail` lists the calls, counted from 1, that fail.
-    pub fn new(files: Vec<(String, Vec<u8>)>, fail: Vec<u32>) -> Self
+    pub fn new(alloc: Global, files: Vec<(String, Vec<u8>)>, fail: Vec<u32>) -> Self
         requires { AreDifferent (names_of (files_of files.items)) }
         ensures files { result.files.items ≡ files.items }
         ensures fresh { asked_of result ≡ None }
+        ensures unread { result.read.items ≡ [] }
         ensures fail { (result.calls.fail.items ≡ fail.items) × (result.calls.made ≡ 0) × (result.calls.faults ≡ 0) }
     {
         MemDir {
@@ -87,12 +90,14 @@ impl MemDir {
             calls: Calls::new(fail),
             dir: None,
             gave: false,
+            read: Vec::new(alloc),
         }
     }
 
     fn refuse(&mut self) -> DirFault
         ensures files { self.new.files ≡ self.old.files }
         ensures asked { (self.new.dir ≡ self.old.dir) × (self.new.gave ≡ self.old.gave) }
+        ensures read { self.new.read ≡ self.old.read }
         ensures cause { result ≡ DirFault.Failed → self.old.calls.faults < self.new.calls.faults }
         ensures faults { self.old.calls.faults ≤ self.new.calls.faults }
     {
@@ -110,6 +115,8 @@ impl ClassDir for MemDir {
 
     ghost contents = { λ folder. Some (files_of folder.files.items) };
 
+    ghost read_names = { λ folder. Some (map string_bytes folder.read.items) };
+
     fn names(&mut self, alloc: Global, dir: &str) -> Result<Vec<String>, DirFault> {
         self.dir = Some(String::from_str(alloc, dir)?);
         self.gave = false;
@@ -126,7 +133,11 @@ impl ClassDir for MemDir {
             return Err(self.refuse());
         }
         match find_file(self.files.as_slice(), name) {
-            Some(bytes) => Ok(copy_of_front(alloc, bytes)?),
+            Some(bytes) => {
+                let front = copy_of_front(alloc, bytes)?;
+                self.read.push(String::from_str(alloc, name)?)?;
+                Ok(front)
+            }
             None => unreachable!(),
         }
     }

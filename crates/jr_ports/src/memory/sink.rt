@@ -1,35 +1,36 @@
 ghost use Rattle.std.specs.Prelude.{◌≡◌, [], ◌<◌, ◌≤◌, Some, OnOk, OnErr};
+ghost use Rattle.std.specs.List.{concat};
 ghost use Rattle.jr_ports.specs.Stream.{Gains, GainsPart};
 
-use super::Calls;
+use super::{Calls, Pieces};
 use crate::faults::Refusal;
 use crate::ports::{Sink, SinkFault};
 use std::alloc::Global;
 
 /// A sink that keeps what it is given, and takes nothing of a put that it refuses.
-#[derive(Debug, Drop)]
+#[derive(Drop)]
 pub struct MemSink {
-    taken: Vec<u8>,
+    taken: Pieces,
     calls: Calls,
 }
 
 impl MemSink {
     /// A sink that was given nothing; `fail` lists the puts, counted from 1, that fail.
     pub fn new(alloc: Global, fail: Vec<u32>) -> Self
-        ensures empty { result.taken.items ≡ [] }
+        ensures empty { result.taken ≡ [] }
         ensures fail { (result.calls.fail.items ≡ fail.items) × (result.calls.made ≡ 0) × (result.calls.faults ≡ 0) }
     {
         MemSink {
-            taken: Vec::new(alloc),
+            taken: Pieces::new(alloc),
             calls: Calls::new(fail),
         }
     }
 
     /// The bytes that were taken.
     pub fn given(&self) -> &[u8]
-        ensures { result.now ≡ self.now.taken.items }
+        ensures { result.now ≡ concat self.now.taken }
     {
-        self.taken.as_slice()
+        self.taken.joined()
     }
 
     fn refuse(&mut self) -> SinkFault
@@ -45,7 +46,7 @@ impl MemSink {
 }
 
 impl Sink for MemSink {
-    ghost given = { λ sink. Some sink.taken.items };
+    ghost given = { λ sink. Some sink.taken };
 
     ghost faults = { λ sink. sink.calls.faults };
 
@@ -53,7 +54,7 @@ impl Sink for MemSink {
         if self.calls.next_fails() {
             return Err(self.refuse());
         }
-        self.taken.extend_from_slice(bytes)?;
+        self.taken.push(bytes)?;
         Ok(())
     }
 }

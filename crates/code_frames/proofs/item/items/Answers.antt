@@ -1,11 +1,11 @@
 use Rattle.std.proofs.lemmas.Result.{err_from_is_err_and}
-use Rattle.code_frames.proofs.Loop.{goes_on, ends, is_done}
+use Rattle.code_frames.proofs.Loop.{goes_on, ends, fails, is_done}
 use Rattle.code_frames.proofs.item.items.Goals as goal
 
 pub returns-in_err-item : goal.returns-in_err-item
 returns-in_err-item c =
     let p = err_from_is_err_and c.from_residual.result c.from_residual.ensures.1 in
-    rw (p.1, p.2) (ends c.in_err-item.field-0.0 c.args.pool.now c.args.steps.now c.loop.items c.args.count c.loop.counter c.loop.cursor _ c.loop-test.true c.in_err-item.ensures c.loop.invariant)
+    rw (p.1, p.2) (ends c.in_err-item.field-0.0 c.args.pool.now c.args.steps.now c.loop.items c.args.count c.loop.counter c.loop.cursor _ c.loop-test.true (fails c.in_err-item.field-0.0 _ c.in_err-item.ensures) c.loop.invariant)
 
 pub loop-preserved : goal.loop-preserved
 loop-preserved c =

@@ -1,0 +1,14 @@
+//! Tests of reading code arrays and stack map frames, of a refusal's text, and of writing instructions and frames. The program
+//! `code_vectors` tries class files.
+#![tactic(auto)]
+
+#[cfg(test)]
+mod frames;
+#[cfg(test)]
+mod pool;
+#[cfg(test)]
+mod refusal;
+#[cfg(test)]
+mod steps;
+#[cfg(test)]
+mod write;

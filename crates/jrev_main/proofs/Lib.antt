@@ -1,5 +1,0 @@
-pub mod Names
-pub mod Verdicts
-pub mod Streams
-pub mod Reported
-pub mod Inputs

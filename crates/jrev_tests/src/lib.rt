@@ -1,0 +1,11 @@
+//! Tests of the top call, over folders and streams in memory.
+#![tactic(auto)]
+
+#[cfg(test)]
+mod making;
+#[cfg(test)]
+mod picking;
+#[cfg(test)]
+mod running;
+#[cfg(test)]
+mod words;

@@ -1,0 +1,252 @@
+use crate::running::{Case, File, is_as_wanted};
+use std::test::Fail;
+
+const PICK_ONE: &[&str] = &["pick", "D", "One"];
+
+/// 2 + 3, a product that wraps, and 100 joined with -7 by each operator; the values are those that a Java compiler folds.
+const SUMS: [Case; 8] = [
+    Case {
+        words: PICK_ONE,
+        files: &[File::One("One.class", &[178, 0, 13, 5, 6, 96, 182, 0, 19, 177])],
+        input: "",
+        faults: (0, 0, 0, 0),
+        status: 0,
+        out: b"5\n",
+        err: "",
+    },
+    Case {
+        words: PICK_ONE,
+        files: &[File::One(
+            "One.class",
+            &[
+                178, 0, 13, 17, 0x7f, 0xff, 17, 0x7f, 0xff, 104, 6, 104, 182, 0, 19, 177,
+            ],
+        )],
+        input: "",
+        faults: (0, 0, 0, 0),
+        status: 0,
+        out: b"-1073938429\n",
+        err: "",
+    },
+    Case {
+        words: PICK_ONE,
+        files: &[File::One(
+            "One.class",
+            &[178, 0, 13, 16, 100, 16, 0xf9, 96, 182, 0, 19, 177],
+        )],
+        input: "",
+        faults: (0, 0, 0, 0),
+        status: 0,
+        out: b"93\n",
+        err: "",
+    },
+    Case {
+        words: PICK_ONE,
+        files: &[File::One(
+            "One.class",
+            &[178, 0, 13, 16, 100, 16, 0xf9, 100, 182, 0, 19, 177],
+        )],
+        input: "",
+        faults: (0, 0, 0, 0),
+        status: 0,
+        out: b"107\n",
+        err: "",
+    },
+    Case {
+        words: PICK_ONE,
+        files: &[File::One(
+            "One.class",
+            &[178, 0, 13, 16, 100, 16, 0xf9, 104, 182, 0, 19, 177],
+        )],
+        input: "",
+        faults: (0, 0, 0, 0),
+        status: 0,
+        out: b"-700\n",
+        err: "",
+    },
+    Case {
+        words: PICK_ONE,
+        files: &[File::One(
+            "One.class",
+            &[178, 0, 13, 16, 100, 16, 0xf9, 126, 182, 0, 19, 177],
+        )],
+        input: "",
+        faults: (0, 0, 0, 0),
+        status: 0,
+        out: b"96\n",
+        err: "",
+    },
+    Case {
+        words: PICK_ONE,
+        files: &[File::One(
+            "One.class",
+            &[178, 0, 13, 16, 100, 16, 0xf9, 128, 182, 0, 19, 177],
+        )],
+        input: "",
+        faults: (0, 0, 0, 0),
+        status: 0,
+        out: b"-3\n",
+        err: "",
+    },
+    Case {
+        words: PICK_ONE,
+        files: &[File::One(
+            "One.class",
+            &[178, 0, 13, 16, 100, 16, 0xf9, 130, 182, 0, 19, 177],
+        )],
+        input: "",
+        faults: (0, 0, 0, 0),
+        status: 0,
+        out: b"-99\n",
+        err: "",
+    },
+];
+
+#[test]
+fn values_are_those_of_java(rt: HostRuntime) -> Result<(), Fail> {
+    for case in &SUMS {
+        assert!(rt; is_as_wanted(&rt, rt.alloc(), case)?);
+    }
+    Ok(())
+}
+
+/// Folders whose programs are not executed.
+const NOT_EXECUTED: [Case; 4] = [
+    Case {
+        words: PICK_ONE,
+        files: &[File::Other("B.class", b"any"), File::One("A.class", &[177])],
+        input: "",
+        faults: (0, 0, 0, 0),
+        status: 3,
+        out: b"",
+        err: "refused: stage B.class 99 0 0\n",
+    },
+    Case {
+        words: PICK_ONE,
+        files: &[
+            File::Other("A.class", b"any"),
+            File::One(".class", &[177]),
+            File::Other("readme", b""),
+        ],
+        input: "",
+        faults: (0, 0, 0, 0),
+        status: 3,
+        out: b"",
+        err: "refused: stage A.class 99 0 0\n",
+    },
+    Case {
+        words: &["pick", "D", "Main"],
+        files: &[],
+        input: "",
+        faults: (0, 0, 0, 0),
+        status: 4,
+        out: b"",
+        err: "no main\n",
+    },
+    Case {
+        words: &["pick", "D", "Two"],
+        files: &[File::One("One.class", &[178, 0, 13, 5, 6, 96, 182, 0, 19, 177])],
+        input: "",
+        faults: (0, 0, 0, 0),
+        status: 4,
+        out: b"",
+        err: "no main\n",
+    },
+];
+
+#[test]
+fn what_is_not_loaded_is_refused(rt: HostRuntime) -> Result<(), Fail> {
+    for case in &NOT_EXECUTED {
+        assert!(rt; is_as_wanted(&rt, rt.alloc(), case)?);
+    }
+    Ok(())
+}
+
+const PRINTS_1_AND_2: File = File::One(
+    "One.class",
+    &[178, 0, 13, 4, 182, 0, 19, 178, 0, 13, 5, 182, 0, 19, 177],
+);
+
+/// Each call of the folder and of both sinks fails in turn, and two of them together.
+const FAILING: [Case; 8] = [
+    Case {
+        words: PICK_ONE,
+        files: &[PRINTS_1_AND_2],
+        input: "",
+        faults: (0, 0, 0, 0),
+        status: 0,
+        out: b"1\n2\n",
+        err: "",
+    },
+    Case {
+        words: PICK_ONE,
+        files: &[PRINTS_1_AND_2],
+        input: "",
+        faults: (1, 0, 0, 0),
+        status: 7,
+        out: b"",
+        err: "read fault\n",
+    },
+    Case {
+        words: PICK_ONE,
+        files: &[PRINTS_1_AND_2],
+        input: "",
+        faults: (2, 0, 0, 0),
+        status: 7,
+        out: b"",
+        err: "read fault\n",
+    },
+    Case {
+        words: PICK_ONE,
+        files: &[PRINTS_1_AND_2],
+        input: "",
+        faults: (0, 0, 1, 0),
+        status: 8,
+        out: b"",
+        err: "write fault\n",
+    },
+    Case {
+        words: PICK_ONE,
+        files: &[PRINTS_1_AND_2],
+        input: "",
+        faults: (0, 0, 2, 0),
+        status: 8,
+        out: b"1\n",
+        err: "write fault\n",
+    },
+    Case {
+        words: PICK_ONE,
+        files: &[PRINTS_1_AND_2],
+        input: "",
+        faults: (1, 0, 0, 1),
+        status: 8,
+        out: b"",
+        err: "",
+    },
+    Case {
+        words: PICK_ONE,
+        files: &[PRINTS_1_AND_2],
+        input: "",
+        faults: (0, 0, 2, 1),
+        status: 8,
+        out: b"1\n",
+        err: "",
+    },
+    Case {
+        words: &["none"],
+        files: &[PRINTS_1_AND_2],
+        input: "",
+        faults: (0, 0, 0, 1),
+        status: 8,
+        out: b"",
+        err: "",
+    },
+];
+
+#[test]
+fn each_call_that_fails_is_reported(rt: HostRuntime) -> Result<(), Fail> {
+    for case in &FAILING {
+        assert!(rt; is_as_wanted(&rt, rt.alloc(), case)?);
+    }
+    Ok(())
+}

@@ -1,0 +1,145 @@
+//! Runs of the program over a folder and streams in memory.
+
+ghost use Rattle.std.specs.Prelude.{IfOk, ◌≡◌, None};
+ghost use Rattle.jr_ports.specs.Memory.{asked_of};
+
+use jr_ports::{MemDir, MemSink, MemSource, NoGate, names_differ};
+use jrev_top::jrev;
+use std::alloc::Global;
+use std::process::Abort;
+use std::test::Fail;
+use std::thread::Threads;
+
+/// A class One whose main method prints a sum, as an assembler made it: its file up to the length of the code of main.
+/// The indices of System.out and println are 13 and 19.
+static FRONT: [u8; 216] = [
+    0xca, 0xfe, 0xba, 0xbe, 0x00, 0x00, 0x00, 0x34, 0x00, 0x14, 0x01, 0x00, 0x03, 0x4f, 0x6e, 0x65,
+    0x07, 0x00, 0x01, 0x01, 0x00, 0x10, 0x6a, 0x61, 0x76, 0x61, 0x2f, 0x6c, 0x61, 0x6e, 0x67, 0x2f,
+    0x4f, 0x62, 0x6a, 0x65, 0x63, 0x74, 0x07, 0x00, 0x03, 0x01, 0x00, 0x04, 0x6d, 0x61, 0x69, 0x6e,
+    0x01, 0x00, 0x16, 0x28, 0x5b, 0x4c, 0x6a, 0x61, 0x76, 0x61, 0x2f, 0x6c, 0x61, 0x6e, 0x67, 0x2f,
+    0x53, 0x74, 0x72, 0x69, 0x6e, 0x67, 0x3b, 0x29, 0x56, 0x01, 0x00, 0x04, 0x43, 0x6f, 0x64, 0x65,
+    0x01, 0x00, 0x10, 0x6a, 0x61, 0x76, 0x61, 0x2f, 0x6c, 0x61, 0x6e, 0x67, 0x2f, 0x53, 0x79, 0x73,
+    0x74, 0x65, 0x6d, 0x07, 0x00, 0x08, 0x01, 0x00, 0x03, 0x6f, 0x75, 0x74, 0x01, 0x00, 0x15, 0x4c,
+    0x6a, 0x61, 0x76, 0x61, 0x2f, 0x69, 0x6f, 0x2f, 0x50, 0x72, 0x69, 0x6e, 0x74, 0x53, 0x74, 0x72,
+    0x65, 0x61, 0x6d, 0x3b, 0x0c, 0x00, 0x0a, 0x00, 0x0b, 0x09, 0x00, 0x09, 0x00, 0x0c, 0x01, 0x00,
+    0x13, 0x6a, 0x61, 0x76, 0x61, 0x2f, 0x69, 0x6f, 0x2f, 0x50, 0x72, 0x69, 0x6e, 0x74, 0x53, 0x74,
+    0x72, 0x65, 0x61, 0x6d, 0x07, 0x00, 0x0e, 0x01, 0x00, 0x07, 0x70, 0x72, 0x69, 0x6e, 0x74, 0x6c,
+    0x6e, 0x01, 0x00, 0x04, 0x28, 0x49, 0x29, 0x56, 0x0c, 0x00, 0x10, 0x00, 0x11, 0x0a, 0x00, 0x0f,
+    0x00, 0x12, 0x00, 0x21, 0x00, 0x02, 0x00, 0x04, 0x00, 0x00, 0x00, 0x00, 0x00, 0x01, 0x00, 0x09,
+    0x00, 0x05, 0x00, 0x06, 0x00, 0x01, 0x00, 0x07,
+];
+
+/// The file of the class One with this code in its main method.
+fn one_with(alloc: Global, code: &[u8]) -> Result<Vec<u8>, Fail> {
+    let mut file = Vec::from_slice(alloc, &FRONT)?;
+    let length = code.len().min(200) as u8;
+    file.extend_from_slice(&[0, 0, 0, length + 12, 0, 3, 0, 1, 0, 0, 0, length])?;
+    file.extend_from_slice(code)?;
+    file.extend_from_slice(&[0, 0, 0, 0, 0, 0])?;
+    Ok(file)
+}
+
+/// A file of the folder.
+#[derive(Clone, Copy)]
+pub enum File {
+    /// The class One with this code.
+    One(&'static str, &'static [u8]),
+    /// These bytes.
+    Other(&'static str, &'static [u8]),
+}
+
+/// A run, and what is wanted of it.
+#[derive(Clone, Copy)]
+pub struct Case {
+    pub words: &'static [&'static str],
+    pub files: &'static [File],
+    pub input: &'static str,
+    /// Which call of the folder, the input, the output and the standard error fails, counted from 1; 0 for none.
+    pub faults: (u32, u32, u32, u32),
+    pub status: u8,
+    pub out: &'static [u8],
+    pub err: &'static str,
+}
+
+fn owned(alloc: Global, file: File) -> Result<(String, Vec<u8>), Fail> {
+    match file {
+        File::One(name, code) => Ok((String::from_str(alloc, name)?, one_with(alloc, code)?)),
+        File::Other(name, bytes) => Ok((
+            String::from_str(alloc, name)?,
+            Vec::from_slice(alloc, bytes)?,
+        )),
+    }
+}
+
+fn folder(rt: &impl Abort, alloc: Global, files: &[File], fault: u32) -> Result<MemDir, Fail>
+    ensures { IfOk result (λ folder. asked_of folder ≡ None) }
+{
+    let mut all = Vec::new(alloc);
+    for file in files {
+        all.push(owned(alloc, *file)?)?;
+    }
+    assert!(rt; names_differ(all.as_slice()));
+    Ok(MemDir::new(alloc, all, vec![in alloc; fault]?))
+}
+
+/// The words of a command line.
+pub fn owned_words(alloc: Global, words: &[&str]) -> Result<Vec<String>, Fail> {
+    let mut all = Vec::new(alloc);
+    for word in words {
+        all.push(String::from_str(alloc, word)?)?;
+    }
+    Ok(all)
+}
+
+fn input(alloc: Global, text: &str, fault: u32) -> Result<MemSource, Fail> {
+    let text = Vec::from_slice(alloc, text.as_bytes())?;
+    Ok(MemSource::new(alloc, text, vec![in alloc; fault]?))
+}
+
+/// A status, and what both sinks were given.
+#[derive(Drop)]
+pub struct Seen {
+    pub status: u8,
+    pub out: Vec<u8>,
+    pub err: Vec<u8>,
+}
+
+/// Runs the program with the words of a case over its files and its input.
+pub fn run<R: Abort + Threads + Sync>(rt: &R, alloc: Global, case: &Case) -> Result<Seen, Fail> {
+    let (folder_fault, input_fault, out_fault, err_fault) = case.faults;
+    let words = owned_words(alloc, case.words)?;
+    let mut classes = folder(rt, alloc, case.files, folder_fault)?;
+    let mut input = input(alloc, case.input, input_fault)?;
+    let mut out = MemSink::new(alloc, vec![in alloc; out_fault]?);
+    let mut err = MemSink::new(alloc, vec![in alloc; err_fault]?);
+    let words = words.as_slice();
+    let status = jrev(
+        rt,
+        alloc,
+        words,
+        &mut classes,
+        &mut input,
+        &mut out,
+        &mut err,
+        &NoGate,
+    );
+    Ok(Seen {
+        status: status.number(),
+        out: Vec::from_slice(alloc, out.given())?,
+        err: Vec::from_slice(alloc, err.given())?,
+    })
+}
+
+/// Whether the run ends with the wanted status, and gives the wanted bytes to both streams.
+pub fn is_as_wanted<R: Abort + Threads + Sync>(
+    rt: &R,
+    alloc: Global,
+    case: &Case,
+) -> Result<bool, Fail> {
+    let seen = run(rt, alloc, case)?;
+    Ok(
+        seen.status == case.status
+            && seen.out.as_slice() == case.out
+            && seen.err.as_slice() == case.err.as_bytes(),
+    )
+}
