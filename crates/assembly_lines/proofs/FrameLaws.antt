@@ -16,7 +16,7 @@ use Rattle.assembly_lines.specs.Frames.{IsNew, IsClassItem, IsItem, AreItems}
 use Rattle.assembly_lines.specs.Lines.{Says}
 use Rattle.assembly_lines.specs.Front.{each}
 use Rattle.assembly_lines.specs.ReadingFrames.{new_label, object_of, named_item, is_slash, item_of, split_at_slash, frame_at}
-use Rattle.assembly_lines.proofs.Cases.{chosen, mapped}
+use Rattle.class_names.proofs.Cases.{chosen, mapped}
 use Rattle.assembly_lines.proofs.TextLaws.{text_same, text_differs, text_isnt}
 use Rattle.assembly_lines.proofs.FrontLaws.{bound}
 

@@ -7,7 +7,7 @@ use Rattle.assembly_lines.specs.declared.word.LineRefusal.TheVariants.{Malformed
 use Rattle.assembly_lines.specs.declared.word.Word.{Word}
 use Rattle.assembly_lines.specs.declared.word.Word.TheVariants.{Plain, Quoted}
 use Rattle.assembly_lines.specs.Front.{◌>>=◌, Fails, Gives, Answers, plain_at, only, only_plain, only_word, behind}
-use Rattle.assembly_lines.proofs.Cases.{chosen}
+use Rattle.class_names.proofs.Cases.{chosen}
 use Rattle.assembly_lines.proofs.TextLaws.{text_same}
 
 pub bound : {A B : Type 0} (o : Option A) (f : A → Option B) (y : B) → (o >>= f) ≡ Some y → (x : A) × (o ≡ Some x) × (f x ≡ Some y)

@@ -1,7 +1,5 @@
-pub mod Cases
 pub mod PieceLaws
 pub mod WordLaws
-pub mod PlainLaws
 pub mod NumberLaws
 pub mod TextLaws
 pub mod FrontLaws

@@ -16,7 +16,7 @@ use Rattle.assembly_lines.specs.Words.{AreWords, word}
 use Rattle.assembly_lines.specs.Lines.{IsShort, SaysValue, Says, IsLine}
 use Rattle.assembly_lines.specs.Front.{◌>>=◌, Fails, Gives, Answers, plain_at, only, only_plain, only_word, behind, short}
 use Rattle.assembly_lines.specs.ReadingLine.{class_flags, class_at, super_at, implements_at, header_at, is_int_descriptor, value_of, constant_at, value_at, field_at, frame_room_at, room_at, method_at, handler_class, handler_at, label_of, word_line, keyword_line, line_with}
-use Rattle.assembly_lines.proofs.Cases.{chosen, mapped}
+use Rattle.class_names.proofs.Cases.{chosen, mapped}
 use Rattle.assembly_lines.proofs.FrontLaws.{bound, plain_takes, only_takes, word_takes, behind_takes, answers, refuses}
 use Rattle.assembly_lines.specs.ReadingFrames.{frame_at}
 use Rattle.instructions.specs.Table.{Instruction as Row, row_named}

@@ -18,7 +18,7 @@ use Rattle.assembly_lines.specs.Operands.{IsNumber, IsInteger, IsName, IsElement
 use Rattle.assembly_lines.specs.Front.{◌>>=◌, Fails, Answers, plain_at, only_plain, only_word}
 use Rattle.assembly_lines.specs.ReadingSwitches.{table_switch_at, lookup_switch_at}
 use Rattle.assembly_lines.specs.ReadingOperands.{none_at, one_at, name_of, increment_at, loaded_of, constant_at, member_words, member_at, element_type, Reads, ReadsOperands}
-use Rattle.assembly_lines.proofs.Cases.{chosen, mapped}
+use Rattle.class_names.proofs.Cases.{chosen, mapped}
 use Rattle.assembly_lines.proofs.TextLaws.{text_same}
 use Rattle.assembly_lines.proofs.FrontLaws.{bound, plain_takes, only_takes, word_takes, answers, refuses}
 use Rattle.assembly_lines.proofs.SwitchLaws.{table_switch_takes, table_switch_again, lookup_switch_takes, lookup_switch_again}

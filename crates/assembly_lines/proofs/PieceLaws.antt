@@ -3,7 +3,7 @@ use Rattle.std.proofs.Common.{◌≡◌, ℕ, ◌<◌, false, cond, eqb, List, [
 use Rattle.std.proofs.lemmas.Bool.{cases_Bool, eqb-true}
 use Rattle.assembly_lines.specs.Piece.{stands_for_itself, hex_value, escaped, IsHexUnit, IsPiece}
 use Rattle.assembly_lines.specs.ReadingPiece.{hex_digits, escape_at, piece_at}
-use Rattle.assembly_lines.proofs.Cases.{chosen, mapped, went_on, first_same, second_same}
+use Rattle.class_names.proofs.Cases.{chosen, mapped, went_on, first_same, second_same}
 
 escaped_no_unit : (b unit : ℕ) → escaped b ≡ Some unit → eqb b 117 ≡ false
 escaped_no_unit b unit e =

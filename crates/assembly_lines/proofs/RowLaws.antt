@@ -7,7 +7,7 @@ use Rattle.std.proofs.lemmas.Bool.{and_parts, and_right, ltb-true}
 use Rattle.std.proofs.lemmas.Option.{same_Some}
 use Rattle.std.proofs.lemmas.Str.{IsUtf8-from_ascii}
 use Rattle.instructions.specs.Table.{Instruction, table, row_named}
-use Rattle.assembly_lines.proofs.Cases.{chosen}
+use Rattle.class_names.proofs.Cases.{chosen}
 use Rattle.assembly_lines.proofs.TextLaws.{text_same}
 
 -- an ASCII character that is no colon

@@ -16,7 +16,7 @@ use Rattle.assembly_lines.specs.Words.{plain_words}
 use Rattle.assembly_lines.specs.Switches.{IsKey, highest_key, SaysTableSwitch, AreCases, SaysLookupSwitch}
 use Rattle.assembly_lines.specs.Front.{◌>>=◌, Fails, plain_at, each}
 use Rattle.assembly_lines.specs.ReadingSwitches.{int, plain_name, is_int, table_switch_at, case_at, case_of, cases_at, lookup_switch_at}
-use Rattle.assembly_lines.proofs.Cases.{chosen, mapped}
+use Rattle.class_names.proofs.Cases.{chosen, mapped}
 use Rattle.assembly_lines.proofs.FrontLaws.{bound, plain_takes}
 use Rattle.assembly_lines.proofs.EachLaws.{with_front, regroup}
 

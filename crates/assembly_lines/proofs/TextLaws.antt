@@ -7,7 +7,7 @@ use Rattle.std.proofs.Math.Seq.{take-append_seam, drop-cons}
 use Rattle.std.proofs.lemmas.Bool.{and_parts, leb-true, le-leb, eqb-true}
 use Rattle.assembly_lines.specs.Lines.{IsIntDescriptor}
 use Rattle.assembly_lines.specs.ReadingLine.{is_int_descriptor, label_of}
-use Rattle.assembly_lines.proofs.Cases.{chosen}
+use Rattle.class_names.proofs.Cases.{chosen}
 
 pub text_same : (xs ys : List ℕ) → bytes_eq xs ys ≡ true → xs ≡ ys
 text_same [] [] e = refl

@@ -1,16 +1,17 @@
 -- Reading piece by piece and word by word gives the words of a line.
-use Rattle.std.proofs.Common.{◌≡◌, ◌≢◌, ℕ, ◌<◌, ◌≤◌, true, false, eqb, List, [], ◌∷◌, ◌++◌, length, take, drop, Some, None, refl, sym, ap, ◌∙◌, subst, inl, inr, arith, append_assoc}
-use Rattle.std.proofs.lemmas.Bool.{cases_Bool, eqb-true}
+use Rattle.std.proofs.Common.{◌≡◌, ◌≢◌, ℕ, ◌<◌, ◌≤◌, ◌^◌, true, false, eqb, leb, List, [], ◌∷◌, ◌++◌, length, take, drop, Some, None, refl, sym, ap, ◌∙◌, subst, inl, inr, arith, append_assoc}
+use Rattle.std.proofs.lemmas.Bool.{cases_Bool, and_parts, eqb-true, leb-true}
 use Rattle.std.proofs.lemmas.List.{append-nil, take-append-drop, length-take-le}
 use Rattle.std.proofs.Math.Numerals.{one-add}
 use Rattle.std.proofs.Math.Seq.{take-append_seam, drop-append_seam}
 use Rattle.std.specs.List.{AllByRecursion, prefix_len}
 use Rattle.assembly_lines.specs.declared.word.Word.{Word}
 use Rattle.assembly_lines.specs.declared.word.Word.TheVariants.{Plain, Quoted}
-use Rattle.assembly_lines.specs.Words.{is_plain_byte, IsPlainByte, IsPlain, text_of, Spells, AreWords}
+use Rattle.class_names.specs.ShortestForms.{encoded}
+use Rattle.assembly_lines.specs.Words.{is_plain_byte, IsPlainByte, IsPlain, Spells, AreWords}
 use Rattle.assembly_lines.specs.ReadingPiece.{piece_at}
 use Rattle.assembly_lines.specs.ReadingWords.{IsQuotedBefore, StandsBefore, IsEnd}
-use Rattle.assembly_lines.proofs.Cases.{first_same, second_same}
+use Rattle.class_names.proofs.Cases.{first_same, second_same}
 use Rattle.assembly_lines.proofs.PieceLaws.{piece_again, piece_takes}
 
 -- ---- quoted texts
@@ -112,7 +113,7 @@ plain_of bytes (b ∷ name) rest unquoted e all full =
       | inr f ↦ (f, all.0, all.1)
     ]
 
-pub plain_found : (bytes name text rest : List ℕ) (len : ℕ) → ((r : List ℕ) → bytes ≢ 34 ∷ r) → len ≡ prefix_len is_plain_byte bytes → len ≤ length bytes → len ≢ 0 → name ≡ take len bytes → rest ≡ drop len bytes → text ≡ text_of name → StandsBefore bytes (Plain text) rest
+pub plain_found : (bytes name text rest : List ℕ) (len : ℕ) → ((r : List ℕ) → bytes ≢ 34 ∷ r) → len ≡ prefix_len is_plain_byte bytes → len ≤ length bytes → len ≢ 0 → name ≡ take len bytes → rest ≡ drop len bytes → text ≡ encoded name → StandsBefore bytes (Plain text) rest
 plain_found bytes name text rest len unquoted is fits full front back spelled =
     let joined : bytes ≡ name ++ rest = sym (take-append-drop len bytes) ∙ (ap (λ (xs : List ℕ). xs ++ drop len bytes) (sym front) ∙ ap (λ (xs : List ℕ). name ++ xs) (sym back)) in
     let all : AllByRecursion IsPlainByte name = subst (AllByRecursion IsPlainByte) (ap (λ (n : ℕ). take n bytes) (sym is) ∙ sym front) (all_plain bytes) in
@@ -129,7 +130,7 @@ quote_is_no_plain (b ∷ name) r rest h e =
 -- what a plain word at the front is
 pub record PlainStands (bytes : List ℕ) (word : Word) (rest : List ℕ) : Type 0 where
   pub name : List ℕ
-  pub is : word ≡ Plain (text_of name)
+  pub is : word ≡ Plain (encoded name)
   pub len : prefix_len is_plain_byte bytes ≡ length name
   pub full : 0 < length name
   pub front : take (length name) bytes ≡ name
@@ -241,7 +242,7 @@ one_word bytes (Plain text) other after behind h end k finish =
     let q = plain_only bytes other behind unquoted k finish in
     let long : length p.name ≡ length q.name = sym p.len ∙ q.len in
     let names : p.name ≡ q.name = sym p.front ∙ (ap (λ (n : ℕ). take n bytes) long ∙ q.front) in
-    (p.is ∙ (ap (λ (n : List ℕ). Plain (text_of n)) names ∙ sym q.is), sym p.back ∙ (ap (λ (n : ℕ). drop n bytes) long ∙ q.back))
+    (p.is ∙ (ap (λ (n : List ℕ). Plain (encoded n)) names ∙ sym q.is), sym p.back ∙ (ap (λ (n : ℕ). drop n bytes) long ∙ q.back))
 one_word bytes (Quoted units) other after behind h end k finish =
     let r = (h.2.0 ++ 34 ∷ []) ++ after in
     let joined : bytes ≡ 34 ∷ r = h.1 ∙ ap (λ (xs : List ℕ). xs ++ after) h.2.1 in
@@ -278,3 +279,15 @@ one_list text (word ∷ next ∷ words) (other ∷ other2 ∷ others) h k =
     let behind : h.1 ≡ k.1 = let e = same.1 in cc in
     let left = one_list h.1 (next ∷ words) (other2 ∷ others) h.4 (subst (λ (xs : List ℕ). AreWords xs (other2 ∷ others)) (sym behind) k.4) in
     ap (λ (w : Word). w ∷ next ∷ words) same.0 ∙ ap (λ (ws : List Word). other ∷ ws) left
+
+-- plain characters are code units
+small_byte : (b : ℕ) → IsPlainByte b → b < 2 ^ 16
+small_byte b plain = let small : b ≤ 127 = leb-true b 127 (and_parts (leb b 127) _ plain).0 in omega (arith, small)
+
+small_bytes : (word : List ℕ) → AllByRecursion IsPlainByte word → AllByRecursion (λ u. u < 2 ^ 16) word
+small_bytes [] all = tt
+small_bytes (b ∷ word) all = (small_byte b all.0, small_bytes word all.1)
+
+pub plain_units : (word : List ℕ) → IsPlain word → AllByRecursion (λ u. u < 2 ^ 16) word
+plain_units [] plain = absurd plain
+plain_units (b ∷ word) plain = (small_byte b plain.1, small_bytes word plain.2)

@@ -1,7 +1,8 @@
 -- Words of a line.
 use Prim.Native.String.{String}
-use Rattle.std.specs.Prelude.{◌≡◌, ℕ, ◌==◌, Bool, false, not, if◌then◌else◌, List, [], ◌∷◌, ◌++◌, map, nat_le, ◌&&◌, ◌||◌, IsTrue, codes}
-use Rattle.std.specs.List.{AllByRecursion, flat_map}
+use Rattle.std.specs.Prelude.{◌≡◌, ℕ, ◌==◌, Bool, false, not, List, [], ◌∷◌, ◌++◌, map, nat_le, ◌&&◌, ◌||◌, IsTrue, codes}
+use Rattle.std.specs.List.{AllByRecursion}
+use Rattle.class_names.specs.ShortestForms.{encoded}
 use Rattle.assembly_lines.specs.declared.word.Word.{Word}
 use Rattle.assembly_lines.specs.declared.word.Word.TheVariants.{Plain, Quoted}
 use Rattle.assembly_lines.specs.Piece.{ArePieces}
@@ -18,17 +19,9 @@ abbrev pub IsPlain : List ℕ → Type 0
 IsPlain [] = ⊥
 IsPlain (b ∷ bytes) = ((b == 34) ≡ false) × IsTrue (is_plain_byte b) × AllByRecursion IsPlainByte bytes
 
--- An ASCII character in modified UTF-8: NUL has two bytes (JVMS 4.4.7).
-abbrev pub form_of : ℕ → List ℕ
-form_of b = if b == 0 then 192 ∷ 128 ∷ [] else b ∷ []
-
--- the text of a plain word, in modified UTF-8
-abbrev pub text_of : List ℕ → List ℕ
-text_of bytes = flat_map form_of bytes
-
--- A quoted text has its pieces between two quotes.
+-- The text of a plain word is its characters in modified UTF-8, where NUL has two bytes (JVMS 4.4.7). A quoted text has its pieces between two quotes.
 abbrev pub Spells : List ℕ → Word → Type 0
-Spells bytes (Plain text) = (text ≡ text_of bytes) × IsPlain bytes
+Spells bytes (Plain text) = (text ≡ encoded bytes) × IsPlain bytes
 Spells bytes (Quoted units) = (pieces : List ℕ) × (bytes ≡ 34 ∷ (pieces ++ 34 ∷ [])) × ArePieces pieces units
 
 -- One space stands between two words.

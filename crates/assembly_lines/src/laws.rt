@@ -2,8 +2,9 @@
 
 ghost use Rattle.std.specs.Prelude.{◌≡◌, ℕ, List, map};
 ghost use Rattle.class_names.specs.ModifiedUtf8.{AreForms, unit_of};
+ghost use Rattle.class_names.specs.ShortestForms.{form_of, encoded};
 ghost use Rattle.assembly_lines.specs.declared.word.Word.{Word};
-ghost use Rattle.assembly_lines.specs.Words.{AreWords, IsPlain, form_of, text_of};
+ghost use Rattle.assembly_lines.specs.Words.{AreWords, IsPlain};
 
 /// A line is one list of words at most.
 pub fn line_has_one_list_of_words()
@@ -12,6 +13,6 @@ pub fn line_has_one_list_of_words()
 
 /// The text of a plain word is in modified UTF-8, and stands for the word's characters.
 pub fn plain_words_have_their_characters()
-    ensures formed { (word : List ℕ) → IsPlain word → AreForms (text_of word) (map form_of word) }
-    ensures characters { (word : List ℕ) → map unit_of (map form_of word) ≡ word }
+    ensures formed { (word : List ℕ) → IsPlain word → AreForms (encoded word) (map form_of word) }
+    ensures characters { (word : List ℕ) → IsPlain word → map unit_of (map form_of word) ≡ word }
 {}

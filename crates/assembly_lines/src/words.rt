@@ -5,11 +5,13 @@ ghost use Rattle.std.specs.List.{prefix_len};
 ghost use Rattle.assembly_lines.specs.declared.word.Word.{Word};
 ghost use Rattle.assembly_lines.specs.declared.word.Word.TheVariants.{Plain};
 ghost use Rattle.assembly_lines.specs.declared.word.LineRefusal.TheVariants.{NoMemory};
-ghost use Rattle.assembly_lines.specs.Words.{is_plain_byte, text_of, AreWords};
+ghost use Rattle.class_names.specs.ShortestForms.{encoded};
+ghost use Rattle.assembly_lines.specs.Words.{is_plain_byte, AreWords};
 ghost use Rattle.assembly_lines.specs.ReadingWords.{IsQuotedBefore, StandsBefore, IsEnd};
 
 use crate::piece::next_piece;
 use crate::word::{LineRefusal, Word};
+use class_names::put_unit;
 use rows::{Bytes, Rows};
 use std::alloc::{AllocError, Global};
 
@@ -58,16 +60,11 @@ fn plain_len(bytes: &[u8]) -> usize
 
 /// The text of a plain word.
 fn plain_text(alloc: Global, word: &[u8]) -> Result<Bytes, AllocError>
-    ensures { IfOk result (λ text. text ≡ text_of word.now) }
+    ensures { IfOk result (λ text. text ≡ encoded word.now) }
 {
     let mut text = Vec::new(alloc);
     for byte in word {
-        if *byte == 0 {
-            text.push(0xc0)?;
-            text.push(0x80)?;
-        } else {
-            text.push(*byte)?;
-        }
+        put_unit(&mut text, u16::from(*byte))?;
     }
     Ok(Bytes::from_vec(text))
 }

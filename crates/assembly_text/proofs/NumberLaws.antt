@@ -27,7 +27,7 @@ numbered_none text = record {
   on = λ all h. (all, refl, h);
 }
 
-abbrev item : ℕ → Option Line → Numbered
+abbrev pub item : ℕ → Option Line → Numbered
 item number said = record { number = number; line = said }
 
 -- ---- a line before others
@@ -116,7 +116,7 @@ left_fits text rest line after number made so_far f =
 
 -- ---- the text's end
 
-abbrev text_lines : List Numbered → ℕ → TextLines
+abbrev pub text_lines : List Numbered → ℕ → TextLines
 text_lines made behind = record { lines = made; behind = behind }
 
 at_end : (text rest : List ℕ) (number : ℕ) (made : List Numbered) → NumberedSoFar text rest number made → rest ≡ [] → number ≡ length (lines text) + 1

@@ -23,6 +23,7 @@ use Rattle.assembly_lines.specs.ReadingSwitches.{table_switch_at, lookup_switch_
 use Rattle.assembly_lines.specs.ReadingOperands.{none_at, one_at, name_of, increment_at, constant_at, member_at, element_type, ReadsOperands, wide_at}
 use Rattle.assembly_lines.specs.ReadingLine.{line_with}
 use Rattle.assembly_lines.proofs.WordLaws.{one_list}
+use Rattle.assembly_text.proofs.NumberLaws.{item, text_lines}
 use Rattle.assembly_lines.proofs.OperandLaws.{operands_answer}
 use Rattle.assembly_lines.proofs.OperationLaws.{wide_answers}
 use Rattle.assembly_lines.proofs.LineLaws.{other_answers, operation_refuses, operation_gives, no_plain_refuses}
@@ -144,16 +145,13 @@ one_at_place end text None (Some b) h k = elim h [ inl far ↦ absurd (let near 
 one_at_place end text (Some a) None h k = elim k [ inl far ↦ absurd (let near = h.0 in omega arith) | inr none ↦ absurd (none a h.1) ]
 one_at_place end text (Some a) (Some b) h k = ap (λ (line : Line). Some line) (one_line text a b h.1 k.1)
 
-abbrev numbered : ℕ → Option Line → Numbered
-numbered number said = record { number = number; line = said }
-
 module _ (number end : ℕ) (line : List ℕ) (AreOthers : List Numbered → Type 0) (one : (made others : List Numbered) → AreOthers made → AreOthers others → made ≡ others) where
   one_next : (made others : List Numbered) → IsNext number end line AreOthers made → IsNext number end line AreOthers others → made ≡ others
   one_next [] others h k = absurd h
   one_next (x ∷ made) [] h k = absurd k
   one_next (x ∷ made) (y ∷ others) h k =
-      ap (λ (n : ℕ). numbered n x.line ∷ made) (h.0 ∙ sym k.0)
-      ∙ (ap (λ (said : Option Line). numbered y.number said ∷ made) (one_at_place end line x.line y.line h.1 k.1)
+      ap (λ (n : ℕ). item n x.line ∷ made) (h.0 ∙ sym k.0)
+      ∙ (ap (λ (said : Option Line). item y.number said ∷ made) (one_at_place end line x.line y.line h.1 k.1)
       ∙ ap (λ (left : List Numbered). y ∷ left) (one made others h.2 k.2))
 
   one_of_both : (test : Bool) (made others : List Numbered) → MatchBool test (AreOthers made) (IsNext number end line AreOthers made) → MatchBool test (AreOthers others) (IsNext number end line AreOthers others) → made ≡ others
@@ -164,9 +162,6 @@ one_numbering : (number at : ℕ) (pieces : List (List ℕ × ℕ)) (made others
 one_numbering number at [] made others h k = h ∙ sym k
 one_numbering number at ((line, size) ∷ pieces) made others h k =
     one_of_both number (at + size) line (AreNumbered (number + 1) (at + size) pieces) (one_numbering (number + 1) (at + size) pieces) (is_passed (at + size) line) made others h k
-
-abbrev text_lines : List Numbered → ℕ → TextLines
-text_lines made behind = record { lines = made; behind = behind }
 
 pub one_text : (text : List ℕ) (made others : TextLines) → AreLinesOf text made → AreLinesOf text others → made ≡ others
 one_text text made others h k =

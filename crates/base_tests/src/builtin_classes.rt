@@ -1,9 +1,11 @@
-use builtin_world::{MachineException, builtin, builtin_at, builtins};
+use builtin_world::{MachineException, builtin, builtin_at, builtin_named, builtins};
 
 #[test]
 fn each_class_is_found_by_name_and_by_number(rt: HostRuntime) {
     for class in builtins() {
         assert!(rt; builtin(class.name).is_some_and(|same| same.number == class.number));
+        let bytes = class.name.as_bytes();
+        assert!(rt; builtin_named(bytes).is_some_and(|same| same.number == class.number));
         assert!(rt; builtin_at(class.number).is_some_and(|same| same.name == class.name));
     }
 }

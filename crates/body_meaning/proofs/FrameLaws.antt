@@ -5,7 +5,7 @@ use Rattle.std.proofs.lemmas.Bool.{and_parts, leb-true}
 use Rattle.std.proofs.lemmas.Option.{same_Some}
 use Rattle.class_walk.specs.declared.class.Constant.{Constant}
 use Rattle.class_walk.specs.Layout.{IsCounted}
-use Rattle.class_read.specs.Pool.{IsClassAt}
+use Rattle.class_pool.specs.Pool.{IsClassAt}
 use Rattle.assembly_lines.specs.declared.frame.FrameItem.{FrameItem}
 use Rattle.assembly_lines.specs.declared.frame.FrameItem.TheVariants as items
 use Rattle.code_write.specs.declared.frames.VerificationType.{VerificationType}

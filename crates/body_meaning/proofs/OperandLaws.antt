@@ -1,6 +1,6 @@
 -- The operands that are made of what a line says are fine.
 use Rattle.std.proofs.Common.{◌≡◌, ℕ, ◌^◌, ◌<◌, ℤ, Bool, true, false, List, Option, Some, FitsSigned, refl, sym, ap, subst, ◌∙◌, inl, inr}
-use Rattle.std.specs.Int.{w16, w32}
+use Rattle.std.specs.Int.{w8, w16, w32}
 use Rattle.std.specs.List.{AllByRecursion}
 use Rattle.std.proofs.lemmas.Option.{same_Some}
 use Rattle.class_walk.specs.declared.class.Constant.{Constant}
@@ -23,7 +23,7 @@ use Rattle.method_make.specs.Operands.{loaded_item, operands_of}
 use Rattle.method_make.proofs.GrowLaws.{used_is}
 use Rattle.method_make.proofs.ShapeLaws.{parts_of, known_of, found_parts}
 use Rattle.body_meaning.proofs.GrammarLaws.{HasIntKey, May}
-use Rattle.body_meaning.proofs.WritesLaws.{Fine, narrow_8, narrow_16, byte_is, labels_lead, cases_written, keys_fit}
+use Rattle.body_meaning.proofs.WritesLaws.{Fine, narrow_is, byte_is, labels_lead, cases_written, keys_fit}
 
 -- the operands are fine with each pool that the pool grows to
 pub record Made (marks : Marks) (form : Form) (said : lines.Operands) (pool : List Constant) (x : List Constant × Operands ℕ) : Type 0 where
@@ -57,15 +57,15 @@ module _ (marks : Marks) (form : Form) (said : lines.Operands) where
 byte_int_fine : (marks : Marks) (pool : List Constant) (n : ℤ) (o : Operands ℕ) → int_operand forms.ByteInt n ≡ Some o → Fine marks pool forms.ByteInt (said.Number n) o
 unfolding int_operand
 byte_int_fine marks pool n o e =
-    let p = found_parts (narrow 7 n) (λ k. Some (Byte k)) o e in
-    let is = narrow_8 n p.value p.first_is in
+    let p = found_parts (narrow w8 n) (λ k. Some (Byte k)) o e in
+    let is = narrow_is w8 n p.value p.first_is in
     fine_by marks forms.ByteInt (said.Number n) pool (Byte p.value) o p.next_is (record { suits = tt; widths = is.1; writes = ap (λ (k : ℤ). Byte k) is.0 })
 
 short_int_fine : (marks : Marks) (pool : List Constant) (n : ℤ) (o : Operands ℕ) → int_operand forms.ShortInt n ≡ Some o → Fine marks pool forms.ShortInt (said.Number n) o
 unfolding int_operand
 short_int_fine marks pool n o e =
-    let p = found_parts (narrow 15 n) (λ k. Some (Short k)) o e in
-    let is = narrow_16 n p.value p.first_is in
+    let p = found_parts (narrow w16 n) (λ k. Some (Short k)) o e in
+    let is = narrow_is w16 n p.value p.first_is in
     fine_by marks forms.ShortInt (said.Number n) pool (Short p.value) o p.next_is (record { suits = tt; widths = is.1; writes = ap (λ (k : ℤ). Short k) is.0 })
 
 local_fine : (marks : Marks) (pool : List Constant) (access : _) (wide : Bool) (n : ℕ) (o : Operands ℕ) → n < 2 ^ 16 → local_operand wide n ≡ Some o → Fine marks pool (forms.Local access) (said.Local n) o
@@ -83,10 +83,10 @@ unfolding increment_operand
 increment_fine marks pool true n by o small fits e =
     fine_by marks forms.Increment (said.Increment n by) pool (WideIncrement n by) o e (record { suits = tt; widths = (small, fits); writes = inr refl })
 increment_fine marks pool false n by o small fits e =
-    let p = found_parts (byte n) (λ k. narrow 7 by >>= λ z. Some (Increment k z)) o e in
-    let q = found_parts (narrow 7 by) (λ z. Some (Increment p.value z)) o p.next_is in
+    let p = found_parts (byte n) (λ k. narrow w8 by >>= λ z. Some (Increment k z)) o e in
+    let q = found_parts (narrow w8 by) (λ z. Some (Increment p.value z)) o p.next_is in
     let is = byte_is n p.value p.first_is in
-    let by_is = narrow_8 by q.value q.first_is in
+    let by_is = narrow_is w8 by q.value q.first_is in
     let same : Increment p.value q.value ≡ Increment n by = ap (λ (k : ℕ). Increment k q.value) is.0 ∙ ap (λ (z : ℤ). Increment n z) by_is.0 in
     fine_by marks forms.Increment (said.Increment n by) pool (Increment p.value q.value) o q.next_is (record { suits = tt; widths = (is.1, by_is.1); writes = inl same })
 

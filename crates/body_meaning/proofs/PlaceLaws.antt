@@ -11,7 +11,7 @@ use Rattle.code_steps.specs.CodeArray.{by_offsets}
 use Rattle.code_write.specs.declared.operands.Written.{Written}
 use Rattle.code_write.specs.Instruction.{instruction_bytes, operand_bytes, wide_bytes}
 use Rattle.code_write.specs.Meaning.{code_bytes, AreMeant}
-use Rattle.assembly_lines.proofs.Cases.{chosen}
+use Rattle.class_names.proofs.Cases.{chosen}
 use Rattle.body_meaning.proofs.RowLaws.{same_number}
 
 -- an offset between or behind instructions, and how many stand before it; the first one stands at this offset, and so

@@ -5,7 +5,7 @@ use Rattle.std.proofs.lemmas.Bool.{and_parts, leb-true, eqb-true, cases_Bool}
 use Rattle.std.proofs.lemmas.Bool.Decides.{Decides-eqb}
 use Rattle.std.proofs.lemmas.Option.{same_Some}
 use Rattle.instructions.specs.Table.{Instruction, table, row_numbered, row_named}
-use Rattle.assembly_lines.proofs.Cases.{chosen}
+use Rattle.class_names.proofs.Cases.{chosen}
 
 -- two numbers that aren't the same
 pub other_number : (m n : ℕ) → (m ≡ n → ⊥) → nat_eq m n ≡ false

@@ -1,6 +1,6 @@
 -- What operands are written for the ones that a line says.
-use Rattle.std.proofs.Common.{◌≡◌, ℕ, ◌^◌, ◌<◌, ℤ, pos, negsuc, true, cond, nat_lt, List, [], ◌∷◌, Some, None, FitsSigned, All, refl, sym, ap, subst, ◌∙◌, ◌⊎◌, ltb-true}
-use Rattle.std.specs.Int.{w8, w16, w32}
+use Rattle.std.proofs.Common.{◌≡◌, ℕ, ◌^◌, ◌<◌, ℤ, true, cond, nat_lt, List, [], ◌∷◌, Some, None, FitsSigned, All, refl, sym, ap, subst, ◌∙◌, ◌⊎◌, ltb-true}
+use Rattle.std.specs.Int.{Width, w32}
 use Rattle.std.specs.List.{AllByRecursion, AllZip}
 use Rattle.std.proofs.lemmas.Option.{same_Some}
 use Rattle.std.proofs.lemmas.List.Elements.{All-nil, All-cons}
@@ -16,7 +16,7 @@ use Rattle.code_write.specs.declared.operands.Operands.{Operands}
 use Rattle.code_write.specs.declared.operands.Operands.TheVariants.{Byte, Short, ByteIndex, Index, Local, WideLocal, Increment, WideIncrement, Near, Far, TableSwitch, LookupSwitch, InterfaceCall, NewArray}
 use Rattle.code_write.specs.Instruction.{HasKey, HasWidths}
 use Rattle.pool_make.specs.Items.{long, class_named, field, method, interface_method, IsItemAt}
-use Rattle.method_make.specs.Making.{fits_signed}
+use Rattle.method_make.specs.Tests.{fits_signed}
 use Rattle.method_make.specs.Labels.{Marks}
 use Rattle.method_make.specs.Offsets.{each, offset_of, short_offset_of, case_of, narrow, byte}
 use Rattle.method_make.specs.Operands.{loaded_item}
@@ -66,21 +66,9 @@ pub record Fine (marks : Marks) (pool : List Constant) (form : Form) (said : lin
 
 -- ---- parts that are found
 
-fits_8 : (n : ℤ) → fits_signed 7 n ≡ true → FitsSigned w8 n
-fits_8 (pos n) e = record { sfits = ltb-true n (2 ^ 7) e }
-fits_8 (negsuc n) e = record { sfits = ltb-true n (2 ^ 7) e }
-
-fits_16 : (n : ℤ) → fits_signed 15 n ≡ true → FitsSigned w16 n
-fits_16 (pos n) e = record { sfits = ltb-true n (2 ^ 15) e }
-fits_16 (negsuc n) e = record { sfits = ltb-true n (2 ^ 15) e }
-
-pub narrow_8 : (n k : ℤ) → narrow 7 n ≡ Some k → (k ≡ n) × FitsSigned w8 k
+pub narrow_is : (w : Width) (n k : ℤ) → narrow w n ≡ Some k → (k ≡ n) × FitsSigned w k
 unfolding narrow
-narrow_8 n k e = let is = chosen (fits_signed 7 n) n k e in (is.1, subst (λ (m : ℤ). FitsSigned w8 m) (sym is.1) (fits_8 n is.0))
-
-pub narrow_16 : (n k : ℤ) → narrow 15 n ≡ Some k → (k ≡ n) × FitsSigned w16 k
-unfolding narrow
-narrow_16 n k e = let is = chosen (fits_signed 15 n) n k e in (is.1, subst (λ (m : ℤ). FitsSigned w16 m) (sym is.1) (fits_16 n is.0))
+narrow_is w n k e = let is = chosen (fits_signed w n).holds n k e in (is.1, subst (λ (m : ℤ). FitsSigned w m) (sym is.1) ((fits_signed w n).tells.0 is.0))
 
 pub byte_is : (n k : ℕ) → byte n ≡ Some k → (k ≡ n) × (k < 2 ^ 8)
 unfolding byte

@@ -2,7 +2,7 @@
 use Rattle.std.specs.Prelude.{◌≡◌, ℕ, List, Option, Some, None}
 use Rattle.std.specs.List.{AllZip}
 use Rattle.class_walk.specs.declared.class.Constant.{Constant}
-use Rattle.class_read.specs.Pool.{IsClassAt}
+use Rattle.class_pool.specs.Pool.{IsClassAt}
 use Rattle.instructions.specs.declared.what.Instr.{Instr}
 use Rattle.instructions.specs.declared.what.Target.{Target}
 use Rattle.instructions.specs.Steps.{number_at}

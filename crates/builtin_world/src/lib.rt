@@ -128,6 +128,17 @@ pub fn builtin(name: &str) -> Option<BuiltinClass>
     ensures numbered { IfSome result (λ c. (0 < c.number) × (c.number ≤ COUNT)) }
     ensures super_first { IfSome result (λ c. c.super_number < c.number) }
 {
+    builtin_named(name.as_bytes())
+}
+
+/// The built-in class of a name that is given by its bytes, and `None` exactly where no built-in class has it.
+pub fn builtin_named(name: &[u8]) -> Option<BuiltinClass>
+    ensures row { option_map shown_class result ≡ row_named name.now }
+    ensures found { IsSome result ↔ Contains (map (λ r. r.name) rows) name.now }
+    ensures named { IfSome result (λ c. c.name.now ≡ name.now) }
+    ensures numbered { IfSome result (λ c. (0 < c.number) × (c.number ≤ COUNT)) }
+    ensures super_first { IfSome result (λ c. c.super_number < c.number) }
+{
     find_named(builtins(), name)
 }
 
@@ -143,10 +154,13 @@ pub fn builtin_at(number: u32) -> Option<BuiltinClass>
 }
 
 // The first of some classes that has a name.
-fn find_named(classes: &[BuiltinClass], name: &str) -> Option<BuiltinClass>
+fn find_named(classes: &[BuiltinClass], name: &[u8]) -> Option<BuiltinClass>
     ensures { result ≡ find (λ c. bytes_eq c.name.now name.now) classes.now }
 {
-    classes.iter().find(|class| class.name == name).copied()
+    classes
+        .iter()
+        .find(|class| class.name.as_bytes() == name)
+        .copied()
 }
 
 // The class at an index of some classes.

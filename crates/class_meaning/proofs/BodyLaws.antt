@@ -1,12 +1,12 @@
 -- The numbers of a body have two bytes, as far as it is made.
 use Rattle.std.proofs.Common.{◌≡◌, ℕ, ◌^◌, ◌<◌, ltb, List, [], ◌∷◌, ◌++◌, length, Option, Some, None, sym, ap, subst, arith, length-append}
 use Rattle.std.specs.Prelude.{codes}
-use Rattle.std.specs.List.{AllByRecursion}
 use Rattle.std.proofs.lemmas.Bool.Decides.{Decides-ltb}
 use Rattle.class_walk.specs.declared.class.Constant.{Constant}
 use Rattle.class_walk.specs.declared.class.RawHandler.{RawHandler}
-use Rattle.class_walk.specs.Layout.{IsCounted, IsHandler}
-use Rattle.class_read.specs.Pool.{IsUtf8At}
+use Rattle.class_walk.specs.Layout.{IsCounted, IsRawHandler}
+use Rattle.class_names.proofs.Cases.{all_pushed}
+use Rattle.class_pool.specs.Pool.{IsUtf8At}
 use Rattle.assembly_lines.specs.declared.line.Line.{Line}
 use Rattle.assembly_lines.specs.declared.line.Line.TheVariants as kinds
 use Rattle.assembly_lines.specs.declared.line.Room.{Room}
@@ -38,15 +38,11 @@ pub record IsSoundBody (last : List Constant) (body : MadeBody) : Type 0 where
   pub stack : body.stack < 2 ^ 16
   pub locals : body.locals < 2 ^ 16
   pub code : length body.code < 2 ^ 16
-  pub handlers : IsCounted IsHandler body.handlers
+  pub handlers : IsCounted IsRawHandler body.handlers
   pub map_name : IsMapName last body.map_name
 
 pub begun_sound : (last : List Constant) (room : Room) → room.stack < 2 ^ 16 → room.locals < 2 ^ 16 → IsSoundBody last (begun room)
 begun_sound last room stack locals = record { stack = stack; locals = locals; code = omega arith; handlers = (omega arith, tt); map_name = tt }
-
-pub all_pushed : {X : Type 0} (P : X → Type 0) (xs : List X) (x : X) → AllByRecursion P xs → P x → AllByRecursion P (xs ++ x ∷ [])
-all_pushed P [] x all here = (here, tt)
-all_pushed P (y ∷ ys) x all here = (all.0, all_pushed P ys x all.1 here)
 
 -- ---- instructions
 
@@ -57,7 +53,7 @@ instruction_sound last operation old new puts is =
       stack = omega (arith, ap (λ (b : MadeBody). b.stack) new_is, is.stack);
       locals = omega (arith, ap (λ (b : MadeBody). b.locals) new_is, is.locals);
       code = puts.room;
-      handlers = subst (λ (hs : List RawHandler). IsCounted IsHandler hs) (sym (ap (λ (b : MadeBody). b.handlers) new_is)) is.handlers;
+      handlers = subst (λ (hs : List RawHandler). IsCounted IsRawHandler hs) (sym (ap (λ (b : MadeBody). b.handlers) new_is)) is.handlers;
       map_name = subst (IsMapName last) (sym (ap (λ (b : MadeBody). b.map_name) new_is)) is.map_name;
     }
 
@@ -71,7 +67,7 @@ caught_short None pool x e =
     omega (arith, is)
 caught_short (Some class) pool x e = (used_is (class_named class) pool x e).short
 
-put_sound : (last : List Constant) (handler : RawHandler) (old new : MadeBody) → IsHandler handler → put_handler handler old ≡ Some new → IsSoundBody last old → IsSoundBody last new
+put_sound : (last : List Constant) (handler : RawHandler) (old new : MadeBody) → IsRawHandler handler → put_handler handler old ≡ Some new → IsSoundBody last old → IsSoundBody last new
 unfolding put_handler
 put_sound last handler old new right e is =
     let got = chosen (ltb (length old.handlers) 65535) (record old { handlers = old.handlers ++ handler ∷ [] }) new e in
@@ -82,7 +78,7 @@ put_sound last handler old new right e is =
       stack = omega (arith, ap (λ (b : MadeBody). b.stack) new_is, is.stack);
       locals = omega (arith, ap (λ (b : MadeBody). b.locals) new_is, is.locals);
       code = omega (arith, ap (λ (b : MadeBody). length b.code) new_is, is.code);
-      handlers = subst (λ (hs : List RawHandler). IsCounted IsHandler hs) (sym (ap (λ (b : MadeBody). b.handlers) new_is)) (count, all_pushed IsHandler old.handlers handler is.handlers.1 right);
+      handlers = subst (λ (hs : List RawHandler). IsCounted IsRawHandler hs) (sym (ap (λ (b : MadeBody). b.handlers) new_is)) (count, all_pushed IsRawHandler old.handlers handler is.handlers.1 right);
       map_name = subst (IsMapName last) (sym (ap (λ (b : MadeBody). b.map_name) new_is)) is.map_name;
     }
 
@@ -95,7 +91,7 @@ handler_sound last marks from to at class old pool x e is =
     let r = parts_of (with_pool q.made.0 (short_offset_of marks at)) _ x q.next_is in
     let k = parts_of (caught class r.made.0) _ x r.next_is in
     let handler : RawHandler = record { from = p.made.1; to = q.made.1; at = r.made.1; kind = k.made.1 } in
-    let right : IsHandler handler = record {
+    let right : IsRawHandler handler = record {
       from = (short_leads marks from p.made.1 (found_of pool (short_offset_of marks from) p.made p.first_is)).1;
       to = (short_leads marks to q.made.1 (found_of p.made.0 (short_offset_of marks to) q.made q.first_is)).1;
       at = (short_leads marks at r.made.1 (found_of q.made.0 (short_offset_of marks at) r.made r.first_is)).1;
@@ -120,7 +116,7 @@ put_frame_sound last name locals stack old new named e is =
       stack = omega (arith, ap (λ (b : MadeBody). b.stack) new_is, is.stack);
       locals = omega (arith, ap (λ (b : MadeBody). b.locals) new_is, is.locals);
       code = omega (arith, ap (λ (b : MadeBody). length b.code) new_is, is.code);
-      handlers = subst (λ (hs : List RawHandler). IsCounted IsHandler hs) (sym (ap (λ (b : MadeBody). b.handlers) new_is)) is.handlers;
+      handlers = subst (λ (hs : List RawHandler). IsCounted IsRawHandler hs) (sym (ap (λ (b : MadeBody). b.handlers) new_is)) is.handlers;
       map_name = subst (IsMapName last) (sym (ap (λ (b : MadeBody). b.map_name) new_is)) named;
     }
 

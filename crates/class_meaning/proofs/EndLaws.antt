@@ -5,7 +5,7 @@ use Rattle.std.specs.List.{AllZip}
 use Rattle.std.proofs.lemmas.List.{append-nil}
 use Rattle.class_walk.specs.declared.class.Constant.{Constant}
 use Rattle.class_walk.specs.Layout.{spelling}
-use Rattle.class_read.specs.Pool.{IsClassAt}
+use Rattle.class_pool.specs.Pool.{IsClassAt}
 use Rattle.assembly_lines.specs.declared.line.Line.{Line}
 use Rattle.assembly_lines.specs.declared.line.Line.TheVariants as kinds
 use Rattle.assembly_text.specs.declared.lines.Numbered.{Numbered}

@@ -13,12 +13,12 @@ use Rattle.class_walk.specs.Reading as reading
 use Rattle.class_walk.proofs.CodeLaws.{content_some}
 use Rattle.class_read.specs.declared.class_file.CodeAttribute.{CodeAttribute}
 use Rattle.class_read.specs.AttributeRules as rules_of
-use Rattle.class_read.specs.AttributeRules.{has, named, index_in, constant_of, code_attribute, code_in, code_of_method}
+use Rattle.class_read.specs.AttributeRules.{has, named, index_in, constant_of, code_attribute, code_in}
 use Rattle.class_read.specs.MemberRules.{field_of, method_of}
-use Rattle.class_read.specs.Pool.{IsUtf8At}
-use Rattle.class_read.specs.PoolTest.{is_text}
+use Rattle.class_pool.specs.Pool.{IsUtf8At}
+use Rattle.class_pool.specs.PoolTest.{is_text}
 use Rattle.class_read.proofs.Numbers.{u2-split}
-use Rattle.class_read.proofs.PoolLaws.{is_text-Decides}
+use Rattle.class_pool.proofs.PoolLaws.{is_text-Decides}
 use Rattle.code_decode.specs.declared.code.Code.{Code}
 use Rattle.code_decode.specs.Code.{IsCode}
 use Rattle.assembly_lines.specs.declared.line.FieldValue.{FieldValue}

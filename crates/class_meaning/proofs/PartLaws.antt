@@ -7,7 +7,7 @@ use Rattle.class_walk.specs.declared.class.Constant.{Constant}
 use Rattle.class_walk.specs.declared.class.RawAttribute.{RawAttribute}
 use Rattle.class_walk.specs.declared.class.RawMember.{RawMember}
 use Rattle.class_walk.specs.Layout.{u2, code_spelling}
-use Rattle.class_read.specs.Pool.{IsUtf8At, IsClassAt}
+use Rattle.class_pool.specs.Pool.{IsUtf8At, IsClassAt}
 use Rattle.assembly_lines.specs.declared.line.FieldValue.{FieldValue}
 use Rattle.assembly_lines.specs.declared.line.Room.{Room}
 use Rattle.pool_make.specs.Items.{text, class_named}

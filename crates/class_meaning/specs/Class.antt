@@ -6,7 +6,7 @@ use Rattle.class_read.specs.declared.class_file.ClassFile.{ClassFile}
 use Rattle.class_read.specs.declared.class_file.CodeAttribute.{CodeAttribute}
 use Rattle.class_read.specs.declared.class_file.Member.{Member}
 use Rattle.class_read.specs.AttributeRules.{has}
-use Rattle.class_read.specs.Pool.{IsUtf8At, IsClassAt}
+use Rattle.class_pool.specs.Pool.{IsUtf8At, IsClassAt}
 use Rattle.code_decode.specs.declared.code.Code.{Code}
 use Rattle.code_decode.specs.Code.{IsCode}
 use Rattle.assembly_lines.specs.declared.line.FieldValue.{FieldValue}

@@ -4,3 +4,4 @@ pub mod KindLaws
 pub mod ParameterLaws
 pub mod DescriptorLaws
 pub mod TextLaws
+pub mod FormLaws

@@ -10,7 +10,7 @@ use Rattle.class_names.specs.declared.kind.BaseKind.{BaseKind}
 use Rattle.class_names.specs.declared.kind.BaseKind.TheVariants.{Int, Byte, Char, Short, Boolean, Long, Float, Double, Class}
 use Rattle.class_names.specs.Descriptor.{base_text, kind_text, IsKind, words_of, parameter_words_of, KindsAt, ParametersAt}
 use Rattle.class_names.specs.Reading.{kind_at}
-use Rattle.class_names.proofs.Cases.{first_same, second_same}
+use Rattle.class_names.proofs.Cases.{first_same, second_same, all_pushed}
 use Rattle.class_names.proofs.KindLaws.{kind_takes, kind_again, no_kind_at_close}
 
 -- all the kinds up to a ) are these and more, and the rest is the others
@@ -60,16 +60,12 @@ one_more (first ∷ more) rest after kind behind r some =
     let one : Some (first, flat_map kind_text more ++ 41 ∷ after) ≡ Some (kind, behind) = sym there ∙ (sym same ∙ some) in
     record { others = more; whole = ap (λ (f : Kind). f ∷ more) (first_same _ _ one) }
 
-All-push : {A : Type 0} (P : A → Type 0) (xs : List A) (x : A) → AllByRecursion P xs → P x → AllByRecursion P (xs ++ x ∷ [])
-All-push P [] x h p = (p, tt)
-All-push P (y ∷ xs) x h p = (h.0, All-push P xs x h.1 p)
-
 -- one kind more
 pub reads_more : (bytes : List ℕ) (kinds : List Kind) (rest : List ℕ) (kind : Kind) (behind : List ℕ) → KindsAt bytes kinds rest → kind_at rest ≡ Some (kind, behind) → KindsAt bytes (kinds ++ kind ∷ []) behind
 reads_more bytes kinds rest kind behind r some =
     let t = kind_takes rest kind behind some in
     record {
-      each = All-push IsKind kinds kind r.each t.good;
+      each = all_pushed IsKind kinds kind r.each t.good;
       spelled = r.spelled ∙ (ap (λ (xs : List ℕ). flat_map kind_text kinds ++ xs) t.spelled ∙ (sym (append_assoc (flat_map kind_text kinds) (kind_text kind) behind)
           ∙ ap (λ (xs : List ℕ). xs ++ behind) (sym (flat_map-append kind_text kinds (kind ∷ []) ∙ ap (λ (xs : List ℕ). flat_map kind_text kinds ++ xs) (append-nil (kind_text kind))))));
     }

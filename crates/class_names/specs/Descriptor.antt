@@ -70,7 +70,7 @@ abbrev pub method_text : List Kind → Option Kind → List ℕ
 method_text parameters returned = 40 ∷ (flat_map kind_text parameters ++ 41 ∷ return_text returned)
 
 -- The parameters take at most 255 words.
-pub record IsMethodType (parameters : List Kind) (returned : Option Kind) : Type 0 where
+pub record AreMethodKinds (parameters : List Kind) (returned : Option Kind) : Type 0 where
   pub each : AllByRecursion IsKind parameters
   pub words : parameter_words_of parameters ≤ 255
   pub result : IfSome returned IsKind
@@ -82,7 +82,7 @@ pub record IsFieldDescriptor (bytes : List ℕ) (kind : Kind) : Type 0 where
 
 -- The bytes are the descriptor of a method of these parameters and this result.
 pub record IsMethodDescriptor (bytes : List ℕ) (parameters : List Kind) (returned : Option Kind) : Type 0 where
-  pub good : IsMethodType parameters returned
+  pub good : AreMethodKinds parameters returned
   pub spelled : bytes ≡ method_text parameters returned
 
 abbrev pub IsDescriptorOf : List ℕ → Descriptor → Type 0

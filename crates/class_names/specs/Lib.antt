@@ -5,3 +5,4 @@ pub mod Shape
 pub mod MethodShape
 pub mod ModifiedUtf8
 pub mod ReadingText
+pub mod ShortestForms

@@ -2,13 +2,14 @@
 use Rattle.std.proofs.Common.{◌≡◌, ℕ, ◌+◌, ◌≤◌, Bool, List, length, take, slice_get, Option, None, Some, Bor, refl, sym, ◌∙◌, ap, subst, find, is_some, option_copied}
 use Rattle.std.specs.Option.{option_and_then}
 use Rattle.std.proofs.lemmas.List.{take_all}
-use Rattle.class_read.specs.Rules.{Rules, HoldBelow, each}
-use Rattle.class_read.specs.declared.refusal.ReadRefusal.{ReadRefusal}
-use Rattle.class_read.specs.Rules.{Refuses}
-use Rattle.class_read.proofs.RuleLaws.{one_more, refuses_at}
+use Rattle.rules.specs.Rules.{Rules, HoldBelow, each}
+use Rattle.class_pool.specs.declared.refusal.ReadRefusal.{ReadRefusal}
+use Rattle.class_pool.specs.Answers.{Refuses}
+use Rattle.rules.proofs.RuleLaws.{one_more}
+use Rattle.class_pool.proofs.RuleLaws.{refuses_at}
 
 -- the rules of each item, where an earlier one has passed the test or hasn't
-abbrev pub rules_once : {X : Type 0} → (Bool → X → Rules) → (X → Bool) → List X → ℕ → X → Rules
+abbrev pub rules_once : {X : Type 0} → (Bool → X → Rules ReadRefusal) → (X → Bool) → List X → ℕ → X → Rules ReadRefusal
 rules_once rules test xs = λ i x. rules (is_some (find test (take i xs))) x
 
 is_some_copied : {X : Type 0} (o : Option (Bor X)) → is_some (option_copied o) ≡ is_some o
@@ -19,12 +20,12 @@ is_some_copied (Some x) = refl
 pub earlier_is : {X : Type 0} (o : Option (Bor X)) (found : Option X) (earlier : Bool) → earlier ≡ is_some o → option_copied o ≡ found → earlier ≡ is_some found
 earlier_is {X} o found earlier e same = e ∙ sym (is_some_copied o) ∙ ap (λ (p : Option X). is_some p) same
 
-pub holds_below : {X : Type 0} (rules : Bool → X → Rules) (test : X → Bool) (xs : List X) (i : ℕ) (x : X) (earlier : Bool) → slice_get xs i ≡ Some x → earlier ≡ is_some (find test (take i xs)) → (rules earlier x).Hold → HoldBelow (rules_once rules test xs) xs i → HoldBelow (rules_once rules test xs) xs (i + 1)
+pub holds_below : {X : Type 0} (rules : Bool → X → Rules ReadRefusal) (test : X → Bool) (xs : List X) (i : ℕ) (x : X) (earlier : Bool) → slice_get xs i ≡ Some x → earlier ≡ is_some (find test (take i xs)) → (rules earlier x).Hold → HoldBelow (rules_once rules test xs) xs i → HoldBelow (rules_once rules test xs) xs (i + 1)
 holds_below rules test xs i x earlier at e here below =
     let P : Bool → Type 0 = λ b. (rules b x).Hold in
     one_more (rules_once rules test xs) xs i x at below (subst P e here)
 
-pub refuses_once : {X : Type 0} (rules : Bool → X → Rules) (test : X → Bool) (xs : List X) (i : ℕ) (x : X) (earlier : Bool) (e : ReadRefusal) → slice_get xs i ≡ Some x → earlier ≡ is_some (find test (take i xs)) → HoldBelow (rules_once rules test xs) xs i → Refuses e (rules earlier x) → Refuses e (each (rules_once rules test xs) xs)
+pub refuses_once : {X : Type 0} (rules : Bool → X → Rules ReadRefusal) (test : X → Bool) (xs : List X) (i : ℕ) (x : X) (earlier : Bool) (e : ReadRefusal) → slice_get xs i ≡ Some x → earlier ≡ is_some (find test (take i xs)) → HoldBelow (rules_once rules test xs) xs i → Refuses e (rules earlier x) → Refuses e (each (rules_once rules test xs) xs)
 refuses_once rules test xs i x earlier e at same below refused =
     let P : Bool → Type 0 = λ b. Refuses e (rules b x) in
     refuses_at (rules_once rules test xs) xs i x e at below (subst P same refused)

@@ -1,12 +1,8 @@
-pub mod PoolLaws
 pub mod Numbers
 pub mod ScanLaws
 pub mod ScanSound
 pub mod PrintsLaws
-pub mod Lists
 pub mod StraightLaws
-pub mod RuleLaws
-pub mod PoolMarkLaws
 pub mod FindLaws
 pub mod FoundLaws
 pub mod PlaceLaws

@@ -8,19 +8,20 @@ use Rattle.std.proofs.lemmas.List.{map-append}
 use Rattle.std.proofs.lemmas.Option.{same_Some}
 use Rattle.class_walk.specs.declared.class.Constant.{Constant}
 use Rattle.class_walk.specs.declared.class.RawMember.{RawMember}
-use Rattle.class_read.specs.declared.refusal.ReadRefusal.{ReadRefusal}
-use Rattle.class_read.specs.declared.refusal.ReadRefusal.TheVariants.{Member}
+use Rattle.class_pool.specs.declared.refusal.ReadRefusal.{ReadRefusal}
+use Rattle.class_pool.specs.declared.refusal.ReadRefusal.TheVariants.{Member}
 use Rattle.class_read.specs.MemberRules.{new_rules}
 use Rattle.class_read.specs.Repeats.{IsRepeated, IsFirstRepeat}
-use Rattle.class_read.specs.Rules.{Rules, HoldBelow, each, Refuses, ◌then◌}
-use Rattle.class_read.proofs.RuleLaws.{one_more}
+use Rattle.rules.specs.Rules.{Rules, HoldBelow, each, ◌then◌}
+use Rattle.class_pool.specs.Answers.{Refuses}
+use Rattle.rules.proofs.RuleLaws.{one_more}
 use Rattle.class_read.proofs.FindLaws.{take_next}
 
 -- the rules of a member by itself, and that it is new
-abbrev pub with_new : List Constant → List RawMember → (RawMember → Rules) → ℕ → RawMember → Rules
+abbrev pub with_new : List Constant → List RawMember → (RawMember → Rules ReadRefusal) → ℕ → RawMember → Rules ReadRefusal
 with_new pool members lone = λ i m. lone m then new_rules pool members i m
 
-pub refuses_lone : (pool : List Constant) (members : List RawMember) (lone : RawMember → Rules) (i : ℕ) (m : RawMember) (e : ReadRefusal) → slice_get members i ≡ Some m → HoldBelow (with_new pool members lone) members i → Refuses e (lone m) → Refuses e (each (with_new pool members lone) members)
+pub refuses_lone : (pool : List Constant) (members : List RawMember) (lone : RawMember → Rules ReadRefusal) (i : ℕ) (m : RawMember) (e : ReadRefusal) → slice_get members i ≡ Some m → HoldBelow (with_new pool members lone) members i → Refuses e (lone m) → Refuses e (each (with_new pool members lone) members)
 refuses_lone pool members lone i m e at below refused =
     elim refused [
       | inl no_memory ↦ inl no_memory
@@ -43,7 +44,7 @@ is_repeated pool members (Some a) i m first e at =
 differs : (i : ℕ) → (i == i) ≡ false → ⊥
 differs i e = grind (arith, nat_tests)
 
-pub is_new : (pool : List Constant) (members : List RawMember) (lone : RawMember → Rules) (repeat : Option ℕ) (i : ℕ) (m : RawMember) → IsFirstRepeat pool members repeat → option_eq nat_eq repeat (Some i) ≡ false → HoldBelow (with_new pool members lone) members i → slice_get members i ≡ Some m → ¬ IsRepeated pool members i m
+pub is_new : (pool : List Constant) (members : List RawMember) (lone : RawMember → Rules ReadRefusal) (repeat : Option ℕ) (i : ℕ) (m : RawMember) → IsFirstRepeat pool members repeat → option_eq nat_eq repeat (Some i) ≡ false → HoldBelow (with_new pool members lone) members i → slice_get members i ≡ Some m → ¬ IsRepeated pool members i m
 is_new pool members lone None i m first e below at = first i m at
 is_new pool members lone (Some a) i m first e below at =
     elim (cases_lt a i) [
@@ -57,12 +58,12 @@ is_new pool members lone (Some a) i m first e below at =
       ]
     ]
 
-pub refuses_repeat : (pool : List Constant) (members : List RawMember) (lone : RawMember → Rules) (repeat : Option ℕ) (i : ℕ) (m : RawMember) → IsFirstRepeat pool members repeat → option_eq nat_eq repeat (Some i) ≡ true → slice_get members i ≡ Some m → HoldBelow (with_new pool members lone) members i → (lone m).Hold → Refuses (Member m.at) (each (with_new pool members lone) members)
+pub refuses_repeat : (pool : List Constant) (members : List RawMember) (lone : RawMember → Rules ReadRefusal) (repeat : Option ℕ) (i : ℕ) (m : RawMember) → IsFirstRepeat pool members repeat → option_eq nat_eq repeat (Some i) ≡ true → slice_get members i ≡ Some m → HoldBelow (with_new pool members lone) members i → (lone m).Hold → Refuses (Member m.at) (each (with_new pool members lone) members)
 refuses_repeat pool members lone repeat i m first e at below here =
     let repeated = is_repeated pool members repeat i m first e at in
     inr (i, m, at, below, inr (here, ((λ new. new repeated), refl)))
 
-pub one_more_new : (pool : List Constant) (members : List RawMember) (lone : RawMember → Rules) (repeat : Option ℕ) (i : ℕ) (m : RawMember) → IsFirstRepeat pool members repeat → option_eq nat_eq repeat (Some i) ≡ false → slice_get members i ≡ Some m → HoldBelow (with_new pool members lone) members i → (lone m).Hold → HoldBelow (with_new pool members lone) members (i + 1)
+pub one_more_new : (pool : List Constant) (members : List RawMember) (lone : RawMember → Rules ReadRefusal) (repeat : Option ℕ) (i : ℕ) (m : RawMember) → IsFirstRepeat pool members repeat → option_eq nat_eq repeat (Some i) ≡ false → slice_get members i ≡ Some m → HoldBelow (with_new pool members lone) members i → (lone m).Hold → HoldBelow (with_new pool members lone) members (i + 1)
 one_more_new pool members lone repeat i m first e at below here =
     one_more (with_new pool members lone) members i m at below (here, is_new pool members lone repeat i m first e below at)
 

@@ -4,10 +4,10 @@ use Rattle.std.specs.List.{AllByRecursion}
 use Rattle.class_walk.specs.declared.class.Constant.{Constant}
 use Rattle.class_read.specs.declared.scan.Scan.TheVariants.{Between, Returned}
 use Rattle.class_read.specs.Expression.{Statement, IsStatement}
-use Rattle.class_read.specs.PoolTest.{has_field, has_method}
+use Rattle.class_pool.specs.PoolTest.{has_field, has_method}
 use Rattle.class_read.specs.Scan.{step}
 use Rattle.class_read.specs.StraightClass.{system_out, println_int, IsPrintln, PrintsSome}
-use Rattle.class_read.proofs.PoolLaws.{has_field-Decides, has_method-Decides}
+use Rattle.class_pool.proofs.PoolLaws.{has_field-Decides, has_method-Decides}
 use Rattle.class_read.proofs.ScanLaws.{IsRight, statements-scanned}
 use Rattle.class_read.proofs.ScanSound.{statements-found}
 

@@ -3,12 +3,12 @@ use Rattle.std.proofs.Common.{◌≡◌, ℕ, List, IfOk, Result, Ok, Err, inl, 
 use Rattle.class_walk.specs.declared.class.RawClass.{RawClass}
 use Rattle.class_walk.specs.declared.refusal.WalkFault.{WalkFault}
 use Rattle.class_read.specs.declared.class_file.ClassFile.{ClassFile}
-use Rattle.class_read.specs.declared.refusal.ReadRefusal.{ReadRefusal}
+use Rattle.class_pool.specs.declared.refusal.ReadRefusal.{ReadRefusal}
 use Rattle.class_read.specs.ClassFile.{class_of, IsFile, IsRead, IsRefused}
 use Rattle.class_walk.specs.Layout.{IsClassFile}
 use Rattle.class_read.proofs.SoundLaws.{holds_sound}
 use Rattle.class_read.specs.ClassRules.{class_rules}
-use Rattle.class_read.specs.Rules.{Gives}
+use Rattle.class_pool.specs.Answers.{Gives}
 use Rattle.class_read.proofs.SharpLaws.{sharp_class}
 
 abbrev walked : RawClass → Result RawClass WalkFault

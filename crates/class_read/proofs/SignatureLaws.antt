@@ -6,9 +6,9 @@ use Rattle.std.proofs.lemmas.Option.{same_Some, slice_get-map}
 use Rattle.class_walk.specs.declared.class.Constant.{Constant}
 use Rattle.class_walk.specs.declared.class.Constant.TheVariants.{Utf8}
 use Rattle.class_walk.specs.declared.class.RawMember.{RawMember}
-use Rattle.class_read.specs.Pool.{IsUtf8At}
-use Rattle.class_read.specs.Repeats.{has_text, number_in, number_of, numbers_of, number_at, both, key_of, IsSameText, IsSameSignature, IsRepeated, IsFirstRepeat, HasRepeatedKey, IsFirstRepeatedKey}
-use Rattle.class_read.proofs.PoolLaws.{is_text-Decides}
+use Rattle.class_pool.specs.Pool.{IsUtf8At}
+use Rattle.class_read.specs.Repeats.{has_text, number_in, number_of, numbers_of, text_number_at, both, key_of, IsSameText, IsSameSignature, IsRepeated, IsFirstRepeat, HasRepeatedKey, IsFirstRepeatedKey}
+use Rattle.class_pool.proofs.PoolLaws.{is_text-Decides}
 
 -- the item at the place that was found passes
 passes_there : {X : Type 0} (test : X → Bool) (k : ℕ) (xs : List X) (n : ℕ) → position_from test k xs ≡ Some n → (j : ℕ) × (x : X) × (n ≡ k + j) × (slice_get xs j ≡ Some x) × (test x ≡ true)
@@ -53,7 +53,7 @@ one_text pool x y n e f =
     cc
 
 -- the number at an index is that of the text that stands there
-number_at_is : (pool : List Constant) (index : ℕ) → number_at (numbers_of pool) index ≡ option_and_then (λ (c : Constant). number_of pool c) (slice_get pool index)
+number_at_is : (pool : List Constant) (index : ℕ) → text_number_at (numbers_of pool) index ≡ option_and_then (λ (c : Constant). number_of pool c) (slice_get pool index)
 number_at_is pool index = rw (slice_get-map (number_of pool) pool index) (joined (slice_get pool index))
   where
     joined : (o : Option Constant) → option_and_then (λ (n : Option ℕ). n) (option_map (number_of pool) o) ≡ option_and_then (λ (c : Constant). number_of pool c) o
@@ -65,16 +65,16 @@ text_of_number pool None n e = absurd cc
 text_of_number pool (Some (Utf8 text)) n e = (text, refl, e)
 text_of_number pool (Some _) n e = absurd cc
 
-numbered_text : (pool : List Constant) (index n : ℕ) → number_at (numbers_of pool) index ≡ Some n → (text : List ℕ) × IsUtf8At pool index text × (number_in pool text ≡ Some n)
+numbered_text : (pool : List Constant) (index n : ℕ) → text_number_at (numbers_of pool) index ≡ Some n → (text : List ℕ) × IsUtf8At pool index text × (number_in pool text ≡ Some n)
 numbered_text pool index n e = text_of_number pool (slice_get pool index) n (sym (number_at_is pool index) ∙ e)
 
-number_there : (pool : List Constant) (index : ℕ) (text : List ℕ) → IsUtf8At pool index text → number_at (numbers_of pool) index ≡ number_in pool text
+number_there : (pool : List Constant) (index : ℕ) (text : List ℕ) → IsUtf8At pool index text → text_number_at (numbers_of pool) index ≡ number_in pool text
 number_there pool index text at = number_at_is pool index ∙ ap (λ (o : Option Constant). option_and_then (λ (c : Constant). number_of pool c) o) at
 
 has_number : (pool : List Constant) (index : ℕ) (text : List ℕ) → IsUtf8At pool index text → (n : ℕ) × (number_in pool text ≡ Some n)
 has_number pool index text at = has_place (has_text text) 0 pool index (Utf8 text) at ((is_text-Decides text (Some (Utf8 text))).1 refl)
 
-same_text : (pool : List Constant) (i j n : ℕ) → number_at (numbers_of pool) i ≡ Some n → number_at (numbers_of pool) j ≡ Some n → IsSameText pool i j
+same_text : (pool : List Constant) (i j n : ℕ) → text_number_at (numbers_of pool) i ≡ Some n → text_number_at (numbers_of pool) j ≡ Some n → IsSameText pool i j
 same_text pool i j n e f =
     let a = numbered_text pool i n e in
     let b = numbered_text pool j n f in
@@ -82,7 +82,7 @@ same_text pool i j n e f =
     let P : List ℕ → Type 0 = λ t. IsUtf8At pool j t in
     (a.0, a.1, subst P same b.1)
 
-same_numbers : (pool : List Constant) (i j : ℕ) → IsSameText pool i j → (n : ℕ) × (number_at (numbers_of pool) i ≡ Some n) × (number_at (numbers_of pool) j ≡ Some n)
+same_numbers : (pool : List Constant) (i j : ℕ) → IsSameText pool i j → (n : ℕ) × (text_number_at (numbers_of pool) i ≡ Some n) × (text_number_at (numbers_of pool) j ≡ Some n)
 same_numbers pool i j s =
     let n = has_number pool i s.0 s.1 in
     (n.0, number_there pool i s.0 s.1 ∙ n.1, number_there pool j s.0 s.2 ∙ n.1)

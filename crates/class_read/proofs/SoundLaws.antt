@@ -6,9 +6,9 @@ use Rattle.class_walk.specs.declared.class.RawMember.{RawMember}
 use Rattle.class_walk.specs.declared.class.RawClass.{RawClass}
 use Rattle.class_walk.specs.declared.class.RawCode.{RawCode}
 use Rattle.class_walk.specs.Reading.{code_of}
-use Rattle.class_read.specs.PoolRules.{IsText, entry_rules}
+use Rattle.class_pool.specs.PoolRules.{IsText, entry_rules}
 use Rattle.class_read.specs.AttributeRules.{code_rules}
-use Rattle.class_read.specs.MemberRules.{IsTextOf, lone_field_rules, lone_method_rules}
+use Rattle.class_read.specs.MemberRules.{IsTextAt, lone_field_rules, lone_method_rules}
 use Rattle.class_read.specs.ClassRules.{class_rules}
 use Rattle.class_read.specs.Sound.{IsSoundEntry, IsSoundField, IsSoundCode, IsSoundMethod, IsSound}
 
@@ -46,7 +46,7 @@ sound_entry pool i (Handle _ _) h = h
 sound_entry pool i (MethodType _) h = h
 sound_entry pool i (Dynamic _ _) h = h
 
-is_text : (IsRight : List ℕ → Type 0) (pool : List Constant) (i : ℕ) → IsTextOf IsRight pool i → IsText pool i
+is_text : (IsRight : List ℕ → Type 0) (pool : List Constant) (i : ℕ) → IsTextAt IsRight pool i → IsText pool i
 is_text IsRight pool i t = (t.0, t.1)
 
 field_sound : (pool : List Constant) (interface : Bool) (m : RawMember) → (lone_field_rules pool interface m).Hold → IsSoundField pool interface m

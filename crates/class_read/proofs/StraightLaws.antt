@@ -5,7 +5,7 @@ use Rattle.class_walk.specs.declared.class.RawClass.{RawClass}
 use Rattle.class_walk.specs.declared.class.RawMember.{RawMember}
 use Rattle.class_read.specs.declared.answer.StraightRefusal.{StraightRefusal}
 use Rattle.class_read.specs.declared.answer.StraightRefusal.TheVariants.{NotYet, NoMemory}
-use Rattle.class_read.specs.Pool.{IsClassAt, IsUtf8At}
+use Rattle.class_pool.specs.Pool.{IsClassAt, IsUtf8At}
 use Rattle.class_read.specs.StraightAnswer.{IsCode, IsNamedCode}
 use Rattle.class_read.specs.StraightClass.{IsStraightClass, IsStraightMain}
 

@@ -5,7 +5,7 @@ use Rattle.class_walk.specs.declared.class.Constant.TheVariants.{Utf8}
 use Rattle.class_names.specs.ModifiedUtf8.{IsModifiedUtf8}
 use Rattle.class_read.specs.declared.class_file.ClassFile.{ClassFile}
 use Rattle.class_read.specs.ClassFile.{IsFile}
-use Rattle.class_read.specs.Pool.{IsUtf8At}
+use Rattle.class_pool.specs.Pool.{IsUtf8At}
 
 -- each text of a class file is modified UTF-8
 pub text_is_formed : (bytes : List ℕ) (file : ClassFile) (index : ℕ) (text : List ℕ) → IsFile bytes file → IsUtf8At file.pool index text → IsModifiedUtf8 text

@@ -8,12 +8,13 @@ use Rattle.class_walk.specs.declared.class.RawAttribute.{RawAttribute}
 use Rattle.class_walk.specs.declared.class.RawMember.{RawMember}
 use Rattle.class_walk.specs.declared.class.RawCode.{RawCode}
 use Rattle.class_walk.specs.Reading.{code_of}
+use Rattle.class_pool.specs.declared.refusal.ReadRefusal.{ReadRefusal}
 use Rattle.class_read.specs.declared.class_file.CodeAttribute.{CodeAttribute}
-use Rattle.class_read.specs.declared.refusal.ReadRefusal.TheVariants.{PoolIndex, Attribute}
-use Rattle.class_read.specs.Pool.{IsUtf8At}
-use Rattle.class_read.specs.PoolTest.{is_text}
-use Rattle.class_read.specs.PoolRules.{IsText}
-use Rattle.class_read.specs.Rules.{Rules, must, ◌then◌, each, when}
+use Rattle.class_pool.specs.declared.refusal.ReadRefusal.TheVariants.{PoolIndex, Attribute}
+use Rattle.class_pool.specs.Pool.{IsUtf8At}
+use Rattle.class_pool.specs.PoolTest.{is_text}
+use Rattle.class_pool.specs.PoolRules.{IsText}
+use Rattle.rules.specs.Rules.{Rules, must, ◌then◌, each, when}
 
 -- whether a flag is set (JVMS 4.1, 4.5, 4.6)
 abbrev pub has : ℕ → ℕ → Bool
@@ -30,7 +31,7 @@ named pool name attributes = find (is_named pool name) attributes
 abbrev pub is_earlier : List Constant → List ℕ → List RawAttribute → ℕ → Bool
 is_earlier pool name attributes index = is_some (named pool name (take index attributes))
 
-abbrev pub name_rules : List Constant → RawAttribute → Rules
+abbrev pub name_rules : List Constant → RawAttribute → Rules ReadRefusal
 name_rules pool a = must (IsText pool a.name) (PoolIndex a.name)
 
 -- whether a static field of this descriptor may begin with this constant (JVMS 4.7.2, table 4.7.2-A)
@@ -58,39 +59,39 @@ pub record IsConstantValue (pool : List Constant) (field : RawMember) (content :
   pub kind : IsTrue (has field.flags 8) → IsConstantAt pool field.descriptor (index_in content)
 
 -- an attribute of a field, where a ConstantValue stands before it or doesn't
-abbrev pub field_attribute_rules : List Constant → RawMember → Bool → RawAttribute → Rules
+abbrev pub field_attribute_rules : List Constant → RawMember → Bool → RawAttribute → Rules ReadRefusal
 field_attribute_rules pool field earlier a =
     name_rules pool a
     then when (IsTrue (is_named pool (codes "ConstantValue") a))
     (must ((earlier ≡ false) × IsConstantValue pool field a.content) (Attribute a.at))
 
-abbrev pub field_attributes_rules : List Constant → RawMember → Rules
+abbrev pub field_attributes_rules : List Constant → RawMember → Rules ReadRefusal
 field_attributes_rules pool field =
     each (λ i a. field_attribute_rules pool field (is_earlier pool (codes "ConstantValue") field.attributes i) a) field.attributes
 
 -- an attribute of a Code that begins at this place; its content stands behind six bytes (JVMS 4.7)
-abbrev pub code_attribute_rules : List Constant → ℕ → Bool → RawAttribute → Rules
+abbrev pub code_attribute_rules : List Constant → ℕ → Bool → RawAttribute → Rules ReadRefusal
 code_attribute_rules pool at earlier a =
     name_rules pool a
     then when (IsTrue (is_named pool (codes "StackMapTable") a)) (must (earlier ≡ false) (Attribute (at + 6 + a.at)))
 
-abbrev pub code_attributes_rules : List Constant → ℕ → List RawAttribute → Rules
+abbrev pub code_attributes_rules : List Constant → ℕ → List RawAttribute → Rules ReadRefusal
 code_attributes_rules pool at attributes =
     each (λ i a. code_attribute_rules pool at (is_earlier pool (codes "StackMapTable") attributes i) a) attributes
 
 -- the content of a Code at this place
-abbrev pub code_rules : List Constant → ℕ → Option RawCode → Rules
+abbrev pub code_rules : List Constant → ℕ → Option RawCode → Rules ReadRefusal
 code_rules pool at None = must ⊥ (Attribute at)
 code_rules pool at (Some code) = code_attributes_rules pool at code.attributes
 
 -- an attribute of a method, where a Code stands before it or doesn't
-abbrev pub method_attribute_rules : List Constant → Bool → RawAttribute → Rules
+abbrev pub method_attribute_rules : List Constant → Bool → RawAttribute → Rules ReadRefusal
 method_attribute_rules pool earlier a =
     name_rules pool a
     then when (IsTrue (is_named pool (codes "Code") a))
     (must (earlier ≡ false) (Attribute a.at) then code_rules pool a.at (code_of a.content))
 
-abbrev pub method_attributes_rules : List Constant → RawMember → Rules
+abbrev pub method_attributes_rules : List Constant → RawMember → Rules ReadRefusal
 method_attributes_rules pool method =
     each (λ i a. method_attribute_rules pool (is_earlier pool (codes "Code") method.attributes i) a) method.attributes
 
@@ -122,9 +123,9 @@ abbrev pub code_of_method : List Constant → RawMember → Option CodeAttribute
 code_of_method pool method = option_and_then (code_in pool) (named pool (codes "Code") method.attributes)
 
 -- an attribute of this name has this code, and each other one has none
-abbrev pub IsCodeOf : List Constant → RawAttribute → Option CodeAttribute → Type 0
-IsCodeOf pool a None = is_named pool (codes "Code") a ≡ false
-IsCodeOf pool a (Some code) = (is_named pool (codes "Code") a ≡ true) × (code_in pool a ≡ Some code)
+abbrev pub IsCodeIn : List Constant → RawAttribute → Option CodeAttribute → Type 0
+IsCodeIn pool a None = is_named pool (codes "Code") a ≡ false
+IsCodeIn pool a (Some code) = (is_named pool (codes "Code") a ≡ true) × (code_in pool a ≡ Some code)
 
 -- the attribute ends before this place
 abbrev pub EndBelow : RawAttribute → ℕ → Type 0

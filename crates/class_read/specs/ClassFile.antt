@@ -8,8 +8,8 @@ use Rattle.class_walk.specs.Layout.{IsClassFile}
 use Rattle.class_walk.specs.Reading.{walk_of}
 use Rattle.class_read.specs.declared.class_file.ClassFile.{ClassFile}
 use Rattle.class_read.specs.declared.class_file.Member.{Member}
-use Rattle.class_read.specs.declared.refusal.ReadRefusal.{ReadRefusal}
-use Rattle.class_read.specs.declared.refusal.ReadRefusal.TheVariants as refusals
+use Rattle.class_pool.specs.declared.refusal.ReadRefusal.{ReadRefusal}
+use Rattle.class_pool.specs.declared.refusal.ReadRefusal.TheVariants as refusals
 use Rattle.class_read.specs.MemberRules.{field_of, method_of}
 use Rattle.class_read.specs.ClassRules.{class_rules}
 use Rattle.class_read.specs.Sound.{IsSound}

@@ -5,12 +5,13 @@ use Rattle.class_walk.specs.declared.class.RawAttribute.{RawAttribute}
 use Rattle.class_walk.specs.declared.class.RawClass.{RawClass}
 use Rattle.class_walk.specs.declared.class.RawMember.{RawMember}
 use Rattle.class_names.specs.Names.{IsClassName}
-use Rattle.class_read.specs.declared.refusal.ReadRefusal.TheVariants.{PoolIndex, Flags}
-use Rattle.class_read.specs.Pool.{IsClassAt}
-use Rattle.class_read.specs.PoolRules.{pool_rules}
+use Rattle.class_pool.specs.declared.refusal.ReadRefusal.{ReadRefusal}
+use Rattle.class_pool.specs.declared.refusal.ReadRefusal.TheVariants.{PoolIndex, Flags}
+use Rattle.class_pool.specs.Pool.{IsClassAt}
+use Rattle.class_pool.specs.PoolRules.{pool_rules}
 use Rattle.class_read.specs.AttributeRules.{has, name_rules}
 use Rattle.class_read.specs.MemberRules.{field_rules, method_rules}
-use Rattle.class_read.specs.Rules.{Rules, must, ◌then◌, each}
+use Rattle.rules.specs.Rules.{Rules, must, ◌then◌, each}
 
 -- a class that is no array class
 abbrev pub IsNamedClass : List Constant → ℕ → Type 0
@@ -24,38 +25,38 @@ IsSuperclass pool c = IsNamedClass pool c.super_class ⊎ ((c.super_class ≡ 0)
 abbrev pub are_class_flags : ℕ → Bool
 are_class_flags flags = (not (has flags 512) || (has flags 1024 && not (has flags 16))) && not (has flags 16 && has flags 1024)
 
-abbrev pub interface_rules : List Constant → ℕ → ℕ → Rules
+abbrev pub interface_rules : List Constant → ℕ → ℕ → Rules ReadRefusal
 interface_rules pool i index = must (IsNamedClass pool index) (PoolIndex index)
 
-abbrev pub header_rules : List Constant → RawClass → Rules
+abbrev pub header_rules : List Constant → RawClass → Rules ReadRefusal
 header_rules pool c =
     must (IsNamedClass pool c.this_class) (PoolIndex c.this_class)
     then must (IsSuperclass pool c) (PoolIndex c.super_class)
     then each (interface_rules pool) c.interfaces
     then must (IsTrue (are_class_flags c.flags)) Flags
 
-abbrev pub class_attribute_rules : List Constant → ℕ → RawAttribute → Rules
+abbrev pub class_attribute_rules : List Constant → ℕ → RawAttribute → Rules ReadRefusal
 class_attribute_rules pool i a = name_rules pool a
 
-abbrev pub class_attributes_rules : List Constant → List RawAttribute → Rules
+abbrev pub class_attributes_rules : List Constant → List RawAttribute → Rules ReadRefusal
 class_attributes_rules pool attributes = each (class_attribute_rules pool) attributes
 
-abbrev pub fields_rules : List Constant → Bool → List RawMember → Rules
+abbrev pub fields_rules : List Constant → Bool → List RawMember → Rules ReadRefusal
 fields_rules pool interface fields = each (field_rules pool interface fields) fields
 
-abbrev pub methods_rules : List Constant → List RawMember → Rules
+abbrev pub methods_rules : List Constant → List RawMember → Rules ReadRefusal
 methods_rules pool methods = each (method_rules pool methods) methods
 
 -- the fields, the methods, and the attributes of the class
-abbrev pub member_rules : List Constant → RawClass → Rules
+abbrev pub member_rules : List Constant → RawClass → Rules ReadRefusal
 member_rules pool c =
     fields_rules pool (has c.flags 512) c.fields
     then methods_rules pool c.methods
     then class_attributes_rules pool c.attributes
 
 -- the pool, the header, and what stands behind it
-abbrev pub class_rules_over : List Constant → RawClass → Rules
+abbrev pub class_rules_over : List Constant → RawClass → Rules ReadRefusal
 class_rules_over pool c = pool_rules pool then header_rules pool c then member_rules pool c
 
-abbrev pub class_rules : RawClass → Rules
+abbrev pub class_rules : RawClass → Rules ReadRefusal
 class_rules c = class_rules_over c.pool c

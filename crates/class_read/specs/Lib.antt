@@ -1,16 +1,10 @@
 pub mod Expression
-pub mod Pool
 pub mod StraightClass
 pub mod Scan
-pub mod PoolTest
 pub mod StraightAnswer
-pub mod Rules
-pub mod PoolRules
-pub mod PoolMarks
 pub mod AttributeRules
 pub mod Repeats
 pub mod MemberRules
 pub mod ClassRules
 pub mod Sound
 pub mod ClassFile
-pub mod TextUses

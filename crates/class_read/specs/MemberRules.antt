@@ -1,29 +1,31 @@
 -- What JVMS 4.5 and 4.6 want of fields and methods.
-use Rattle.std.specs.Prelude.{◌≡◌, ℕ, ◌+◌, ◌≤◌, ◌||◌, ◌&&◌, Bool, List, Option, Some, None, is_some, not, codes, slice_get, IsTrue, if◌then◌else◌}
+use Rattle.std.specs.Prelude.{◌≡◌, ℕ, ◌+◌, ◌≤◌, ◌||◌, ◌&&◌, Bool, false, nat_le, List, Option, Some, None, is_some, not, codes, slice_get, IsTrue, if◌then◌else◌}
 use Rattle.class_walk.specs.declared.class.Constant.{Constant}
 use Rattle.class_walk.specs.declared.class.RawMember.{RawMember}
 use Rattle.class_names.specs.Names.{IsMemberName, IsMethodName}
 use Rattle.class_names.specs.Descriptor.{IsMethodDescriptor, parameter_words_of}
 use Rattle.class_names.specs.declared.kind.Kind.{Kind}
+use Rattle.class_names.specs.declared.kind.ParameterSize.{ParameterSize}
+use Rattle.class_pool.specs.declared.refusal.ReadRefusal.{ReadRefusal}
 use Rattle.class_read.specs.declared.class_file.Member.{Member}
-use Rattle.class_read.specs.declared.refusal.ReadRefusal.TheVariants as refusals
-use Rattle.class_read.specs.Pool.{IsUtf8At}
-use Rattle.class_read.specs.PoolRules.{IsText, IsFieldType}
+use Rattle.class_pool.specs.declared.refusal.ReadRefusal.TheVariants as refusals
+use Rattle.class_pool.specs.Pool.{IsUtf8At}
+use Rattle.class_pool.specs.PoolRules.{IsText, IsFieldType}
 use Rattle.class_read.specs.Repeats.{IsRepeated}
 use Rattle.class_read.specs.AttributeRules.{has, named, AllEndBelow, field_attributes_rules, method_attributes_rules, constant_of, code_of_method}
-use Rattle.class_read.specs.Rules.{Rules, must, ◌then◌}
+use Rattle.rules.specs.Rules.{Rules, must, ◌then◌}
 
 -- the text at an index is such a one
-abbrev pub IsTextOf : (List ℕ → Type 0) → List Constant → ℕ → Type 0
-IsTextOf IsRight pool index = (text : List ℕ) × IsUtf8At pool index text × IsRight text
+abbrev pub IsTextAt : (List ℕ → Type 0) → List Constant → ℕ → Type 0
+IsTextAt IsRight pool index = (text : List ℕ) × IsUtf8At pool index text × IsRight text
 
-abbrev pub text_at_rules : List Constant → ℕ → Rules
+abbrev pub text_at_rules : List Constant → ℕ → Rules ReadRefusal
 text_at_rules pool index = must (IsText pool index) (refusals.PoolIndex index)
 
 -- a text stands at the index, and it is such a one
-abbrev pub text_rules : (List ℕ → Type 0) → List Constant → ℕ → Rules
+abbrev pub text_rules : (List ℕ → Type 0) → List Constant → ℕ → Rules ReadRefusal
 text_rules IsRight pool index =
-    text_at_rules pool index then must (IsTextOf IsRight pool index) (refusals.BadDescriptor index)
+    text_at_rules pool index then must (IsTextAt IsRight pool index) (refusals.BadDescriptor index)
 
 -- the words that the receiver of a method takes: a static method has none (JVMS 4.3.3)
 abbrev pub receiver_words : ℕ → ℕ
@@ -33,6 +35,11 @@ receiver_words flags = if has flags 8 then 0 else 1
 abbrev pub IsTypeOfMethod : ℕ → List ℕ → Type 0
 IsTypeOfMethod flags text =
     (parameters : List Kind) × (returned : Option Kind) × IsMethodDescriptor text parameters returned × (receiver_words flags + parameter_words_of parameters ≤ 255)
+
+-- a method with these flags, whose parameters have this size: at most 255 words with its receiver (JVMS 4.3.3)
+abbrev pub may_take : ℕ → Option ParameterSize → Bool
+may_take flags None = false
+may_take flags (Some size) = nat_le (receiver_words flags + size.words) 255
 
 -- more than one of public, private and protected
 abbrev pub has_two_accesses : ℕ → Bool
@@ -58,14 +65,14 @@ abbrev pub wants_code : ℕ → Bool
 wants_code flags = not (has flags 1024 || has flags 256)
 
 -- a field, but for whether it repeats another
-abbrev pub lone_field_rules : List Constant → Bool → RawMember → Rules
+abbrev pub lone_field_rules : List Constant → Bool → RawMember → Rules ReadRefusal
 lone_field_rules pool interface m =
     text_rules IsMemberName pool m.name
     then text_rules IsFieldType pool m.descriptor
     then must (IsTrue (are_field_flags interface m.flags)) refusals.Flags
     then field_attributes_rules pool m
 
-abbrev pub lone_method_rules : List Constant → RawMember → Rules
+abbrev pub lone_method_rules : List Constant → RawMember → Rules ReadRefusal
 lone_method_rules pool m =
     text_rules IsMethodName pool m.name
     then text_rules (IsTypeOfMethod m.flags) pool m.descriptor
@@ -74,13 +81,13 @@ lone_method_rules pool m =
     then must (is_some (named pool (codes "Code") m.attributes) ≡ wants_code m.flags) (refusals.Member m.at)
 
 -- no earlier member of its kind has its name and its descriptor
-abbrev pub new_rules : List Constant → List RawMember → ℕ → RawMember → Rules
+abbrev pub new_rules : List Constant → List RawMember → ℕ → RawMember → Rules ReadRefusal
 new_rules pool members index m = must (¬ IsRepeated pool members index m) (refusals.Member m.at)
 
-abbrev pub field_rules : List Constant → Bool → List RawMember → ℕ → RawMember → Rules
+abbrev pub field_rules : List Constant → Bool → List RawMember → ℕ → RawMember → Rules ReadRefusal
 field_rules pool interface members index m = lone_field_rules pool interface m then new_rules pool members index m
 
-abbrev pub method_rules : List Constant → List RawMember → ℕ → RawMember → Rules
+abbrev pub method_rules : List Constant → List RawMember → ℕ → RawMember → Rules ReadRefusal
 method_rules pool members index m = lone_method_rules pool m then new_rules pool members index m
 
 -- what is kept of a field and of a method

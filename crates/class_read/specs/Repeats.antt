@@ -11,8 +11,8 @@ use Rattle.std.specs.Option.{option_and_then}
 use Rattle.class_walk.specs.declared.class.Constant.{Constant}
 use Rattle.class_walk.specs.declared.class.Constant.TheVariants.{Utf8}
 use Rattle.class_walk.specs.declared.class.RawMember.{RawMember}
-use Rattle.class_read.specs.Pool.{IsUtf8At}
-use Rattle.class_read.specs.PoolTest.{is_text}
+use Rattle.class_pool.specs.Pool.{IsUtf8At}
+use Rattle.class_pool.specs.PoolTest.{is_text}
 
 -- the same text stands at both indices
 abbrev pub IsSameText : List Constant → ℕ → ℕ → Type 0
@@ -56,8 +56,8 @@ numbers_of pool = map (number_of pool) pool
 abbrev pub Knows : List Constant → ℕ → BTreeMap (Bor (List ℕ)) ℕ → Type 0
 Knows pool end known = (text : List ℕ) → get_by (λ k. slice_cmp nat_cmp text k.now) known ≡ number_in (take end pool) text
 
-abbrev pub number_at : List (Option ℕ) → ℕ → Option ℕ
-number_at numbers index = option_and_then (λ n. n) (slice_get numbers index)
+abbrev pub text_number_at : List (Option ℕ) → ℕ → Option ℕ
+text_number_at numbers index = option_and_then (λ n. n) (slice_get numbers index)
 
 -- two numbers where there are both
 abbrev pub both : Option ℕ → Option ℕ → Option (ℕ × ℕ)
@@ -67,7 +67,7 @@ both None b = None
 
 -- the numbers of the name and the descriptor
 abbrev pub key_of : List (Option ℕ) → RawMember → Option (ℕ × ℕ)
-key_of numbers m = both (number_at numbers m.name) (number_at numbers m.descriptor)
+key_of numbers m = both (text_number_at numbers m.name) (text_number_at numbers m.descriptor)
 
 -- pairs of numbers in order
 abbrev pub key_cmp : ℕ × ℕ → ℕ × ℕ → Ordering

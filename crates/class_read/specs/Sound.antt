@@ -9,9 +9,9 @@ use Rattle.class_walk.specs.declared.class.RawCode.{RawCode}
 use Rattle.class_walk.specs.Reading.{code_of}
 use Rattle.class_names.specs.Names.{IsMemberName, IsMethodName}
 use Rattle.class_names.specs.ModifiedUtf8.{IsModifiedUtf8}
-use Rattle.class_read.specs.PoolRules.{IsText, IsUsedRightly, RefersRightly, IsFieldType}
+use Rattle.class_pool.specs.PoolRules.{IsText, IsUsedRightly, RefersRightly, IsFieldType}
 use Rattle.class_read.specs.AttributeRules.{has, is_named, named, is_earlier, IsConstantValue}
-use Rattle.class_read.specs.MemberRules.{IsTextOf, IsTypeOfMethod, are_field_flags, are_method_flags, wants_code}
+use Rattle.class_read.specs.MemberRules.{IsTextAt, IsTypeOfMethod, are_field_flags, are_method_flags, wants_code}
 use Rattle.class_read.specs.Repeats.{IsRepeated}
 use Rattle.class_read.specs.ClassRules.{IsNamedClass, IsSuperclass, are_class_flags}
 
@@ -29,32 +29,32 @@ abbrev pub HasName : List Constant → RawAttribute → Type 0
 HasName pool a = IsText pool a.name
 
 -- where an attribute has this name, no earlier one has it, and its content is such a one
-abbrev pub IsOnly : List Constant → List ℕ → (RawAttribute → Type 0) → List RawAttribute → ℕ → RawAttribute → Type 0
-IsOnly pool name IsRight attributes i a =
+abbrev pub IsOnlyOne : List Constant → List ℕ → (RawAttribute → Type 0) → List RawAttribute → ℕ → RawAttribute → Type 0
+IsOnlyOne pool name IsRight attributes i a =
     IsTrue (is_named pool name a) → (is_earlier pool name attributes i ≡ false) × IsRight a
 
 -- JVMS 4.5
 pub record IsSoundField (pool : List Constant) (interface : Bool) (m : RawMember) : Type 0 where
-  pub name : IsTextOf IsMemberName pool m.name
-  pub descriptor : IsTextOf IsFieldType pool m.descriptor
+  pub name : IsTextAt IsMemberName pool m.name
+  pub descriptor : IsTextAt IsFieldType pool m.descriptor
   pub flags : IsTrue (are_field_flags interface m.flags)
   pub names : Each (λ i a. HasName pool a) m.attributes
-  pub constants : Each (IsOnly pool (codes "ConstantValue") (λ a. IsConstantValue pool m a.content) m.attributes) m.attributes
+  pub constants : Each (IsOnlyOne pool (codes "ConstantValue") (λ a. IsConstantValue pool m a.content) m.attributes) m.attributes
 
 -- the content of a Code (JVMS 4.7.3)
 pub record IsSoundCode (pool : List Constant) (content : List ℕ) : Type 0 where
   pub code : RawCode
   pub spelled : code_of content ≡ Some code
   pub names : Each (λ i a. HasName pool a) code.attributes
-  pub maps : Each (IsOnly pool (codes "StackMapTable") (λ a. Unit {0}) code.attributes) code.attributes
+  pub maps : Each (IsOnlyOne pool (codes "StackMapTable") (λ a. Unit {0}) code.attributes) code.attributes
 
 -- JVMS 4.6
 pub record IsSoundMethod (pool : List Constant) (m : RawMember) : Type 0 where
-  pub name : IsTextOf IsMethodName pool m.name
-  pub descriptor : IsTextOf (IsTypeOfMethod m.flags) pool m.descriptor
+  pub name : IsTextAt IsMethodName pool m.name
+  pub descriptor : IsTextAt (IsTypeOfMethod m.flags) pool m.descriptor
   pub flags : IsTrue (are_method_flags m.flags)
   pub names : Each (λ i a. HasName pool a) m.attributes
-  pub codes_of : Each (IsOnly pool (codes "Code") (λ a. IsSoundCode pool a.content) m.attributes) m.attributes
+  pub codes_of : Each (IsOnlyOne pool (codes "Code") (λ a. IsSoundCode pool a.content) m.attributes) m.attributes
   pub has_code : is_some (named pool (codes "Code") m.attributes) ≡ wants_code m.flags
 
 -- no two members of a kind have one name and descriptor

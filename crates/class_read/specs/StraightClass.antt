@@ -9,7 +9,7 @@ use Rattle.class_walk.specs.declared.class.RawClass.{RawClass}
 use Rattle.class_walk.specs.declared.class.RawCode.{RawCode}
 use Rattle.class_walk.specs.Layout.{IsClassFile, IsCodeContent}
 use Rattle.class_read.specs.Expression.{Statement, IsMainCode}
-use Rattle.class_read.specs.Pool.{Reference, reference_of, IsUtf8At, IsClassAt, IsFieldAt, IsMethodAt}
+use Rattle.class_pool.specs.Pool.{Reference, reference_of, IsUtf8At, IsClassAt, IsFieldAt, IsMethodAt}
 
 -- the kinds of entries that a straight class may have
 abbrev pub IsStraightConstant : Constant → Type 0

@@ -3,15 +3,14 @@
 ghost use Rattle.std.specs.Prelude.{◌≡◌, ◌↔◌, ℕ, ◌+◌, ◌<◌, ◌≤◌, ◌^◌, List, Some, IsTrue, IfOk, OnErr, length, codes, is_some, slice_get, option_copied, option_map};
 ghost use Rattle.class_walk.specs.declared.class.RawAttribute.{RawAttribute};
 ghost use Rattle.class_walk.specs.Reading.{code_of};
-ghost use Rattle.class_read.specs.AttributeRules.{is_named, named, name_rules, is_constant_for, IsConstantAt, IsConstantValue, index_in, field_attribute_rules, field_attributes_rules, code_attribute_rules, code_attributes_rules, code_rules, method_attribute_rules, method_attributes_rules, constant_of, maps_of, code_attribute, code_in, code_of_method, IsCodeOf, EndBelow, AllEndBelow, AllBeginBelow};
-ghost use Rattle.class_read.specs.Rules.{Gives, KeepsExactly, GivesExactly, each};
+ghost use Rattle.class_read.specs.AttributeRules.{is_named, named, name_rules, is_constant_for, IsConstantAt, IsConstantValue, index_in, field_attribute_rules, field_attributes_rules, code_attribute_rules, code_attributes_rules, code_rules, method_attribute_rules, method_attributes_rules, constant_of, maps_of, code_attribute, code_in, code_of_method, IsCodeIn, EndBelow, AllEndBelow, AllBeginBelow};
+ghost use Rattle.rules.specs.Rules.{each};
+ghost use Rattle.class_pool.specs.Answers.{Gives, KeepsExactly, GivesExactly};
 
 use crate::class_file::CodeAttribute;
 use crate::flags::{STATIC, has};
-use crate::lookup::is_utf8_at;
-use crate::pool::is_text_at;
-use crate::refusal::ReadRefusal;
-use class_walk::{CodeRefusal, Constant, RawAttribute, RawCode, RawMember, code_content};
+use class_pool::{ReadRefusal, is_text_at, is_utf8_at};
+use class_walk::{Constant, ContentRefusal, RawAttribute, RawCode, RawMember, code_content};
 use rows::{Bytes, Rows};
 use std::alloc::{AllocError, Global};
 
@@ -224,8 +223,8 @@ fn code(
 {
     match code_content(alloc, attribute.content.as_slice()) {
         Ok(raw) => kept_code(alloc, pool, attribute.at, raw),
-        Err(CodeRefusal::NoMemory) => Err(ReadRefusal::NoMemory),
-        Err(CodeRefusal::Malformed) => Err(ReadRefusal::Attribute(attribute.at)),
+        Err(ContentRefusal::NoMemory) => Err(ReadRefusal::NoMemory),
+        Err(ContentRefusal::Malformed) => Err(ReadRefusal::Attribute(attribute.at)),
     }
 }
 
@@ -239,7 +238,7 @@ fn checked_code(
 ) -> Result<Option<CodeAttribute>, ReadRefusal>
     requires { EndBelow attribute.now (2 ^ 32) }
     ensures { Gives result (method_attribute_rules pool.now is_second attribute.now)
-        (λ code. IsCodeOf pool.now attribute.now code) }
+        (λ code. IsCodeIn pool.now attribute.now code) }
 {
     check_name(pool, attribute)?;
     if !is_utf8_at(pool, attribute.name, b"Code") {

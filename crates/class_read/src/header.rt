@@ -3,19 +3,18 @@
 ghost use Rattle.std.specs.Prelude.{◌≡◌, ◌↔◌, IsTrue};
 ghost use Rattle.class_names.specs.Names.{IsClassName};
 ghost use Rattle.class_read.specs.ClassRules.{IsNamedClass, IsSuperclass, interface_rules, header_rules};
-ghost use Rattle.class_read.specs.MemberRules.{IsTextOf};
-ghost use Rattle.class_read.specs.Rules.{KeepsExactly, each};
+ghost use Rattle.class_read.specs.MemberRules.{IsTextAt};
+ghost use Rattle.rules.specs.Rules.{each};
+ghost use Rattle.class_pool.specs.Answers.{KeepsExactly};
 
 use crate::flags::are_class_flags;
-use crate::lookup::is_class_at;
-use crate::refusal::ReadRefusal;
-use crate::text_uses::Pool;
+use class_pool::{Pool, ReadRefusal, is_class_at};
 use class_walk::{Constant, RawClass};
 use rows::Rows;
 
 /// Whether the name of a class that is no array class stands there.
 fn is_class_name_at(pool: &Pool<'_>, index: u16) -> bool
-    ensures { IsTrue result ↔ IsTextOf IsClassName pool.now index }
+    ensures { IsTrue result ↔ IsTextAt IsClassName pool.now index }
 {
     match pool.text_use(index) {
         Some(found) => found.is_class_name,

@@ -3,18 +3,18 @@
 ghost use Rattle.std.specs.Prelude.{◌≡◌, ◌^◌, map, codes, is_some};
 ghost use Rattle.class_names.specs.Names.{IsMemberName, IsMethodName};
 ghost use Rattle.class_read.specs.AttributeRules.{AllEndBelow, named, field_attributes_rules, method_attributes_rules, constant_of, code_of_method};
-ghost use Rattle.class_read.specs.MemberRules.{IsTypeOfMethod, text_at_rules, text_rules, lone_field_rules, lone_method_rules, field_rules, method_rules, field_of, method_of, HasSmallMethods};
-ghost use Rattle.class_read.specs.PoolRules.{IsFieldType};
+ghost use Rattle.class_read.specs.MemberRules.{may_take, IsTypeOfMethod, text_at_rules, text_rules, lone_field_rules, lone_method_rules, field_rules, method_rules, field_of, method_of, HasSmallMethods};
+ghost use Rattle.class_pool.specs.PoolRules.{IsFieldType};
 ghost use Rattle.class_read.specs.Repeats.{IsFirstRepeat};
-ghost use Rattle.class_read.specs.Rules.{Gives, KeepsExactly, GivesExactly, each};
-ghost use Rattle.class_read.specs.TextUses.{IsUseAt, may_take};
+ghost use Rattle.rules.specs.Rules.{each};
+ghost use Rattle.class_pool.specs.Answers.{Gives, KeepsExactly, GivesExactly};
+ghost use Rattle.class_pool.specs.TextUses.{IsUseAt};
 
 use crate::attributes::{field_constant, method_code};
 use crate::class_file::{CodeAttribute, Member};
 use crate::flags::{STATIC, are_field_flags, are_method_flags, has, wants_code};
-use crate::refusal::ReadRefusal;
-use crate::text_uses::{Pool, TextUse};
 use class_names::ParameterSize;
+use class_pool::{Pool, ReadRefusal, TextUse};
 use class_walk::RawMember;
 use rows::Rows;
 use std::alloc::Global;

@@ -3,22 +3,20 @@
 ghost use Rattle.std.specs.Prelude.{◌≡◌, ◌<◌, ◌^◌, ◌⊎◌, IfOk, IfErr, length, map};
 ghost use Rattle.class_walk.specs.declared.class.RawClass.{RawClass};
 ghost use Rattle.class_read.specs.declared.class_file.ClassFile.{ClassFile};
-ghost use Rattle.class_read.specs.declared.refusal.ReadRefusal.{ReadRefusal};
-ghost use Rattle.class_read.specs.declared.refusal.ReadRefusal.TheVariants.{NoMemory};
+ghost use Rattle.class_pool.specs.declared.refusal.ReadRefusal.{ReadRefusal};
+ghost use Rattle.class_pool.specs.declared.refusal.ReadRefusal.TheVariants.{NoMemory};
 ghost use Rattle.class_read.specs.ClassFile.{class_of, refusal_of, IsFile, IsRefusalOf, IsRead, IsRefused, AreMembersOf};
 ghost use Rattle.class_read.specs.ClassRules.{class_rules, class_rules_over, member_rules, fields_rules, methods_rules, class_attributes_rules};
 ghost use Rattle.class_read.specs.MemberRules.{HasSmallMethods, field_of, method_of};
-ghost use Rattle.class_read.specs.Rules.{Gives, KeepsExactly};
+ghost use Rattle.class_pool.specs.Answers.{Gives, KeepsExactly};
 
 use crate::attributes::check_name;
 use crate::class_file::{ClassFile, Member};
 use crate::flags::{INTERFACE, has};
 use crate::header::check_header;
 use crate::members::{fields, methods};
-use crate::pool::check_pool;
-use crate::refusal::ReadRefusal;
 use crate::repeats::first_repeat;
-use crate::text_uses::Pool;
+use class_pool::{Pool, ReadRefusal, check_pool};
 use class_walk::{Constant, RawAttribute, RawClass, RawMember, WalkFault, WalkRefusal, walk};
 use rows::Rows;
 use std::alloc::Global;

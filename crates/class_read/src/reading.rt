@@ -8,11 +8,11 @@ ghost use Rattle.class_read.specs.StraightAnswer.{IsCode, IsNamedCode};
 ghost use Rattle.class_read.specs.StraightClass.{IsStraight, IsStraightClass, IsStraightConstant, IsStraightContent, IsStraightMain, HasStraightHeader, HasNoMaps, PrintsSome};
 
 use crate::answer::{Straight, StraightRefusal};
-use crate::lookup::{class_at, is_class_at, is_utf8_at};
 use crate::scan::prints_values;
+use class_pool::{class_name_at, is_class_at, is_utf8_at};
 use class_walk::{
-    CodeRefusal, Constant, RawAttribute, RawClass, RawCode, RawMember, WalkRefusal, code_content,
-    walk,
+    Constant, ContentRefusal, RawAttribute, RawClass, RawCode, RawMember, WalkRefusal,
+    code_content, walk,
 };
 use rows::Bytes;
 use std::alloc::Global;
@@ -103,8 +103,8 @@ fn straight_content(
 {
     let raw = match code_content(alloc, content) {
         Ok(raw) => raw,
-        Err(CodeRefusal::NoMemory) => return Err(StraightRefusal::NoMemory),
-        Err(CodeRefusal::Malformed) => return Err(StraightRefusal::NotYet),
+        Err(ContentRefusal::NoMemory) => return Err(StraightRefusal::NoMemory),
+        Err(ContentRefusal::Malformed) => return Err(StraightRefusal::NotYet),
     };
     if !raw.handlers.is_empty() || !has_no_maps(pool, raw.attributes.as_slice()) {
         return Err(StraightRefusal::NotYet);
@@ -145,7 +145,7 @@ fn straight_class(alloc: Global, class: &RawClass) -> Result<Straight, StraightR
     if !has_straight_header(class) {
         return Err(StraightRefusal::NotYet);
     }
-    let name = match class_at(pool, class.this_class) {
+    let name = match class_name_at(pool, class.this_class) {
         Some(name) => name,
         None => return Err(StraightRefusal::NotYet),
     };

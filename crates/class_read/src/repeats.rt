@@ -3,7 +3,7 @@
 ghost use Rattle.std.specs.Prelude.{◌≡◌, ◌+◌, ◌<◌, ◌^◌, List, Some, IfOk, length, slice_get};
 ghost use Rattle.class_walk.specs.declared.class.Constant.{Constant};
 ghost use Rattle.class_walk.specs.declared.class.Constant.TheVariants as constants;
-ghost use Rattle.class_read.specs.Repeats.{IsFirstRepeat, IsFirstRepeatedKey, AddsKey, Knows, number_in, number_of, numbers_of, number_at, key_of};
+ghost use Rattle.class_read.specs.Repeats.{IsFirstRepeat, IsFirstRepeatedKey, AddsKey, Knows, number_in, number_of, numbers_of, text_number_at, key_of};
 
 use class_walk::{Constant, RawMember};
 use std::alloc::{AllocError, Global};
@@ -59,8 +59,8 @@ fn text_numbers(alloc: Global, pool: &[Constant]) -> Result<Vec<Option<u16>>, Al
     Ok(numbers)
 }
 
-fn number_at(numbers: &[Option<u16>], index: u16) -> Option<u16>
-    ensures { result ≡ number_at numbers.now index }
+fn text_number_at(numbers: &[Option<u16>], index: u16) -> Option<u16>
+    ensures { result ≡ text_number_at numbers.now index }
 {
     numbers.get(usize::from(index)).copied().flatten()
 }
@@ -69,8 +69,8 @@ fn number_at(numbers: &[Option<u16>], index: u16) -> Option<u16>
 fn key(numbers: &[Option<u16>], member: &RawMember) -> Option<(u16, u16)>
     ensures { result ≡ key_of numbers.now member.now }
 {
-    let name = number_at(numbers, member.name)?;
-    let descriptor = number_at(numbers, member.descriptor)?;
+    let name = text_number_at(numbers, member.name)?;
+    let descriptor = text_number_at(numbers, member.descriptor)?;
     Some((name, descriptor))
 }
 

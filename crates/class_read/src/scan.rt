@@ -2,7 +2,7 @@
 
 ghost use Rattle.std.specs.Prelude.{◌≡◌, ◌+◌, ◌<◌, ◌≤◌, ◌^◌, ◌↔◌, IsTrue, length, fold};
 ghost use Rattle.class_read.specs.Scan.{inside, between, step, depth_of, is_operator};
-ghost use Rattle.class_read.specs.PoolTest.{has_field, has_method};
+ghost use Rattle.class_pool.specs.PoolTest.{has_field, has_method};
 ghost use Rattle.class_read.specs.StraightClass.{system_out, println_int, PrintsSome};
 
 use crate::lookup::{is_println_int, is_system_out};

@@ -4,8 +4,8 @@ ghost use Rattle.std.specs.Prelude.{◌≡◌, ◌⊎◌, ℕ, List, Err, IfOk, 
 ghost use Rattle.class_names.specs.declared.kind.NameRefusal.TheVariants.{Bad, NoMemory};
 ghost use Rattle.class_names.specs.ModifiedUtf8.{IsTextOf};
 ghost use Rattle.class_read.specs.ClassFile.{IsFile};
-ghost use Rattle.class_read.specs.Pool.{IsUtf8At};
-ghost use Rattle.class_read.specs.PoolRules.{IsText};
+ghost use Rattle.class_pool.specs.Pool.{IsUtf8At};
+ghost use Rattle.class_pool.specs.PoolRules.{IsText};
 
 use crate::class_file::ClassFile;
 use class_names::{NameRefusal, decode_text};

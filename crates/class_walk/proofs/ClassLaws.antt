@@ -11,9 +11,9 @@ use Rattle.class_walk.specs.declared.refusal.WalkFault.{WalkFault}
 use Rattle.class_walk.specs.declared.refusal.WalkFault.TheVariants.{TooLong}
 use Rattle.class_walk.specs.declared.refusal.WalkRefusal.{WalkRefusal}
 use Rattle.class_walk.specs.Place.{Place}
-use Rattle.class_walk.specs.Layout.{u2, u4, table, IsTable, attribute, IsAttribute, member, IsMember, pool_table, front, spelling, IsClass, IsClassFile}
+use Rattle.class_walk.specs.Layout.{IsBytes, u2, u4, table, IsTable, attribute, IsAttribute, member, IsMember, pool_table, front, spelling, IsClass, IsClassFile}
 use Rattle.class_walk.specs.Reading.{Gives, number_at, table_at, attribute_at, member_at, pool_at, magic_at, versions_at, head_at, rest_at, class_at, start_of, end_at, ended, walk_of}
-use Rattle.class_walk.proofs.Fields.{IsBytes, Takes, Takes-then, Takes-first, Takes-second, split_then, bytes_after, bind_ok, bind_then, guard_ok, ok_is, wide2, wide4, number_takes, number_again}
+use Rattle.class_walk.proofs.Fields.{Takes, Takes-then, Takes-first, Takes-second, split_then, bytes_after, bind_ok, bind_then, guard_ok, ok_is, wide2, wide4, number_takes, number_again}
 use Rattle.class_walk.proofs.Laws.{Law, counted, placed, number_law, table_law, attribute_law, member_law}
 use Rattle.class_walk.proofs.PoolLaws.{pool_law}
 

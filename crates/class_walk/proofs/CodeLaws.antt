@@ -12,17 +12,17 @@ use Rattle.class_walk.specs.declared.refusal.WalkFault.{WalkFault}
 use Rattle.class_walk.specs.declared.refusal.WalkFault.TheVariants.{Truncated}
 use Rattle.class_walk.specs.declared.refusal.WalkRefusal.{WalkRefusal}
 use Rattle.class_walk.specs.declared.refusal.WalkRefusal.TheVariants as refusals
-use Rattle.class_walk.specs.declared.refusal.CodeRefusal.{CodeRefusal}
-use Rattle.class_walk.specs.declared.refusal.CodeRefusal.TheVariants as codes
+use Rattle.class_walk.specs.declared.refusal.ContentRefusal.{ContentRefusal}
+use Rattle.class_walk.specs.declared.refusal.ContentRefusal.TheVariants as codes
 use Rattle.class_walk.specs.Place.{Place}
-use Rattle.class_walk.specs.Layout.{u2, u4, table, IsTable, attribute, IsAttribute, handler, IsHandler, code_front, code_spelling, IsCode, IsCodeContent, IsCut}
+use Rattle.class_walk.specs.Layout.{IsBytes, u2, u4, table, IsTable, attribute, IsAttribute, handler, IsRawHandler, code_front, code_spelling, IsCode, IsCodeContent, IsCut}
 use Rattle.class_walk.specs.Reading.{Fails, bytes_at, number_at, table_at, attribute_at, handler_at, code_head_at, code_rest_at, code_at, start_of, end_at, ended, code_head_of, content_of, code_of, refused, Reads}
-use Rattle.class_walk.proofs.Fields.{IsBytes, Takes, Takes-then, split_then, bytes_after, bind_ok, bind_then, ok_is, wide2, wide4, number_takes, number_again, bytes_take, bytes_again}
+use Rattle.class_walk.proofs.Fields.{Takes, Takes-then, split_then, bytes_after, bind_ok, bind_then, ok_is, wide2, wide4, number_takes, number_again, bytes_take, bytes_again}
 use Rattle.class_walk.proofs.Laws.{Law, counted, placed, table_law, handler_law}
 use Rattle.class_walk.proofs.ClassLaws.{met_ok, attributes}
 
-handlers : Law (table_at handler_at) (table handler) (IsTable handler (λ at h. IsHandler h))
-handlers = table_law handler_at handler (λ at h. IsHandler h) handler_law
+handlers : Law (table_at handler_at) (table handler) (IsTable handler (λ at h. IsRawHandler h))
+handlers = table_law handler_at handler (λ at h. IsRawHandler h) handler_law
 
 record IsCodeAtFront (bytes : List ℕ) (c : RawCode) (q : Place) : Type 0 where
   pub takes : Takes (start_of bytes) (code_spelling c) q
@@ -54,7 +54,7 @@ parts_take bytes c q fits a b d f g h ea eb ed ef eg eh e =
         max_stack = ta.1;
         max_locals = tb.1;
         size = omega (arith, td.1, tf.1);
-        handlers = counted handler IsHandler f.1.at g.0 tg.1;
+        handlers = counted handler IsRawHandler f.1.at g.0 tg.1;
         attributes = subst (λ (at : ℕ). IsTable attribute IsAttribute at h.0) (sg.at ∙ zero-add (length (code_front x))) th.1;
       };
     })
@@ -87,7 +87,7 @@ parts_again : (bytes : List ℕ) (c : RawCode) (a b d f g q : Place) → IsCode 
     → code_at (start_of bytes) ≡ Ok (c, q)
 unfolding code_at code_head_at code_rest_at
 parts_again bytes c a b d f g q right ta tb td tf tg th sg =
-    let table = handlers.again f c.handlers g (placed handler IsHandler f.at c.handlers right.handlers) tg in
+    let table = handlers.again f c.handlers g (placed handler IsRawHandler f.at c.handlers right.handlers) tg in
     let last = attributes.again g c.attributes q (subst (λ (at : ℕ). IsTable attribute IsAttribute at c.attributes) (sym (sg.at ∙ zero-add (length (code_front c)))) right.attributes) th in
     rw (
       number_again 2 (start_of bytes) c.max_stack a right.max_stack ta,
@@ -224,6 +224,6 @@ some_content bytes c fits e = elim (cases_lt 4294967295 (length bytes)) [
 pub content_some : (bytes : List ℕ) (c : RawCode) → IsCodeContent bytes c → code_of bytes ≡ Some c
 content_some bytes c is = short_is bytes (omega (arith, is.size)) ∙ ap result_ok (content_again bytes c is)
 
-pub code_found : (bytes : List ℕ) (r : Result RawCode CodeRefusal) → IsBytes bytes → Reads r (code_of bytes) → IfOk r (λ c. IsCodeContent bytes c)
+pub code_found : (bytes : List ℕ) (r : Result RawCode ContentRefusal) → IsBytes bytes → Reads r (code_of bytes) → IfOk r (λ c. IsCodeContent bytes c)
 code_found bytes (Ok c) fits given = some_content bytes c fits given
 code_found bytes (Err e) fits given = tt

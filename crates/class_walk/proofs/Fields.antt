@@ -5,13 +5,21 @@ use Rattle.std.proofs.lemmas.List.{append-nil, take_at, drop_at, take-append-dro
 use Rattle.std.proofs.lemmas.Nat.{be_bytes_2, be_bytes_4, be_bytes_8}
 use Rattle.byteorder.specs.Endian.{big_number, big_bytes}
 use Rattle.byteorder.specs.Numbers.{big_number-reads_back, length-bytes_high_first, big_from-lt}
-use Rattle.class_walk.specs.declared.refusal.WalkFault.{WalkFault}
 use Rattle.class_walk.specs.declared.refusal.WalkFault.TheVariants.{Truncated}
 use Rattle.class_walk.specs.Place.{Place}
+use Rattle.class_walk.specs.Layout.{IsBytes}
 use Rattle.class_walk.specs.Reading.{◌>>=◌, bytes_at, number_at}
 
-abbrev pub IsBytes : List ℕ → Type 0
-IsBytes bytes = (i : ℕ) → get_or bytes i 0 < 256
+-- the front of bytes, and what stands behind it
+pub bytes_front : (text rest : List ℕ) → IsBytes (text ++ rest) → IsBytes text
+bytes_front text rest fits i =
+    elim (cases_lt i (length text)) [
+      | inl lt ↦ rw (← get_or_append_left text rest 0 i lt) (fits i)
+      | inr le ↦ rw (get_or_past text i 0 le) (omega arith)
+    ]
+
+pub bytes_behind : (text rest : List ℕ) → IsBytes (text ++ rest) → IsBytes rest
+bytes_behind text rest fits i = rw (← get_or-append-add text rest i 0) (fits (length text + i))
 
 -- the text stands from the first place to the second
 pub record Takes (p : Place) (text : List ℕ) (q : Place) : Type 0 where
@@ -41,34 +49,30 @@ pub split_then : (p : Place) (x y : List ℕ) (r : Place) (C : Type 0) → Takes
 split_then p x y r C t next = next (between p x y r) (Takes-first p x y r t) (Takes-second p x y r t)
 
 pub bytes_after : {p : Place} {text : List ℕ} {q : Place} → IsBytes p.left → Takes p text q → IsBytes q.left
-bytes_after {text = text} {q = q} fits t i = rw (← get_or-append-add text q.left i 0, ← t.parts) (fits (length text + i))
+bytes_after {text = text} {q = q} fits t = bytes_behind text q.left (subst IsBytes t.parts fits)
 
 pub bytes_before : (p : Place) (text : List ℕ) (q : Place) → IsBytes p.left → Takes p text q → IsBytes text
-bytes_before p text q fits t i =
-    elim (cases_lt i (length text)) [
-      | inl lt ↦ rw (← get_or_append_left text q.left 0 i lt, ← t.parts) (fits i)
-      | inr le ↦ rw (get_or_past text i 0 le) (omega arith)
-    ]
+bytes_before p text q fits t = bytes_front text q.left (subst IsBytes t.parts fits)
 
 -- the value of a step that did not fail
-pub bind_ok : {A B : Type 0} (r : Result A WalkFault) (f : A → Result B WalkFault) (y : B) → (r >>= f) ≡ Ok y → (x : A) × (r ≡ Ok x) × (f x ≡ Ok y)
+pub bind_ok : {E A B : Type 0} (r : Result A E) (f : A → Result B E) (y : B) → (r >>= f) ≡ Ok y → (x : A) × (r ≡ Ok x) × (f x ≡ Ok y)
 bind_ok (Ok x) f y e = (x, refl, e)
 bind_ok (Err d) f y e = absurd cc
 
 -- the same, handed on
-pub bind_then : {A B : Type 0} (r : Result A WalkFault) (f : A → Result B WalkFault) (y : B) (C : Type 0) → (r >>= f) ≡ Ok y → ((x : A) → r ≡ Ok x → f x ≡ Ok y → C) → C
+pub bind_then : {E A B : Type 0} (r : Result A E) (f : A → Result B E) (y : B) (C : Type 0) → (r >>= f) ≡ Ok y → ((x : A) → r ≡ Ok x → f x ≡ Ok y → C) → C
 bind_then (Ok x) f y C e next = next x refl e
 bind_then (Err d) f y C e next = absurd cc
 
 -- a test that did not fail
-pub guard_ok : {A : Type 0} (b : Bool) (d : WalkFault) (r : Result A WalkFault) (y : A) → cond b (Err d) r ≡ Ok y → (b ≡ false) × (r ≡ Ok y)
+pub guard_ok : {E A : Type 0} (b : Bool) (d : E) (r : Result A E) (y : A) → cond b (Err d) r ≡ Ok y → (b ≡ false) × (r ≡ Ok y)
 guard_ok true d r y e = absurd cc
 guard_ok false d r y e = (refl, e)
 
-abbrev done : {A : Type 0} → A → Result A WalkFault
+abbrev pub done : {E A : Type 0} → A → Result A E
 done x = Ok x
 
-pub ok_is : {A : Type 0} (x y : A) → done x ≡ done y → x ≡ y
+pub ok_is : {E A : Type 0} (x y : A) → done {E = E} x ≡ done y → x ≡ y
 ok_is x y e = cc
 
 -- ---- bytes

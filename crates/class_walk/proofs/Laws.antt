@@ -8,9 +8,9 @@ use Rattle.class_walk.specs.declared.class.RawMember.{RawMember}
 use Rattle.class_walk.specs.declared.class.RawHandler.{RawHandler}
 use Rattle.class_walk.specs.declared.refusal.WalkFault.{WalkFault}
 use Rattle.class_walk.specs.Place.{Place}
-use Rattle.class_walk.specs.Layout.{u2, u4, table, AllPlaced, IsTable, IsCounted, attribute, IsAttribute, member, IsMember, handler, IsHandler}
+use Rattle.class_walk.specs.Layout.{IsBytes, u2, u4, table, AllPlaced, IsTable, IsCounted, attribute, IsAttribute, member, IsMember, handler, IsRawHandler}
 use Rattle.class_walk.specs.Reading.{bytes_at, number_at, items_at, table_at, attribute_at, member_at, handler_at}
-use Rattle.class_walk.proofs.Fields.{IsBytes, Takes, Takes-nothing, Takes-then, Takes-first, Takes-second, between, bytes_after, bind_ok, bind_then, ok_is, bytes_take, bytes_again, IsWide, wide2, wide4, number_takes, number_again}
+use Rattle.class_walk.proofs.Fields.{Takes, Takes-nothing, Takes-then, Takes-first, Takes-second, between, bytes_after, bind_ok, bind_then, ok_is, bytes_take, bytes_again, IsWide, wide2, wide4, number_takes, number_again}
 
 -- a reader reads a spelling
 pub record Law {X : Type 0} (read : Place → Result (X × Place) WalkFault) (spell : X → List ℕ) (IsRight : ℕ → X → Type 0) : Type 0 where
@@ -173,7 +173,7 @@ member_law = record { takes = member_takes; again = member_again }
 
 -- ---- handlers
 
-handler_takes : (p : Place) (x : RawHandler) (q : Place) → IsBytes p.left → handler_at p ≡ Ok (x, q) → Takes p (handler x) q × IsHandler x
+handler_takes : (p : Place) (x : RawHandler) (q : Place) → IsBytes p.left → handler_at p ≡ Ok (x, q) → Takes p (handler x) q × IsRawHandler x
 unfolding handler_at
 handler_takes p x q fits e =
     let a = bind_ok (number_at 2 p) _ _ e in
@@ -187,10 +187,10 @@ handler_takes p x q fits e =
     let tuv = Takes-then tu v.0 in
     let w = number_takes 2 wide2 c.0.1 d.0.0 d.0.1 (bytes_after fits tuv) d.1 in
     let made : RawHandler × Place = (record { from = a.0.0; to = b.0.0; at = c.0.0; kind = d.0.0 }, d.0.1) in
-    subst (λ (y : RawHandler × Place). Takes p (handler y.0) y.1 × IsHandler y.0) {x = made} (ok_is made (x, q) d.2)
+    subst (λ (y : RawHandler × Place). Takes p (handler y.0) y.1 × IsRawHandler y.0) {x = made} (ok_is made (x, q) d.2)
     (Takes-then tuv w.0, record { from = t.1; to = u.1; at = v.1; kind = w.1 })
 
-handler_again : (p : Place) (x : RawHandler) (q : Place) → IsHandler x → Takes p (handler x) q → handler_at p ≡ Ok (x, q)
+handler_again : (p : Place) (x : RawHandler) (q : Place) → IsRawHandler x → Takes p (handler x) q → handler_at p ≡ Ok (x, q)
 unfolding handler_at
 handler_again p x q right t =
     let front : List ℕ = u2 x.from ++ u2 x.to ++ u2 x.at in
@@ -204,5 +204,5 @@ handler_again p x q right t =
     let kind = number_again 2 r3 x.kind q right.kind (Takes-second p front (u2 x.kind) q t) in
     rw (from, to, at, kind) refl
 
-pub handler_law : Law handler_at handler (λ at h. IsHandler h)
+pub handler_law : Law handler_at handler (λ at h. IsRawHandler h)
 handler_law = record { takes = handler_takes; again = handler_again }

@@ -10,20 +10,29 @@ use Rattle.class_walk.specs.Layout.{is_wide}
 use Rattle.class_walk.specs.Reading.{◌>>=◌, Fails, FailsExactly, items_at, slot_at, next_slot, slots_at}
 
 -- what was read before, and what is still read
-abbrev pub with_front : {S X : Type 0} → List X → Result (List X × S) WalkFault → Result (List X × S) WalkFault
+abbrev pub with_front : {E S X : Type 0} → List X → Result (List X × S) E → Result (List X × S) E
 with_front front read = read >>= λ x. Ok (front ++ x.0, x.1)
 
-regroup : {S X : Type 0} (front : List X) (n : X) (read : Result (List X × S) WalkFault) → with_front front (read >>= λ x. Ok (n ∷ x.0, x.1)) ≡ with_front (front ++ n ∷ []) read
+regroup : {E S X : Type 0} (front : List X) (n : X) (read : Result (List X × S) E) → with_front front (read >>= λ x. Ok (n ∷ x.0, x.1)) ≡ with_front (front ++ n ∷ []) read
 regroup {X = X} front n (Ok x) = ap (λ (ns : List X). Ok (ns, x.1)) (simp append_assoc)
 regroup front n (Err f) = refl
 
-pub goes_on : {S X : Type 0} (item : S → Result (X × S) WalkFault) (front : List X) (count i : ℕ) (s : S) (x : X) (after : S) (total : Result (List X × S) WalkFault) → i < count → item s ≡ Ok (x, after)
+pub goes_on : {E S X : Type 0} (item : S → Result (X × S) E) (front : List X) (count i : ℕ) (s : S) (x : X) (after : S) (total : Result (List X × S) E) → i < count → item s ≡ Ok (x, after)
     → with_front front (items_at item (count - i) s) ≡ total → with_front (front ++ x ∷ []) (items_at item (count - (i + 1)) after) ≡ total
 unfolding items_at
 goes_on item front count i s x after total lt h so_far =
     let k : count - i ≡ suc (count - (i + 1)) = omega arith in
     let one : with_front front (items_at item (count - i) s) ≡ with_front (front ++ x ∷ []) (items_at item (count - (i + 1)) after) = rw (k, h) (regroup front x (items_at item (count - (i + 1)) after)) in
     sym one ∙ so_far
+
+-- an item that fails
+pub stops : {E S X : Type 0} (f : E) (item : S → Result (X × S) E) (front : List X) (count i : ℕ) (s : S) (total : Result (List X × S) E) → i < count → item s ≡ Err f
+    → with_front front (items_at item (count - i) s) ≡ total → total ≡ Err f
+unfolding items_at
+stops f item front count i s total lt h so_far =
+    let k : count - i ≡ suc (count - (i + 1)) = omega arith in
+    let one : with_front front (items_at item (count - i) s) ≡ Err f = rw (k, h) refl in
+    sym so_far ∙ one
 
 -- a failure of a function that takes no memory is one of a function that does
 pub fails : {X : Type 0} (e : WalkRefusal) (read : Result X WalkFault) → FailsExactly e read → Fails e read
@@ -32,14 +41,10 @@ fails (refusals.Fault f) read failed = failed
 
 pub ends : {S X : Type 0} (e : WalkRefusal) (item : S → Result (X × S) WalkFault) (front : List X) (count i : ℕ) (s : S) (total : Result (List X × S) WalkFault) → i < count → Fails e (item s)
     → with_front front (items_at item (count - i) s) ≡ total → Fails e total
-unfolding items_at
 ends refusals.NoMemory item front count i s total lt h so_far = tt
-ends (refusals.Fault f) item front count i s total lt h so_far =
-    let k : count - i ≡ suc (count - (i + 1)) = omega arith in
-    let one : with_front front (items_at item (count - i) s) ≡ Err f = rw (k, h) refl in
-    sym so_far ∙ one
+ends (refusals.Fault f) item front count i s total lt h so_far = stops f item front count i s total lt h so_far
 
-pub is_done : {S X : Type 0} (item : S → Result (X × S) WalkFault) (front : List X) (count i : ℕ) (s : S) (total : Result (List X × S) WalkFault) → count ≤ i → with_front front (items_at item (count - i) s) ≡ total → total ≡ Ok (front, s)
+pub is_done : {E S X : Type 0} (item : S → Result (X × S) E) (front : List X) (count i : ℕ) (s : S) (total : Result (List X × S) E) → count ≤ i → with_front front (items_at item (count - i) s) ≡ total → total ≡ Ok (front, s)
 unfolding items_at
 is_done {X = X} item front count i s total le so_far =
     let k : count - i ≡ 0 = omega arith in

@@ -15,9 +15,9 @@ use Rattle.class_walk.specs.declared.pool.Tag.{Tag}
 use Rattle.class_walk.specs.declared.pool.Tag.TheVariants as tags
 use Rattle.class_walk.specs.declared.refusal.WalkFault.TheVariants.{PoolTag}
 use Rattle.class_walk.specs.Place.{Place}
-use Rattle.class_walk.specs.Layout.{u1, u2, u4, u8, constant, Fits, is_gap, is_wide, IsGapped, IsPool, pool_table}
+use Rattle.class_walk.specs.Layout.{IsBytes, u1, u2, u4, u8, constant, Fits, is_gap, is_wide, IsGapped, IsPool, pool_table}
 use Rattle.class_walk.specs.Reading.{bytes_at, number_at, items_at, tag_of, one_at, two_at, utf8_at, content_at, tagged, tag_at, entry_at, PoolPlace, slot_at, next_slot, slots_at, count_at, pool_at}
-use Rattle.class_walk.proofs.Fields.{IsBytes, Takes, Takes-nothing, Takes-then, Takes-first, Takes-second, between, bytes_after, bind_ok, bind_then, guard_ok, ok_is, bytes_take, bytes_again, IsWide, wide1, wide2, wide4, wide8, number_takes, number_again}
+use Rattle.class_walk.proofs.Fields.{Takes, Takes-nothing, Takes-then, Takes-first, Takes-second, between, bytes_after, bind_ok, bind_then, guard_ok, ok_is, bytes_take, bytes_again, IsWide, wide1, wide2, wide4, wide8, number_takes, number_again}
 use Rattle.class_walk.proofs.Laws.{Law, place_is}
 
 -- ---- tags

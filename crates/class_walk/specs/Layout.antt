@@ -1,5 +1,5 @@
 -- The layout of a class file: its bytes as a function of what it holds (JVMS SE 8, chapter 4).
-use Rattle.std.specs.Prelude.{◌≡◌, ℕ, ◌+◌, ◌<◌, ◌≤◌, ◌^◌, Bool, true, false, List, [], ◌∷◌, ◌++◌, length, take, drop, FitsSigned}
+use Rattle.std.specs.Prelude.{◌≡◌, ℕ, ◌+◌, ◌<◌, ◌≤◌, ◌^◌, Bool, true, false, List, [], ◌∷◌, ◌++◌, length, take, drop, slice_index, FitsSigned}
 use Rattle.std.specs.List.{flat_map, AllByRecursion}
 use Rattle.std.specs.Int.{w32, w64, cast_unsigned}
 use Rattle.byteorder.specs.Endian.{big_bytes, big_number}
@@ -10,6 +10,10 @@ use Rattle.class_walk.specs.declared.class.RawMember.{RawMember}
 use Rattle.class_walk.specs.declared.class.RawClass.{RawClass}
 use Rattle.class_walk.specs.declared.class.RawHandler.{RawHandler}
 use Rattle.class_walk.specs.declared.class.RawCode.{RawCode}
+
+-- numbers that are bytes
+abbrev pub IsBytes : List ℕ → Type 0
+IsBytes bytes = (i : ℕ) → slice_index bytes i < 256
 
 -- numbers of one, two, four and eight bytes, the highest first (JVMS 4)
 abbrev pub u1 : ℕ → List ℕ
@@ -155,7 +159,7 @@ pub record IsClassFile (bytes : List ℕ) (c : RawClass) : Type 0 where
 abbrev pub handler : RawHandler → List ℕ
 handler h = u2 h.from ++ u2 h.to ++ u2 h.at ++ u2 h.kind
 
-pub record IsHandler (h : RawHandler) : Type 0 where
+pub record IsRawHandler (h : RawHandler) : Type 0 where
   pub from : h.from < 2 ^ 16
   pub to : h.to < 2 ^ 16
   pub at : h.at < 2 ^ 16
@@ -172,7 +176,7 @@ pub record IsCode (c : RawCode) : Type 0 where
   pub max_stack : c.max_stack < 2 ^ 16
   pub max_locals : c.max_locals < 2 ^ 16
   pub size : length c.bytes < 2 ^ 32
-  pub handlers : IsCounted IsHandler c.handlers
+  pub handlers : IsCounted IsRawHandler c.handlers
   pub attributes : IsTable attribute IsAttribute (length (code_front c)) c.attributes
 
 -- this content is that of this code; an attribute's content has at most 2 ^ 32 - 1 bytes (JVMS 4.7)

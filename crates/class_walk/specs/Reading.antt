@@ -16,13 +16,14 @@ use Rattle.class_walk.specs.declared.refusal.WalkFault.{WalkFault}
 use Rattle.class_walk.specs.declared.refusal.WalkFault.TheVariants.{TooLong, Truncated, Magic, Version, PoolTag, Trailing}
 use Rattle.class_walk.specs.declared.refusal.WalkRefusal.{WalkRefusal}
 use Rattle.class_walk.specs.declared.refusal.WalkRefusal.TheVariants as refusals
-use Rattle.class_walk.specs.declared.refusal.CodeRefusal.{CodeRefusal}
-use Rattle.class_walk.specs.declared.refusal.CodeRefusal.TheVariants as codes
+use Rattle.class_walk.specs.declared.refusal.ContentRefusal.{ContentRefusal}
+use Rattle.class_walk.specs.declared.refusal.ContentRefusal.TheVariants as codes
 use Rattle.class_walk.specs.Place.{Place}
 use Rattle.class_walk.specs.Layout.{is_wide}
 
+-- one step, and behind it one that takes what it gave; the first failure is the failure of both
 infixl 10 ◌>>=◌
-abbrev pub ◌>>=◌ : {A B : Type 0} → Result A WalkFault → (A → Result B WalkFault) → Result B WalkFault
+abbrev pub ◌>>=◌ : {E A B : Type 0} → Result A E → (A → Result B E) → Result B E
 (Ok x) >>= f = f x
 (Err e) >>= f = Err e
 
@@ -66,7 +67,7 @@ number_at n p = do
   Ok (big_number n bytes.0, bytes.1)
 
 -- so many items, one after the other
-unfoldable pub items_at : {S X : Type 0} → (S → Result (X × S) WalkFault) → ℕ → S → Result (List X × S) WalkFault
+unfoldable pub items_at : {E S X : Type 0} → (S → Result (X × S) E) → ℕ → S → Result (List X × S) E
 items_at item zero s = Ok ([], s)
 items_at item (suc n) s = do
   first ← item s
@@ -311,12 +312,12 @@ unfoldable pub code_of : List ℕ → Option RawCode
 code_of content = if nat_lt 4294967295 (length content) then None else result_ok (content_of content)
 
 -- each fault of a content is that it is malformed
-abbrev pub refused : WalkRefusal → CodeRefusal
+abbrev pub refused : WalkRefusal → ContentRefusal
 refused refusals.NoMemory = codes.NoMemory
 refused (refusals.Fault _) = codes.Malformed
 
 -- What a function returned is this code, or is Malformed where there is none, unless memory ran out.
-abbrev pub Reads : Result RawCode CodeRefusal → Option RawCode → Type 0
+abbrev pub Reads : Result RawCode ContentRefusal → Option RawCode → Type 0
 Reads (Ok code) wanted = wanted ≡ Some code
 Reads (Err codes.NoMemory) wanted = Unit {0}
 Reads (Err codes.Malformed) wanted = wanted ≡ None

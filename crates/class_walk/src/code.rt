@@ -9,7 +9,7 @@ ghost use Rattle.class_walk.specs.Reading.{FailsExactly, Gives, GivesAndLeaves, 
 use crate::class::{RawCode, RawHandler};
 use crate::cursor::Cursor;
 use crate::members::attributes;
-use crate::refusal::{CodeRefusal, WalkRefusal};
+use crate::refusal::{ContentRefusal, WalkRefusal};
 use rows::{Bytes, Rows};
 use std::alloc::Global;
 
@@ -101,22 +101,22 @@ fn whole(alloc: Global, content: &[u8]) -> Result<RawCode, WalkRefusal>
 }
 
 /// Each fault is that the content is malformed.
-fn refused(refusal: WalkRefusal) -> CodeRefusal
+fn refused(refusal: WalkRefusal) -> ContentRefusal
     ensures { result ≡ refused refusal }
 {
     match refusal {
-        WalkRefusal::NoMemory => CodeRefusal::NoMemory,
-        WalkRefusal::Fault(_) => CodeRefusal::Malformed,
+        WalkRefusal::NoMemory => ContentRefusal::NoMemory,
+        WalkRefusal::Fault(_) => ContentRefusal::Malformed,
     }
 }
 
-fn whole_or_malformed(alloc: Global, content: &[u8]) -> Result<RawCode, CodeRefusal>
+fn whole_or_malformed(alloc: Global, content: &[u8]) -> Result<RawCode, ContentRefusal>
     ensures exact { Reads result (code_of content.now) }
-    ensures cut { IsCut content.now → result ≡ Err CodeRefusal.Malformed }
-    ensures length { 2 ^ 32 ≤ length content.now → result ≡ Err CodeRefusal.Malformed }
+    ensures cut { IsCut content.now → result ≡ Err ContentRefusal.Malformed }
+    ensures length { 2 ^ 32 ≤ length content.now → result ≡ Err ContentRefusal.Malformed }
 {
     if content.len() > MAX_CONTENT {
-        return Err(CodeRefusal::Malformed);
+        return Err(ContentRefusal::Malformed);
     }
     match whole(alloc, content) {
         Ok(code) => Ok(code),
@@ -129,7 +129,7 @@ fn whole_or_malformed(alloc: Global, content: &[u8]) -> Result<RawCode, CodeRefu
 ///
 /// `Malformed` comes exactly where the bytes are no such content from their first to their last. `NoMemory`
 /// may come anywhere behind the instructions.
-pub fn code_content(alloc: Global, content: &[u8]) -> Result<RawCode, CodeRefusal>
+pub fn code_content(alloc: Global, content: &[u8]) -> Result<RawCode, ContentRefusal>
     // What is read is spelled so, each byte of it.
     ensures found { IfOk result (λ c. IsCodeContent content.now c) }
     // What is spelled so is read, unless memory runs out.
@@ -138,8 +138,8 @@ pub fn code_content(alloc: Global, content: &[u8]) -> Result<RawCode, CodeRefusa
     ensures exact { Reads result (code_of content.now) }
     // Bytes that end before the instructions do, or more than a content may have, are malformed before
     // memory is taken.
-    ensures cut { IsCut content.now → result ≡ Err CodeRefusal.Malformed }
-    ensures length { 2 ^ 32 ≤ length content.now → result ≡ Err CodeRefusal.Malformed }
+    ensures cut { IsCut content.now → result ≡ Err ContentRefusal.Malformed }
+    ensures length { 2 ^ 32 ≤ length content.now → result ≡ Err ContentRefusal.Malformed }
 {
     whole_or_malformed(alloc, content)
 }

@@ -15,5 +15,5 @@ mod walking;
 
 pub use class::{Constant, RawAttribute, RawClass, RawCode, RawHandler, RawMember};
 pub use code::code_content;
-pub use refusal::{CodeRefusal, WalkFault, WalkRefusal};
+pub use refusal::{ContentRefusal, WalkFault, WalkRefusal};
 pub use walking::{MOST_BYTES, walk};

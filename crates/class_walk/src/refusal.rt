@@ -49,7 +49,7 @@ impl<T: Drop> From<AllocFailed<T>> for WalkRefusal {
 
 /// Why the content of a Code attribute wasn't read.
 #[derive(Clone, Copy)]
-pub enum CodeRefusal {
+pub enum ContentRefusal {
     /// There was no memory.
     NoMemory,
     /// The bytes are no such content, or bytes stand behind it.

@@ -4,7 +4,7 @@ use Rattle.class_walk.specs.declared.class.RawAttribute.{RawAttribute}
 use Rattle.class_walk.specs.declared.class.RawMember.{RawMember}
 use Rattle.class_walk.specs.declared.class.RawClass.{RawClass}
 use Rattle.class_walk.specs.declared.class.RawCode.{RawCode}
-use Rattle.class_walk.specs.Layout.{attribute, member, table, front, code_front, IsCounted, IsPool, IsHandler}
+use Rattle.class_walk.specs.Layout.{attribute, member, table, front, code_front, IsCounted, IsPool, IsRawHandler}
 
 -- attributes one behind the other, the first at this place
 abbrev pub placed_attributes : ℕ → List RawAttribute → List RawAttribute
@@ -56,5 +56,5 @@ pub record IsCodeButPlaces (c : RawCode) : Type 0 where
   pub max_stack : c.max_stack < 2 ^ 16
   pub max_locals : c.max_locals < 2 ^ 16
   pub size : length c.bytes < 2 ^ 32
-  pub handlers : IsCounted IsHandler c.handlers
+  pub handlers : IsCounted IsRawHandler c.handlers
   pub attributes : IsCounted IsAttributeButPlace c.attributes

@@ -1,5 +1,5 @@
 -- What a class file says of its methods.
-use Rattle.std.proofs.Common.{◌≡◌, ◌+◌, ◌<◌, ◌^◌, ℕ, zero, suc, Bool, true, false, cond, List, [], ◌∷◌, ◌++◌, length, sym, ap, subst, ◌∙◌, refl, arith, lit<, add-one, Ok}
+use Rattle.std.proofs.Common.{◌≡◌, ◌+◌, ◌<◌, ◌^◌, ℕ, zero, suc, Bool, true, false, cond, List, [], ◌∷◌, ◌++◌, length, sym, ap, subst, ◌∙◌, refl, arith, add-one, Ok}
 use Rattle.std.specs.Prelude.{Some, None, Option, slice_get, option_map, codes, find}
 use Rattle.std.specs.List.{flat_map}
 use Rattle.std.proofs.lemmas.List.{length-map}
@@ -9,10 +9,10 @@ use Rattle.class_walk.specs.declared.class.RawAttribute.{RawAttribute}
 use Rattle.class_walk.specs.declared.class.RawClass.{RawClass}
 use Rattle.class_walk.specs.declared.class.RawCode.{RawCode}
 use Rattle.class_walk.specs.declared.class.RawMember.{RawMember}
-use Rattle.class_walk.specs.Layout.{IsCodeContent, u2, u4, table, member, attribute, front, spelling}
+use Rattle.class_walk.specs.Layout.{IsBytes, IsCodeContent, u2, u4, table, member, attribute, front, spelling}
 use Rattle.class_walk.specs.Reading.{code_of}
 use Rattle.class_walk.specs.declared.class.RawHandler.{RawHandler}
-use Rattle.class_walk.proofs.Fields.{IsBytes}
+use Rattle.class_walk.proofs.Fields.{bytes_front, bytes_behind}
 use Rattle.class_walk.proofs.CodeLaws.{code_found}
 use Rattle.class_read.specs.declared.class_file.ClassFile.{ClassFile}
 use Rattle.class_read.specs.declared.class_file.CodeAttribute.{CodeAttribute}
@@ -41,37 +41,28 @@ method_type file n m (bytes, are_bytes, (c, is_class, sound, is)) at =
     let R : ClassFile → Type 0 = λ f. HasMethodType f.pool m in
     subst R (sym is) (subst Q raw.2 (sound.methods n raw.0 raw.1).descriptor)
 
-bytes_left : (xs ys : List ℕ) → IsBytes (xs ++ ys) → IsBytes xs
-bytes_left [] ys h i = lit< tt
-bytes_left (x ∷ xs) ys h zero = h zero
-bytes_left (x ∷ xs) ys h (suc i) = bytes_left xs ys (λ j. h (suc j)) i
-
-bytes_right : (xs ys : List ℕ) → IsBytes (xs ++ ys) → IsBytes ys
-bytes_right [] ys h = h
-bytes_right (x ∷ xs) ys h = bytes_right xs ys (λ j. h (suc j))
-
 -- the bytes of an item of many
 bytes_in : {X : Type 0} (item : X → List ℕ) (xs : List X) (k : ℕ) (x : X) → slice_get xs k ≡ Some x → IsBytes (flat_map item xs) → IsBytes (item x)
 bytes_in item [] k x at h = absurd cc
 bytes_in item (y ∷ ys) zero x at h =
     let here : IsBytes (item y ++ flat_map item ys) = h in
-    subst (λ (z : _). IsBytes (item z)) (same_Some y x at) (bytes_left (item y) (flat_map item ys) here)
+    subst (λ (z : _). IsBytes (item z)) (same_Some y x at) (bytes_front (item y) (flat_map item ys) here)
 bytes_in item (y ∷ ys) (suc k) x at h =
     let here : IsBytes (item y ++ flat_map item ys) = h in
-    bytes_in item ys k x at (bytes_right (item y) (flat_map item ys) here)
+    bytes_in item ys k x at (bytes_behind (item y) (flat_map item ys) here)
 
 -- the bytes of a method of a class
 method_bytes : (c : RawClass) (n : ℕ) (r : RawMember) → slice_get c.methods n ≡ Some r → IsBytes (spelling c) → IsBytes (member r)
 method_bytes c n r at h =
-    let methods = bytes_right (front c ++ table member c.fields) (table member c.methods) (bytes_left (front c ++ table member c.fields ++ table member c.methods) (table attribute c.attributes) h) in
-    bytes_in member c.methods n r at (bytes_right (u2 (length c.methods)) (flat_map member c.methods) methods)
+    let methods = bytes_behind (front c ++ table member c.fields) (table member c.methods) (bytes_front (front c ++ table member c.fields ++ table member c.methods) (table attribute c.attributes) h) in
+    bytes_in member c.methods n r at (bytes_behind (u2 (length c.methods)) (flat_map member c.methods) methods)
 
 -- the bytes of the content of an attribute of a method
 content_bytes : (r : RawMember) (k : ℕ) (x : RawAttribute) → slice_get r.attributes k ≡ Some x → IsBytes (member r) → IsBytes x.content
 content_bytes r k x at h =
-    let all = bytes_right (u2 r.flags ++ u2 r.name ++ u2 r.descriptor) (table attribute r.attributes) h in
-    let one : IsBytes (attribute x) = bytes_in attribute r.attributes k x at (bytes_right (u2 (length r.attributes)) (flat_map attribute r.attributes) all) in
-    bytes_right (u2 x.name ++ u4 (length x.content)) x.content one
+    let all = bytes_behind (u2 r.flags ++ u2 r.name ++ u2 r.descriptor) (table attribute r.attributes) h in
+    let one : IsBytes (attribute x) = bytes_in attribute r.attributes k x at (bytes_behind (u2 (length r.attributes)) (flat_map attribute r.attributes) all) in
+    bytes_behind (u2 x.name ++ u4 (length x.content)) x.content one
 
 -- what is found stands somewhere
 found_at : {X : Type 0} (p : X → Bool) (xs : List X) (x : X) → find p xs ≡ Some x → (k : ℕ) × (slice_get xs k ≡ Some x)

@@ -5,7 +5,7 @@ use Rattle.std.proofs.lemmas.Bool.{cases_lt}
 use Rattle.std.proofs.lemmas.Option.{same_Some, slice_get_within}
 use Rattle.class_walk.specs.declared.class.Constant.{Constant}
 use Rattle.class_walk.specs.declared.class.RawHandler.{RawHandler}
-use Rattle.class_read.proofs.Lists.{slice_get-push}
+use Rattle.class_pool.proofs.Lists.{slice_get-push}
 use Rattle.instructions.specs.declared.what.Instr.{Instr}
 use Rattle.instructions.specs.declared.what.Target.{Target}
 use Rattle.code_decode.specs.declared.code.Handler.{Handler}

@@ -11,9 +11,9 @@ use Rattle.class_read.specs.declared.class_file.ClassFile.{ClassFile}
 use Rattle.class_read.specs.declared.class_file.CodeAttribute.{CodeAttribute}
 use Rattle.class_read.specs.declared.class_file.Member.{Member}
 use Rattle.class_read.specs.MemberRules.{receiver_words}
-use Rattle.class_read.specs.Pool.{IsUtf8At}
-use Rattle.class_read.specs.TextUses.{IsUseOf, IsUseAt}
-use Rattle.class_read.specs.declared.text_uses.TextUse.{TextUse}
+use Rattle.class_pool.specs.Pool.{IsUtf8At}
+use Rattle.class_pool.specs.TextUses.{IsUseOf, IsUseAt}
+use Rattle.class_pool.specs.declared.text_uses.TextUse.{TextUse}
 use Rattle.code_decode.specs.declared.code.Code.{Code}
 use Rattle.code_decode.specs.declared.refusal.CodeRefusal.{CodeRefusal}
 use Rattle.code_decode.specs.declared.refusal.CodeRefusal.TheVariants.{NoMemory}

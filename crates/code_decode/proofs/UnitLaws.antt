@@ -10,7 +10,7 @@ use Rattle.code_decode.specs.declared.refusal.CodeRefusal.{CodeRefusal}
 use Rattle.code_decode.specs.Answer.{IsOnly, IsRefusal}
 use Rattle.code_decode.specs.Method.{IsCodeOf, CodeOfRefuses}
 use Rattle.code_decode.specs.Unit.{IsCodeEntry, AreOnly, IsFirstRefused}
-use Rattle.class_read.proofs.Lists.{slice_get-push}
+use Rattle.class_pool.proofs.Lists.{slice_get-push}
 use Rattle.code_decode.proofs.HandlerLaws.{same_items, item_at, sides}
 
 -- a method that has a code has no entry without one

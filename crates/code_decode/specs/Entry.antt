@@ -4,12 +4,12 @@ use Rattle.class_walk.specs.declared.class.Constant.{Constant}
 use Rattle.class_names.specs.Descriptor.{IsMethodDescriptor}
 use Rattle.class_names.specs.declared.kind.Kind.{Kind}
 use Rattle.class_read.specs.declared.class_file.Member.{Member}
-use Rattle.class_read.specs.Pool.{IsUtf8At}
-use Rattle.class_read.specs.MemberRules.{IsTextOf, IsTypeOfMethod, receiver_words}
+use Rattle.class_pool.specs.Pool.{IsUtf8At}
+use Rattle.class_read.specs.MemberRules.{IsTextAt, IsTypeOfMethod, receiver_words}
 
 -- its descriptor is that of a method
 abbrev pub HasMethodType : List Constant → Member → Type 0
-HasMethodType pool m = IsTextOf (IsTypeOfMethod m.flags) pool m.descriptor
+HasMethodType pool m = IsTextAt (IsTypeOfMethod m.flags) pool m.descriptor
 
 -- so many values: the receiver, where there is one, and the parameters
 abbrev pub IsEntryCount : List Constant → Member → ℕ → Type 0

@@ -2,7 +2,7 @@
 use Rattle.std.specs.Prelude.{◌≡◌, ℕ, ◌<◌, ◌⊎◌, ◌==◌, if◌then◌else◌, List, length, slice_get, Option, Some}
 use Rattle.class_walk.specs.declared.class.Constant.{Constant}
 use Rattle.class_walk.specs.declared.class.RawHandler.{RawHandler}
-use Rattle.class_read.specs.PoolRules.{IsClassEntry}
+use Rattle.class_pool.specs.PoolRules.{IsClassEntry}
 use Rattle.instructions.specs.declared.what.Instr.{Instr}
 use Rattle.instructions.specs.declared.what.Target.{Target}
 use Rattle.instructions.specs.Steps.{number_at}

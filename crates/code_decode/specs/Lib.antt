@@ -4,3 +4,4 @@ pub mod Handlers
 pub mod Code
 pub mod Method
 pub mod Unit
+pub mod Refusal

@@ -2,6 +2,7 @@
 
 ghost use Rattle.std.specs.Prelude.{◌≡◌};
 ghost use Rattle.code_decode.specs.declared.refusal.CodeRefusal.TheVariants as refusals;
+ghost use Rattle.code_decode.specs.Refusal.{number_of, place_of};
 
 use std::alloc::{AllocError, AllocFailed};
 use thiserror::Error;
@@ -41,6 +42,44 @@ pub enum CodeRefusal {
     /// There was no memory.
     #[error("NoMemory")]
     NoMemory,
+}
+
+impl CodeRefusal {
+    /// The number by which the refusal is told, from 1 in the order of the variants.
+    pub fn number(self) -> u8
+        ensures { result ≡ number_of self }
+    {
+        match self {
+            CodeRefusal::Opcode(_) => 1,
+            CodeRefusal::Unsupported(_) => 2,
+            CodeRefusal::Cut(_) => 3,
+            CodeRefusal::Target(_) => 4,
+            CodeRefusal::Handler(_) => 5,
+            CodeRefusal::Frame(_) => 6,
+            CodeRefusal::Length => 7,
+            CodeRefusal::Switch(_) => 8,
+            CodeRefusal::Operand(_) => 9,
+            CodeRefusal::NoMemory => 10,
+        }
+    }
+
+    /// The offset in the code, or the number of a handler or a frame, that the refusal names; 0 where it names none.
+    pub fn place(self) -> u32
+        ensures { result ≡ place_of self }
+    {
+        match self {
+            CodeRefusal::Opcode(place) => place,
+            CodeRefusal::Unsupported(place) => place,
+            CodeRefusal::Cut(place) => place,
+            CodeRefusal::Target(place) => place,
+            CodeRefusal::Handler(place) => u32::from(place),
+            CodeRefusal::Frame(place) => u32::from(place),
+            CodeRefusal::Length => 0,
+            CodeRefusal::Switch(place) => place,
+            CodeRefusal::Operand(place) => place,
+            CodeRefusal::NoMemory => 0,
+        }
+    }
 }
 
 impl From<AllocError> for CodeRefusal {

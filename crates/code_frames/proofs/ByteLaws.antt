@@ -1,11 +1,12 @@
 -- Numbers of a fixed width: what is read is what stands there, and what stands there is read.
-use Rattle.std.proofs.Common.{◌≡◌, ℕ, ◌+◌, ◌^◌, ◌<◌, ◌≤◌, Bool, true, false, cond, ltb, List, [], ◌++◌, length, take, drop, Some, None, Option, refl, sym, ap, subst, ◌∙◌, append_assoc, arith, inl, inr}
-use Rattle.std.proofs.lemmas.Bool.{cases_lt, ltb-false, le-ltb}
-use Rattle.std.proofs.lemmas.List.{append-nil, take_at, drop_at, take-append-drop, length-append, length-take, get_or-append-add, get_or_append_left, get_or_past}
+use Rattle.std.proofs.Common.{◌≡◌, ℕ, ◌+◌, ◌^◌, ◌<◌, ◌≤◌, Bool, true, false, cond, ltb, List, [], ◌++◌, length, take, drop, Some, None, Option, refl, sym, ap, subst, ◌∙◌, append_assoc, arith}
+use Rattle.std.proofs.lemmas.Bool.{ltb-false, le-ltb}
+use Rattle.std.proofs.lemmas.List.{append-nil, take_at, drop_at, take-append-drop, length-append, length-take}
 use Rattle.byteorder.specs.Endian.{big_number, big_bytes}
 use Rattle.byteorder.specs.Numbers.{big_number-reads_back, length-bytes_high_first, big_from-lt}
-use Rattle.class_walk.proofs.Fields.{IsWide}
-use Rattle.code_frames.specs.Reading.{◌>>=◌, IsBytes, unsigned_at}
+use Rattle.class_walk.specs.Layout.{IsBytes}
+use Rattle.class_walk.proofs.Fields.{bytes_front, bytes_behind, IsWide}
+use Rattle.code_frames.specs.Reading.{◌>>=◌, unsigned_at}
 
 -- the text stands in front, and the others are bytes
 pub record Takes (bytes text others : List ℕ) : Type 0 where
@@ -24,16 +25,6 @@ Takes-then {x = x} {y = y} {c = c} s t = record {
 -- the bytes between two texts, handed on
 pub split_then : (bytes x y others : List ℕ) (C : Type 0) → bytes ≡ (x ++ y) ++ others → ((rest : List ℕ) → bytes ≡ x ++ rest → rest ≡ y ++ others → C) → C
 split_then bytes x y others C parts next = next (y ++ others) (parts ∙ append_assoc x y others) refl
-
-bytes_after : (text others : List ℕ) → IsBytes (text ++ others) → IsBytes others
-bytes_after text others fits i = rw (← get_or-append-add text others i 0) (fits (length text + i))
-
-bytes_before : (text others : List ℕ) → IsBytes (text ++ others) → IsBytes text
-bytes_before text others fits i =
-    elim (cases_lt i (length text)) [
-      | inl lt ↦ rw (← get_or_append_left text others 0 i lt) (fits i)
-      | inr le ↦ rw (get_or_past text i 0 le) (omega arith)
-    ]
 
 -- the value of a step that did not fail, handed on
 pub bind_then : {A B : Type 0} (o : Option A) (f : A → Option B) (y : B) (C : Type 0) → (o >>= f) ≡ Some y → ((x : A) → o ≡ Some x → f x ≡ Some y → C) → C
@@ -64,9 +55,9 @@ unsigned_takes n wide bytes x others fits e =
     let enough : n ≤ length bytes = ltb-false _ _ long in
     let len : length (take n bytes) ≡ n = omega (arith, length-take n bytes) in
     let whole : IsBytes (take n bytes ++ drop n bytes) = rw (take-append-drop n bytes) fits in
-    let front : IsBytes (take n bytes) = bytes_before (take n bytes) (drop n bytes) whole in
+    let front : IsBytes (take n bytes) = bytes_front (take n bytes) (drop n bytes) whole in
     let taken : Takes bytes (big_bytes n (big_number n (take n bytes))) (drop n bytes) =
-    rw (wide.back (take n bytes) len front) (record { parts = sym (take-append-drop n bytes); fits = bytes_after (take n bytes) (drop n bytes) whole }) in
+    rw (wide.back (take n bytes) len front) (record { parts = sym (take-append-drop n bytes); fits = bytes_behind (take n bytes) (drop n bytes) whole }) in
     subst (λ (y : ℕ × List ℕ). Takes bytes (big_bytes n y.0) y.1 × (y.0 < 256 ^ n)) {x = (big_number n (take n bytes), drop n bytes)} (some_is _ (x, others) same)
     (taken, big_from-lt 0 n (take n bytes) front))
 

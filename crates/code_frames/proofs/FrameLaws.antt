@@ -17,7 +17,8 @@ use Rattle.code_frames.specs.declared.form.FrameForm.{FrameForm}
 use Rattle.code_frames.specs.declared.form.FrameForm.TheVariants as forms
 use Rattle.code_frames.specs.Locals.{count_after}
 use Rattle.code_frames.specs.StackMap.{item, IsItem, IsFrameText, IsChange, Previous, BeginsWith}
-use Rattle.code_frames.specs.Reading.{IsBytes, unsigned_at, item_at, items_at, items_table_at, form_of, delta_at, content_at, frame_at}
+use Rattle.class_walk.specs.Layout.{IsBytes}
+use Rattle.code_frames.specs.Reading.{unsigned_at, item_at, items_at, items_table_at, form_of, delta_at, content_at, frame_at}
 use Rattle.code_frames.proofs.ByteLaws.{Takes, Takes-then, split_then, bind_then, found, some_is, chosen, unsigned_takes, unsigned_again}
 use Rattle.code_frames.proofs.ItemLaws.{item_takes, item_again, items_take, items_again, table_takes, table_again}
 

@@ -18,16 +18,18 @@ use Rattle.instructions.specs.Steps.{number_at}
 use Rattle.code_frames.specs.declared.types.VType.{VType}
 use Rattle.code_frames.specs.declared.types.VType.TheVariants.{Top, Int, Float, Double, Long, Null, UninitThis, Object, Uninit, Entry}
 use Rattle.code_frames.specs.StackMap.{item, IsNewAt, IsItem}
-use Rattle.code_frames.specs.Reading.{IsBytes, unsigned_at, is_class, is_class_at, is_new, makes_object, is_new_at, object_at, uninit_at, tagged_item_at, item_at, items_at, items_table_at}
+use Rattle.class_walk.specs.Layout.{IsBytes}
+use Rattle.class_pool.specs.PoolTest.{is_class_entry}
+use Rattle.code_frames.specs.Reading.{unsigned_at, is_new, makes_object, is_new_at, object_at, uninit_at, tagged_item_at, item_at, items_at, items_table_at}
 use Rattle.code_frames.proofs.ByteLaws.{Takes, Takes-nothing, Takes-then, split_then, bind_then, found, some_is, chosen, unsigned_takes, unsigned_again}
 
 -- ---- Class entries and instructions `new`
 
-is_class_then : (o : Option Constant) → is_class o ≡ true → (name : ℕ) × (o ≡ Some (constants.Class name))
+is_class_then : (o : Option Constant) → is_class_entry o ≡ true → (name : ℕ) × (o ≡ Some (constants.Class name))
 is_class_then (Some (constants.Class name)) e = (name, refl)
 is_class_then _ e = absurd cc
 
-then_is_class : (o : Option Constant) → ((name : ℕ) × (o ≡ Some (constants.Class name))) → is_class o ≡ true
+then_is_class : (o : Option Constant) → ((name : ℕ) × (o ≡ Some (constants.Class name))) → is_class_entry o ≡ true
 then_is_class o found = rw found.1 refl
 
 is_new_then : (what : What Target) → is_new what ≡ true → (class : ℕ) × (what ≡ instructions.Class New class)
@@ -67,7 +69,7 @@ object_takes : (pool : List Constant) (steps : List (Instr Target)) (bytes : Lis
 unfolding object_at
 object_takes pool steps bytes x others fits e =
     bind_then (unsigned_at 2 bytes) _ _ _ e (λ index read e.
-    chosen (is_class_at pool index.0) (Some (Object index.0, index.1)) None (Some (x, others)) _ e
+    chosen (is_class_entry (slice_get pool index.0)) (Some (Object index.0, index.1)) None (Some (x, others)) _ e
     (λ is same.
     let taken = unsigned_takes 2 wide2 bytes index.0 index.1 fits read in
     subst (λ (z : VType × List ℕ). Tagged pool steps 7 bytes z.0 z.1) {x = (Object index.0, index.1)} (some_is _ (x, others) same)

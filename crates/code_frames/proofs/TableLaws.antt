@@ -18,7 +18,8 @@ use Rattle.code_frames.specs.declared.refusal.FrameRefusal.{FrameRefusal}
 use Rattle.code_frames.specs.declared.refusal.FrameRefusal.TheVariants as refusals
 use Rattle.code_frames.specs.Locals.{count_after}
 use Rattle.code_frames.specs.StackMap.{Previous, entry, next, behind, BeginsWith, BeginsWithAll, IsTableOf, IsStackMap, HasNoFrame, IsBadBehind, IsFirstBadFrame, IsUnlessNoMemory}
-use Rattle.code_frames.specs.Reading.{IsBytes, Fails, unsigned_at, frame_at, previous_of, refusal_of, GivesFrames, Answers}
+use Rattle.class_walk.specs.Layout.{IsBytes}
+use Rattle.code_frames.specs.Reading.{Fails, unsigned_at, frame_at, previous_of, refusal_of, GivesFrames, Answers}
 use Rattle.code_frames.proofs.ByteLaws.{found, chosen, some_is, unsigned_takes, unsigned_once}
 use Rattle.code_frames.proofs.FrameLaws.{frame_takes, frame_again, frame_once, few_locals}
 

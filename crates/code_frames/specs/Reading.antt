@@ -1,9 +1,9 @@
 -- Reading a StackMapTable from its front.
-use Rattle.std.specs.Prelude.{◌≡◌, ℕ, zero, suc, ◌+◌, ◌-◌, ◌<◌, Bool, true, false, List, [], ◌∷◌, length, take, drop, Option, Some, None, Result, Ok, Err, nat_lt, ◌==◌, slice_get, slice_index, if◌then◌else◌}
+use Rattle.std.specs.Prelude.{◌≡◌, ℕ, zero, suc, ◌+◌, ◌-◌, ◌<◌, Bool, true, false, List, [], ◌∷◌, length, take, drop, Option, Some, None, Result, Ok, Err, nat_lt, ◌==◌, slice_get, if◌then◌else◌}
 use Rattle.std.specs.Option.{option_and_then}
 use Rattle.byteorder.specs.Endian.{big_number}
 use Rattle.class_walk.specs.declared.class.Constant.{Constant}
-use Rattle.class_walk.specs.declared.class.Constant.TheVariants as constants
+use Rattle.class_pool.specs.PoolTest.{is_class_entry}
 use Rattle.instructions.specs.declared.what.Instr.{Instr}
 use Rattle.instructions.specs.declared.what.What.{What}
 use Rattle.instructions.specs.declared.what.What.TheVariants as instructions
@@ -51,19 +51,9 @@ abbrev pub refusal_of : Fault → ℕ → FrameRefusal
 refusal_of faults.Malformed number = refusals.Frame number
 refusal_of faults.NoMemory number = refusals.NoMemory
 
-abbrev pub IsBytes : List ℕ → Type 0
-IsBytes bytes = (i : ℕ) → slice_index bytes i < 256
-
 -- a number of so many bytes, and the bytes behind it
 abbrev pub unsigned_at : ℕ → List ℕ → Option (ℕ × List ℕ)
 unsigned_at n bytes = if nat_lt (length bytes) n then None else Some (big_number n (take n bytes), drop n bytes)
-
-abbrev pub is_class : Option Constant → Bool
-is_class (Some (constants.Class _)) = true
-is_class _ = false
-
-abbrev pub is_class_at : List Constant → ℕ → Bool
-is_class_at pool index = is_class (slice_get pool index)
 
 abbrev pub is_new : What Target → Bool
 is_new (instructions.Class New _) = true
@@ -79,7 +69,7 @@ is_new_at steps at = makes_object (option_and_then (slice_get steps) (number_at 
 unfoldable pub object_at : List Constant → List ℕ → Option (VType × List ℕ)
 object_at pool bytes = do
   index ← unsigned_at 2 bytes
-  if is_class_at pool index.0 then Some (Object index.0, index.1) else None
+  if is_class_entry (slice_get pool index.0) then Some (Object index.0, index.1) else None
 
 unfoldable pub uninit_at : List (Instr Target) → List ℕ → Option (VType × List ℕ)
 uninit_at steps bytes = do

@@ -2,8 +2,8 @@
 use Rattle.std.specs.Prelude.{◌≡◌, ◌≢◌, ℕ, ◌+◌, ◌-◌, ◌<◌, ◌≤◌, ◌^◌, ◌⊎◌, List, [], ◌∷◌, ◌++◌, length, Some, Result, Err, slice_get, fold}
 use Rattle.std.specs.List.{flat_map, AllByRecursion}
 use Rattle.class_walk.specs.declared.class.Constant.{Constant}
-use Rattle.class_walk.specs.declared.class.Constant.TheVariants as constants
 use Rattle.class_walk.specs.Layout.{u1, u2, table, IsCounted}
+use Rattle.class_pool.specs.PoolRules.{IsClassEntry}
 use Rattle.instructions.specs.declared.what.Instr.{Instr}
 use Rattle.instructions.specs.declared.what.Target.{Target}
 use Rattle.instructions.specs.declared.what.What.TheVariants as instructions
@@ -31,17 +31,13 @@ item (Object index) = u1 7 ++ u2 index
 item (Uninit at) = u1 8 ++ u2 at
 item (Entry local) = []
 
--- a Class entry of the pool
-abbrev pub IsClassAt : List Constant → ℕ → Type 0
-IsClassAt pool index = (name : ℕ) × (slice_get pool index ≡ Some (constants.Class name))
-
 -- an instruction `new` begins there
 abbrev pub IsNewAt : List (Instr Target) → ℕ → Type 0
 IsNewAt steps at = (number class : ℕ) × (i : Instr Target) × (number_at steps at ≡ Some number)
     × (slice_get steps number ≡ Some i) × (i.what ≡ instructions.Class New class)
 
 abbrev pub IsItem : List Constant → List (Instr Target) → VType → Type 0
-IsItem pool steps (Object index) = (index < 2 ^ 16) × IsClassAt pool index
+IsItem pool steps (Object index) = (index < 2 ^ 16) × IsClassEntry pool index
 IsItem pool steps (Uninit at) = (at < 2 ^ 16) × IsNewAt steps at
 IsItem pool steps (Entry local) = ⊥
 IsItem pool steps _ = Unit {0}

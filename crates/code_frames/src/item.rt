@@ -1,25 +1,16 @@
 //! The items of a frame: verification types (JVMS 4.7.4).
 
 ghost use Rattle.std.specs.Prelude.{◌≡◌, length};
-ghost use Rattle.code_frames.specs.Reading.{Gives, GivesExactly, is_class, is_new, is_class_at, is_new_at, object_at, uninit_at, tagged_item_at, item_at, items_at, items_table_at};
+ghost use Rattle.code_frames.specs.Reading.{Gives, GivesExactly, is_new, is_new_at, object_at, uninit_at, tagged_item_at, item_at, items_at, items_table_at};
 
 use crate::cursor::Cursor;
 use crate::refusal::Fault;
 use crate::types::VType;
+use class_pool::is_class_entry_at;
 use class_walk::Constant;
 use instructions::{ClassUse, Steps, Target, What};
 use rows::Rows;
 use std::alloc::Global;
-
-/// Whether a Class entry stands at an index of the pool.
-fn is_class_at(pool: &[Constant], index: u16) -> bool
-    ensures { result ≡ is_class_at pool.now index }
-{
-    match pool.get(usize::from(index)) {
-        Some(Constant::Class(_)) => true,
-        _ => false,
-    }
-}
 
 /// Whether an instruction makes an object.
 fn is_new(what: &What<Target>) -> bool
@@ -49,7 +40,7 @@ fn object(pool: &[Constant], cursor: &mut Cursor<'_>) -> Result<VType, Fault>
     ensures { GivesExactly result cursor.new (object_at pool.now cursor.old) }
 {
     let index = cursor.u16()?;
-    if !is_class_at(pool, index) {
+    if !is_class_entry_at(pool, index) {
         return Err(Fault::Malformed);
     }
     Ok(VType::Object(index))

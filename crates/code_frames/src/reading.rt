@@ -3,7 +3,8 @@
 ghost use Rattle.std.specs.Prelude.{◌≡◌, ℕ, ◌+◌, ◌<◌, ◌^◌, List, [], length, Ok, Err, IfOk, IfErr};
 ghost use Rattle.code_frames.specs.declared.types.MapFrame.{MapFrame};
 ghost use Rattle.code_frames.specs.StackMap.{IsStackMap, IsFirstBadFrame, Refuses, IsUnlessNoMemory};
-ghost use Rattle.code_frames.specs.Reading.{IsBytes, Gives, GivesExactly, previous_of, delta_at, content_at, frame_at, GivesFrames, Answers};
+ghost use Rattle.class_walk.specs.Layout.{IsBytes};
+ghost use Rattle.code_frames.specs.Reading.{Gives, GivesExactly, previous_of, delta_at, content_at, frame_at, GivesFrames, Answers};
 
 use crate::cursor::Cursor;
 use crate::form::FrameForm;

@@ -13,7 +13,8 @@ use Rattle.code_steps.specs.CodeArray.{AreLaidOut, by_offsets, targets_of, IsCod
 use Rattle.code_steps.specs.FirstFault.{IsSized, IsLengthFault, IsInstructionFault, IsTargetFault, IsFirstFault, IsFaultOf, LeadsRightly, Lays}
 use Rattle.code_steps.specs.Reading.{Fails}
 use Rattle.code_steps.specs.Targets.{steps_of}
-use Rattle.code_steps.proofs.Fields.{ok_is, err_is}
+use Rattle.class_walk.proofs.Fields.{ok_is}
+use Rattle.code_steps.proofs.Fields.{err_is}
 use Rattle.code_steps.proofs.LayoutLaws.{one_layout}
 use Rattle.code_steps.proofs.TargetLaws.{steps_give, steps_again, steps_refuse, refused_again}
 

@@ -1,37 +1,25 @@
 -- What is read of an operand is what stands there, and what stands there is read.
-use Rattle.std.proofs.Common.{◌≡◌, ℕ, zero, suc, ◌+◌, ◌^◌, ◌<◌, ◌≤◌, Bool, true, false, cond, ltb, List, [], ◌∷◌, ◌++◌, length, get_or, take, drop, Result, Ok, Err, refl, sym, ap, subst, ◌∙◌, append_assoc, arith}
+use Rattle.std.proofs.Common.{◌≡◌, ℕ, zero, suc, ◌+◌, ◌^◌, ◌<◌, ◌≤◌, Bool, true, false, cond, ltb, List, [], ◌∷◌, ◌++◌, length, take, drop, Result, Ok, Err, refl, sym, ap, subst, ◌∙◌, append_assoc, arith}
 use Rattle.std.proofs.lemmas.Bool.{ltb-false, le-ltb}
-use Rattle.std.proofs.lemmas.List.{append-nil, take_at, drop_at, take-append-drop, length-append, length-take, get_or-append-add}
+use Rattle.std.proofs.lemmas.List.{append-nil, take_at, drop_at, take-append-drop, length-append, length-take}
 use Rattle.byteorder.specs.Endian.{big_number, big_bytes}
 use Rattle.byteorder.specs.Numbers.{big_number-reads_back, length-bytes_high_first, big_from-lt}
-use Rattle.class_walk.proofs.Fields.{IsBytes, IsWide}
+use Rattle.class_walk.specs.Layout.{IsBytes}
+use Rattle.class_walk.specs.Reading.{◌>>=◌, items_at}
+use Rattle.class_walk.proofs.Fields.{bytes_front, bytes_behind, bind_ok, guard_ok, ok_is, IsWide}
 use Rattle.code_steps.specs.declared.fault.StepFault.{StepFault}
 use Rattle.code_steps.specs.declared.fault.StepFault.TheVariants.{Cut}
 use Rattle.code_steps.specs.Operands.{AreItems}
-use Rattle.code_steps.specs.Reading.{◌>>=◌, bytes_at, number_at, items_at}
+use Rattle.code_steps.specs.Reading.{bytes_at, number_at}
 
-pub bytes_behind : (text bytes rest : List ℕ) → IsBytes bytes → bytes ≡ text ++ rest → IsBytes rest
-bytes_behind text bytes rest fits parts i = rw (← get_or-append-add text rest i 0, ← parts) (fits (length text + i))
+-- the bytes behind those that were read
+pub bytes_after : (text bytes rest : List ℕ) → IsBytes bytes → bytes ≡ text ++ rest → IsBytes rest
+bytes_after text bytes rest fits parts = bytes_behind text rest (subst IsBytes parts fits)
 
--- the value of a step that did not fail
-pub bind_ok : {A B : Type 0} (r : Result A StepFault) (f : A → Result B StepFault) (y : B) → (r >>= f) ≡ Ok y → (x : A) × (r ≡ Ok x) × (f x ≡ Ok y)
-bind_ok (Ok x) f y e = (x, refl, e)
-bind_ok (Err d) f y e = absurd cc
-
--- a test that did not fail
-pub guard_ok : {A : Type 0} (b : Bool) (d : StepFault) (r : Result A StepFault) (y : A) → cond b (Err d) r ≡ Ok y → (b ≡ false) × (r ≡ Ok y)
-guard_ok true d r y e = absurd cc
-guard_ok false d r y e = (refl, e)
-
+-- a test that held
 pub passes_ok : {A : Type 0} (b : Bool) (d : StepFault) (r : Result A StepFault) (y : A) → cond b r (Err d) ≡ Ok y → (b ≡ true) × (r ≡ Ok y)
 passes_ok false d r y e = absurd cc
 passes_ok true d r y e = (refl, e)
-
-abbrev pub done : {A : Type 0} → A → Result A StepFault
-done x = Ok x
-
-pub ok_is : {A : Type 0} (x y : A) → done x ≡ done y → x ≡ y
-ok_is x y e = cc
 
 abbrev pub failed : {A : Type 0} → StepFault → Result A StepFault
 failed f = Err f
@@ -61,16 +49,6 @@ bytes_again at n bytes text rest size parts =
 
 -- ---- numbers
 
-bytes_before : (text bytes rest : List ℕ) → IsBytes bytes → bytes ≡ text ++ rest → IsBytes text
-bytes_before text bytes rest fits parts i =
-    let h : get_or text i 0 ≤ get_or bytes i 0 = rw parts (front text rest i) in
-    omega (arith, fits i)
-  where
-    front : (text rest : List ℕ) (i : ℕ) → get_or text i 0 ≤ get_or (text ++ rest) i 0
-    front [] rest i = omega arith
-    front (x ∷ xs) rest zero = omega arith
-    front (x ∷ xs) rest (suc i) = front xs rest i
-
 pub record Number (n : ℕ) (bytes : List ℕ) (x : ℕ) (rest : List ℕ) : Type 0 where
   pub parts : bytes ≡ big_bytes n x ++ rest
   pub small : x < 256 ^ n
@@ -80,10 +58,10 @@ pub number_takes : (n : ℕ) (wide : IsWide n) (at : ℕ) (bytes : List ℕ) (x 
 number_takes n wide at bytes x rest fits e =
     let a = bind_ok (bytes_at at n bytes) _ _ e in
     let t = bytes_take at n bytes a.0.0 a.0.1 a.1 in
-    let text_fits = bytes_before a.0.0 bytes a.0.1 fits t.parts in
+    let text_fits = bytes_front a.0.0 a.0.1 (subst IsBytes t.parts fits) in
     let same = ok_is (big_number n a.0.0, a.0.1) (x, rest) a.2 in
     subst (λ (y : ℕ × List ℕ). Number n bytes y.0 y.1) same
-    (record { parts = rw (wide.back a.0.0 t.size text_fits) t.parts; small = big_from-lt 0 n a.0.0 text_fits; fits = bytes_behind a.0.0 bytes a.0.1 fits t.parts })
+    (record { parts = rw (wide.back a.0.0 t.size text_fits) t.parts; small = big_from-lt 0 n a.0.0 text_fits; fits = bytes_after a.0.0 bytes a.0.1 fits t.parts })
 
 pub number_again : (n at : ℕ) (bytes : List ℕ) (x : ℕ) (rest : List ℕ) → x < 256 ^ n → bytes ≡ big_bytes n x ++ rest → number_at at n bytes ≡ Ok (x, rest)
 number_again n at bytes x rest small parts =
@@ -113,7 +91,7 @@ items_take {X = X} read Is law (suc n) bytes xs rest fits e =
     let a = bind_ok (read bytes) _ _ e in
     let b = bind_ok (items_at read n a.0.1) _ _ a.2 in
     let t = law.takes bytes a.0.0 a.0.1 fits a.1 in
-    let u = items_take read Is law n a.0.1 b.0.0 b.0.1 (bytes_behind t.0 bytes a.0.1 fits t.2) b.1 in
+    let u = items_take read Is law n a.0.1 b.0.0 b.0.1 (bytes_after t.0 bytes a.0.1 fits t.2) b.1 in
     subst (λ (y : List X × List ℕ). Items Is (suc n) bytes y.0 y.1) (ok_is (a.0.0 ∷ b.0.0, b.0.1) (xs, rest) b.2)
     (record {
       text = t.0 ++ u.text;

@@ -5,7 +5,8 @@ use Rattle.std.proofs.lemmas.Bool.{cases_lt, le-ltb}
 use Rattle.std.proofs.lemmas.List.{drop_all, drop_at, drop-drop, length-append, length-drop, get_or-drop, map-append}
 use Rattle.std.proofs.lemmas.List.Elements.{All-nil, All-push, All-weaker}
 use Rattle.class_walk.specs.declared.class.Constant.{Constant}
-use Rattle.class_walk.proofs.Fields.{IsBytes}
+use Rattle.class_walk.specs.Layout.{IsBytes}
+use Rattle.class_walk.proofs.Fields.{ok_is}
 use Rattle.instructions.specs.declared.form.Form.{Form}
 use Rattle.instructions.specs.declared.form.Form.TheVariants as forms
 use Rattle.instructions.specs.declared.what.Instr.{Instr}
@@ -18,7 +19,7 @@ use Rattle.code_steps.specs.declared.fault.StepFault.TheVariants.{Opcode}
 use Rattle.code_steps.specs.Operands.{IsOperands}
 use Rattle.code_steps.specs.CodeArray.{IsInstruction, AreLaidOut}
 use Rattle.code_steps.specs.Reading.{ReadsOperands, ReadsRow, ReadsInstruction, interface_call_at, ChecksInterfaceCall}
-use Rattle.code_steps.proofs.Fields.{ok_is, err_is}
+use Rattle.code_steps.proofs.Fields.{err_is}
 use Rattle.code_steps.proofs.OperandLaws.{operands_take, operands_again}
 
 -- ---- one instruction

@@ -6,7 +6,8 @@ use Rattle.std.proofs.lemmas.Int.{ints}
 use Rattle.byteorder.specs.Endian.{big_bytes}
 use Rattle.class_walk.specs.Layout.{u1, u2, u4}
 use Rattle.class_walk.specs.declared.class.Constant.{Constant}
-use Rattle.class_walk.proofs.Fields.{IsBytes, IsWide, wide1, wide2, wide4}
+use Rattle.class_walk.specs.Layout.{IsBytes}
+use Rattle.class_walk.proofs.Fields.{bind_ok, guard_ok, ok_is, IsWide, wide1, wide2, wide4}
 use Rattle.instructions.specs.declared.form.Form.{Form}
 use Rattle.instructions.specs.declared.form.Form.TheVariants as forms
 use Rattle.instructions.specs.declared.what.Case.{Case}
@@ -17,8 +18,9 @@ use Rattle.code_steps.specs.declared.fault.StepFault.{StepFault}
 use Rattle.code_steps.specs.declared.fault.StepFault.TheVariants.{Switch}
 use Rattle.code_steps.specs.Operands.{HasNone, HasOne, HasTwo, Any, near_target, far_target, IsTarget, IsKey, IsCase, AreItems, padding_of, IsTableSwitch, Rise, IsLookupSwitch, AreWideOf, AreWide, IsElementCode, IsOperands, IsInterfaceCall}
 use Rattle.code_steps.specs.Operands as operands
-use Rattle.code_steps.specs.Reading.{bytes_at, number_at, items_at, one_at, two_at, target_at, key_at, case_at, keys_between, table_switch_at, rise, lookup_switch_at, widened_form_at, widened_at, wide_at, interface_call_at, ChecksInterfaceCall, new_array_of, ReadsOperands}
-use Rattle.code_steps.proofs.Fields.{bytes_behind, bind_ok, guard_ok, passes_ok, ok_is, bytes_take, bytes_again, number_takes, number_again, Law, items_take, items_again}
+use Rattle.class_walk.specs.Reading.{items_at}
+use Rattle.code_steps.specs.Reading.{bytes_at, number_at, one_at, two_at, target_at, key_at, case_at, keys_between, table_switch_at, rise, lookup_switch_at, widened_form_at, widened_at, wide_at, interface_call_at, ChecksInterfaceCall, new_array_of, ReadsOperands}
+use Rattle.code_steps.proofs.Fields.{bytes_after, passes_ok, bytes_take, bytes_again, number_takes, number_again, Law, items_take, items_again}
 use Rattle.code_steps.proofs.PoolLaws.{Rule, constant_rule, long_constant_rule, field_rule, call_rule, class_rule, element_takes, element_again}
 
 -- ---- texts one behind another
@@ -139,7 +141,7 @@ case_law at = record { takes = takes; again = again }
         let a = bind_ok (key_at at bytes) _ _ e in
         let b = bind_ok (target_at at a.0.1) _ _ a.2 in
         let t = (key_law at).takes bytes a.0.0 a.0.1 fits a.1 in
-        let u = (target_law at).takes a.0.1 b.0.0 b.0.1 (bytes_behind t.0 bytes a.0.1 fits t.2) b.1 in
+        let u = (target_law at).takes a.0.1 b.0.0 b.0.1 (bytes_after t.0 bytes a.0.1 fits t.2) b.1 in
         let made : Case ℤ × List ℕ = (record { key = a.0.0; target = b.0.0 }, b.0.1) in
         subst (λ (y : Case ℤ × List ℕ). (text : List ℕ) × IsCase at y.0 text × (bytes ≡ text ++ y.1)) {x = made} (ok_is made (x, rest) b.2)
         (t.0 ++ u.0, (t.0, u.0, t.1, u.1, refl), t.2 ∙ ap (λ (s : List ℕ). t.0 ++ s) u.2 ∙ sym (append_assoc t.0 u.0 b.0.1))
@@ -178,13 +180,13 @@ table_switch_law at = record { takes = takes; again = again }
         let g = guard_ok (int_lt d.0.0 c.0.0) (Switch at) _ (what, rest) d.2 in
         let f = bind_ok (items_at (target_at at) (keys_between c.0.0 d.0.0) d.0.1) _ _ g.1 in
         let ta = bytes_take at (padding_of at) bytes a.0.0 a.0.1 a.1 in
-        let fa = bytes_behind a.0.0 bytes a.0.1 fits ta.parts in
+        let fa = bytes_after a.0.0 bytes a.0.1 fits ta.parts in
         let tb = (target_law at).takes a.0.1 b.0.0 b.0.1 fa b.1 in
-        let fb = bytes_behind tb.0 a.0.1 b.0.1 fa tb.2 in
+        let fb = bytes_after tb.0 a.0.1 b.0.1 fa tb.2 in
         let tc = (key_law at).takes b.0.1 c.0.0 c.0.1 fb c.1 in
-        let fc = bytes_behind tc.0 b.0.1 c.0.1 fb tc.2 in
+        let fc = bytes_after tc.0 b.0.1 c.0.1 fb tc.2 in
         let td = (key_law at).takes c.0.1 d.0.0 d.0.1 fc d.1 in
-        let fd = bytes_behind td.0 c.0.1 d.0.1 fc td.2 in
+        let fd = bytes_after td.0 c.0.1 d.0.1 fc td.2 in
         let tf = items_take (target_at at) (IsTarget at) (target_law at) (keys_between c.0.0 d.0.0) d.0.1 f.0.0 f.0.1 fd f.1 in
         let ordered = not_below c.0.0 d.0.0 g.0 in
         let made : What ℤ × List ℕ = (TableSwitch b.0.0 c.0.0 f.0.0, f.0.1) in
@@ -261,9 +263,9 @@ lookup_switch_law at = record { takes = takes; again = again }
         let d = bind_ok (items_at (case_at at) c.0.0 c.0.1) _ _ c.2 in
         let g = passes_ok (rise d.0.0) (Switch at) (Ok (LookupSwitch b.0.0 d.0.0, d.0.1)) (what, rest) d.2 in
         let ta = bytes_take at (padding_of at) bytes a.0.0 a.0.1 a.1 in
-        let fa = bytes_behind a.0.0 bytes a.0.1 fits ta.parts in
+        let fa = bytes_after a.0.0 bytes a.0.1 fits ta.parts in
         let tb = (target_law at).takes a.0.1 b.0.0 b.0.1 fa b.1 in
-        let fb = bytes_behind tb.0 a.0.1 b.0.1 fa tb.2 in
+        let fb = bytes_after tb.0 a.0.1 b.0.1 fa tb.2 in
         let tc = number_takes 4 wide4 at b.0.1 c.0.0 c.0.1 fb c.1 in
         let td = items_take (case_at at) (IsCase at) (case_law at) c.0.0 c.0.1 d.0.0 d.0.1 tc.fits d.1 in
         let made : What ℤ × List ℕ = (LookupSwitch b.0.0 d.0.0, d.0.1) in

@@ -1,5 +1,5 @@
 -- What is looked up in the pool is what stands there.
-use Rattle.std.proofs.Common.{◌≡◌, ◌≢◌, ℕ, Bool, true, false, cond, List, Option, Some, None, Result, Ok, Err, refl, sym, ap, subst, ◌∙◌, ◌+◌, arith, inl, inr}
+use Rattle.std.proofs.Common.{◌≡◌, ◌≢◌, ℕ, Bool, true, false, cond, List, Option, Some, None, Result, Ok, Err, refl, sym, ap, ◌∙◌, ◌+◌, arith, inl, inr}
 use Rattle.std.specs.Prelude.{ℤ, ◌↔◌, slice_get, not, ◌&&◌, ◌==◌, codes, bytes_eq, IsTrue, ◌⊎◌}
 use Rattle.std.proofs.lemmas.Bool.{not-true, not_from_false, false_from_ne_true, eqb-true, eq-eqb}
 use Rattle.std.proofs.lemmas.Slice.Eq.{bytes_eq-Decides}
@@ -7,10 +7,9 @@ use Rattle.class_walk.specs.declared.class.Constant.{Constant}
 use Rattle.class_walk.specs.declared.class.Constant.TheVariants as constants
 use Rattle.class_names.specs.declared.kind.ParameterSize.{ParameterSize}
 use Rattle.class_names.specs.Descriptor.{parameter_words_of, size_of}
-use Rattle.class_read.specs.Pool.{IsClassAt, IsPairAt}
-use Rattle.class_read.specs.PoolRules.{IsText}
-use Rattle.class_read.specs.TextUses.{IsUseOf, IsUseAt}
-use Rattle.class_read.specs.declared.text_uses.TextUse.{TextUse}
+use Rattle.class_pool.specs.PoolRules.{IsText}
+use Rattle.class_pool.specs.TextUses.{IsUseOf, IsUseAt}
+use Rattle.class_pool.specs.declared.text_uses.TextUse.{TextUse}
 use Rattle.instructions.specs.declared.operation.Call.{Call as CallKind}
 use Rattle.instructions.specs.declared.operation.Call.TheVariants as calls
 use Rattle.instructions.specs.declared.operation.ClassUse.{ClassUse}
@@ -21,45 +20,14 @@ use Rattle.instructions.specs.declared.what.What.TheVariants.{Constant as Loaded
 use Rattle.code_steps.specs.declared.fault.StepFault.{StepFault}
 use Rattle.code_steps.specs.declared.fault.StepFault.TheVariants.{Unsupported, Operand}
 use Rattle.code_steps.specs.Operands.{has_dimensions, IsCount, IsLoadable, IsLong, IsField, MayCall, IsMethodFor, IsInterfaceCall, MayUse, IsClassFor, IsElementCode}
-use Rattle.code_steps.specs.Reading.{text_of, class_name_in, member_in, both_texts, loaded_class, constant_in, constant_of, long_constant_in, long_constant_of, field_in, field_of, may_call, named_call, call_in, call_of, may_use, class_named, class_of, new_array_of, interface_pair_in, has_words, IsCountIn, IsInterfaceMember}
-use Rattle.code_steps.proofs.Fields.{ok_is, guard_ok, passes_ok}
+use Rattle.class_pool.specs.Lookup.{utf8_of, class_name_of, name_and_type_of, both_texts}
+use Rattle.class_pool.proofs.LookupLaws.{text_is, class_is, class_again, name_and_type_is, name_and_type_again}
+use Rattle.code_steps.specs.Reading.{loaded_class, constant_in, constant_of, long_constant_in, long_constant_of, field_in, field_of, may_call, named_call, call_in, call_of, may_use, class_named, class_of, new_array_of, interface_pair_in, has_words, IsCountIn, IsInterfaceMember}
+use Rattle.class_walk.proofs.Fields.{ok_is, guard_ok}
+use Rattle.code_steps.proofs.Fields.{passes_ok}
 
 some_is : {A : Type 0} (x y : A) → Some x ≡ Some y → x ≡ y
 some_is x y e = cc
-
--- ---- texts, classes and members
-
-text_is : (c : Option Constant) (text : List ℕ) → text_of c ≡ Some text → c ≡ Some (constants.Utf8 text)
-text_is (Some (constants.Utf8 t)) text e = cc
-text_is _ text e = absurd cc
-
-both_are : (a b : Option (List ℕ)) (x : List ℕ × List ℕ) → both_texts a b ≡ Some x → (a ≡ Some x.0) × (b ≡ Some x.1)
-both_are None b x e = absurd cc
-both_are (Some a) None x e = absurd cc
-both_are (Some a) (Some b) x e = subst (λ (y : List ℕ × List ℕ). (Some a ≡ Some y.0) × (Some b ≡ Some y.1)) (some_is (a, b) x e) (refl, refl)
-
-class_in_is : (pool : List Constant) (c : Option Constant) (name : List ℕ) → class_name_in pool c ≡ Some name → (n : ℕ) × (c ≡ Some (constants.Class n)) × (slice_get pool n ≡ Some (constants.Utf8 name))
-class_in_is pool (Some (constants.Class n)) name e = (n, refl, text_is (slice_get pool n) name e)
-class_in_is pool _ name e = absurd cc
-
-class_is : (pool : List Constant) (index : ℕ) (name : List ℕ) → class_name_in pool (slice_get pool index) ≡ Some name → IsClassAt pool index name
-class_is pool index name e = class_in_is pool (slice_get pool index) name e
-
-class_again : (pool : List Constant) (index : ℕ) (name : List ℕ) → IsClassAt pool index name → class_name_in pool (slice_get pool index) ≡ Some name
-class_again pool index name is = rw (is.1, is.2) refl
-
-member_in_is : (pool : List Constant) (c : Option Constant) (x : List ℕ × List ℕ) → member_in pool c ≡ Some x
-    → (n d : ℕ) × (c ≡ Some (constants.Pair n d)) × (slice_get pool n ≡ Some (constants.Utf8 x.0)) × (slice_get pool d ≡ Some (constants.Utf8 x.1))
-member_in_is pool (Some (constants.Pair n d)) x e =
-    let both = both_are (text_of (slice_get pool n)) (text_of (slice_get pool d)) x e in
-    (n, d, refl, text_is (slice_get pool n) x.0 both.0, text_is (slice_get pool d) x.1 both.1)
-member_in_is pool _ x e = absurd cc
-
-member_is : (pool : List Constant) (pair : ℕ) (x : List ℕ × List ℕ) → member_in pool (slice_get pool pair) ≡ Some x → IsPairAt pool pair x.0 x.1
-member_is pool pair x e = member_in_is pool (slice_get pool pair) x e
-
-member_again : (pool : List Constant) (pair : ℕ) (name descriptor : List ℕ) → IsPairAt pool pair name descriptor → member_in pool (slice_get pool pair) ≡ Some (name, descriptor)
-member_again pool pair name descriptor is = rw (is.2, is.3, is.4) refl
 
 -- ---- names that are called
 
@@ -108,9 +76,9 @@ pub record Rule (made : ℕ → Result (What ℤ) StepFault) (want : ℕ → Wha
 constant_takes : (pool : List Constant) (at index : ℕ) (c : Option Constant) (what : What ℤ) → slice_get pool index ≡ c → constant_in pool at index c ≡ Ok what → (what ≡ Loaded index) × IsLoadable pool index
 constant_takes pool at index (Some (constants.Integer n)) what is e = (sym (ok_is (Loaded index) what e), inl (n, is))
 constant_takes pool at index (Some (constants.Str n)) what is e = (sym (ok_is (Loaded index) what e), inr (inl (n, is)))
-constant_takes pool at index (Some (constants.Class n)) what is e = named (text_of (slice_get pool n)) refl e
+constant_takes pool at index (Some (constants.Class n)) what is e = named (utf8_of (slice_get pool n)) refl e
   where
-    named : (o : Option (List ℕ)) → text_of (slice_get pool n) ≡ o → loaded_class at index o ≡ Ok what → (what ≡ Loaded index) × IsLoadable pool index
+    named : (o : Option (List ℕ)) → utf8_of (slice_get pool n) ≡ o → loaded_class at index o ≡ Ok what → (what ≡ Loaded index) × IsLoadable pool index
     named None t e = absurd cc
     named (Some name) t e =
         let g = guard_ok (has_dimensions 1 name) (Unsupported at) (Ok (Loaded index)) what e in
@@ -143,23 +111,23 @@ unfolding field_of
 field_rule pool access at = record { takes = λ index what e. field_takes pool access at index (slice_get pool index) what refl e; again = λ index n. rw n.2 refl }
 
 call_takes : (pool : List Constant) (call : CallKind) (at index : ℕ) (c : Option Constant) (what : What ℤ) → slice_get pool index ≡ c → call_in pool call at index c ≡ Ok what → (what ≡ Call call index) × IsMethodFor pool call index
-call_takes pool call at index (Some (constants.Method class pair)) what is e = named (member_in pool (slice_get pool pair)) refl e
+call_takes pool call at index (Some (constants.Method class pair)) what is e = named (name_and_type_of pool (slice_get pool pair)) refl e
   where
-    named : (o : Option (List ℕ × List ℕ)) → member_in pool (slice_get pool pair) ≡ o → named_call call at index o ≡ Ok what → (what ≡ Call call index) × IsMethodFor pool call index
+    named : (o : Option (List ℕ × List ℕ)) → name_and_type_of pool (slice_get pool pair) ≡ o → named_call call at index o ≡ Ok what → (what ≡ Call call index) × IsMethodFor pool call index
     named None t e = absurd cc
     named (Some x) t e =
         let g = passes_ok (may_call call x.0) (Operand at) (Ok (Call call index)) what e in
-        (sym (ok_is (Call call index) what g.1), record { class = class; pair = pair; name = x.0; descriptor = x.1; entry = is; named = member_is pool pair x t; callable = callable call x.0 g.0 })
+        (sym (ok_is (Call call index) what g.1), record { class = class; pair = pair; name = x.0; descriptor = x.1; entry = is; named = name_and_type_is pool pair x t; callable = callable call x.0 g.0 })
 call_takes pool call at index _ what is e = absurd cc
 
 pub call_rule : (pool : List Constant) (call : CallKind) (at : ℕ) → Rule (call_of pool call at) (λ index. Call call index) (IsMethodFor pool call)
 unfolding call_of
 call_rule pool call at = record {
   takes = λ index what e. call_takes pool call at index (slice_get pool index) what refl e;
-  again = λ index m. rw (m.entry, member_again pool m.pair m.name m.descriptor m.named, callable_again call m.name m.callable) refl;
+  again = λ index m. rw (m.entry, name_and_type_again pool m.pair m.name m.descriptor m.named, callable_again call m.name m.callable) refl;
 }
 
-class_takes : (pool : List Constant) (purpose : ClassUse) (at index : ℕ) (o : Option (List ℕ)) (what : What ℤ) → class_name_in pool (slice_get pool index) ≡ o → class_named purpose at index o ≡ Ok what → (what ≡ Class purpose index) × IsClassFor pool purpose index
+class_takes : (pool : List Constant) (purpose : ClassUse) (at index : ℕ) (o : Option (List ℕ)) (what : What ℤ) → class_name_of pool (slice_get pool index) ≡ o → class_named purpose at index o ≡ Ok what → (what ≡ Class purpose index) × IsClassFor pool purpose index
 class_takes pool purpose at index None what t e = absurd cc
 class_takes pool purpose at index (Some name) what t e =
     let g = passes_ok (may_use purpose name) (Operand at) (Ok (Class purpose index)) what e in
@@ -168,7 +136,7 @@ class_takes pool purpose at index (Some name) what t e =
 pub class_rule : (pool : List Constant) (purpose : ClassUse) (at : ℕ) → Rule (class_of pool purpose at) (λ index. Class purpose index) (IsClassFor pool purpose)
 unfolding class_of
 class_rule pool purpose at = record {
-  takes = λ index what e. class_takes pool purpose at index (class_name_in pool (slice_get pool index)) what refl e;
+  takes = λ index what e. class_takes pool purpose at index (class_name_of pool (slice_get pool index)) what refl e;
   again = λ index c. rw (class_again pool index c.0 c.1, usable_again purpose c.0 c.2) refl;
 }
 
@@ -234,14 +202,14 @@ so_many_again text u count is m =
     rw found (eq-eqb count (parameter_words_of m.0 + 1) m.3)
 
 -- the words of the descriptor at an index
-pub counted : (pool : List Constant) (index count : ℕ) (u : TextUse) → IsUseAt pool index u → IsTrue (has_words u.parameters count) ↔ IsCountIn (text_of (slice_get pool index)) count
+pub counted : (pool : List Constant) (index count : ℕ) (u : TextUse) → IsUseAt pool index u → IsTrue (has_words u.parameters count) ↔ IsCountIn (utf8_of (slice_get pool index)) count
 counted pool index count u at =
     rw (at.1) (has_so_many at.0 u count u.parameters at.2 refl, so_many_again at.0 u count at.2)
 
-pub not_counted : (pool : List Constant) (index count : ℕ) → (IsText pool index → ⊥) → IsTrue false ↔ IsCountIn (text_of (slice_get pool index)) count
-not_counted pool index count none = (λ t. absurd cc, λ m. absurd (none (there (text_of (slice_get pool index)) refl m)))
+pub not_counted : (pool : List Constant) (index count : ℕ) → (IsText pool index → ⊥) → IsTrue false ↔ IsCountIn (utf8_of (slice_get pool index)) count
+not_counted pool index count none = (λ t. absurd cc, λ m. absurd (none (there (utf8_of (slice_get pool index)) refl m)))
   where
-    there : (o : Option (List ℕ)) → text_of (slice_get pool index) ≡ o → IsCountIn o count → IsText pool index
+    there : (o : Option (List ℕ)) → utf8_of (slice_get pool index) ≡ o → IsCountIn o count → IsText pool index
     there None e m = absurd m
     there (Some text) e m = (text, text_is (slice_get pool index) text e)
 
@@ -250,7 +218,7 @@ pub named_member : (name : List ℕ) (descriptor : Option (List ℕ)) (count las
 named_member name None count last = (λ m. m.1, λ m. absurd m)
 named_member name (Some descriptor) count last = (λ m. m, λ m. m)
 
-interface_found : (pool : List Constant) (index class pair count last : ℕ) (o : Option (List ℕ × List ℕ)) → slice_get pool index ≡ Some (constants.IfaceMethod class pair) → member_in pool (slice_get pool pair) ≡ o
+interface_found : (pool : List Constant) (index class pair count last : ℕ) (o : Option (List ℕ × List ℕ)) → slice_get pool index ≡ Some (constants.IfaceMethod class pair) → name_and_type_of pool (slice_get pool pair) ≡ o
     → IsInterfaceMember o count last → IsInterfaceCall pool index count last
 interface_found pool index class pair count last None is t m = absurd m
 interface_found pool index class pair count last (Some x) is t m = record {
@@ -259,7 +227,7 @@ interface_found pool index class pair count last (Some x) is t m = record {
   name = x.0;
   descriptor = x.1;
   entry = is;
-  named = member_is pool pair x t;
+  named = name_and_type_is pool pair x t;
   callable = callable calls.Virtual x.0 m.0;
   words = m.1;
   zero = m.2;
@@ -273,17 +241,17 @@ pair_again : (pool : List Constant) (index count last : ℕ) (o : Option ℕ) �
 pair_again pool index count last o is m = is ∙ ap interface_pair_in m.entry
 
 interface_again : (pool : List Constant) (index pair count last : ℕ) → Some pair ≡ interface_pair_in (slice_get pool index) → IsInterfaceCall pool index count last
-    → IsInterfaceMember (member_in pool (slice_get pool pair)) count last
+    → IsInterfaceMember (name_and_type_of pool (slice_get pool pair)) count last
 interface_again pool index pair count last is m =
     let same : pair ≡ m.pair = some_is pair m.pair (pair_again pool index count last (Some pair) is m) in
-    let found : member_in pool (slice_get pool pair) ≡ Some (m.name, m.descriptor) = ap (λ (p : ℕ). member_in pool (slice_get pool p)) same ∙ member_again pool m.pair m.name m.descriptor m.named in
+    let found : name_and_type_of pool (slice_get pool pair) ≡ Some (m.name, m.descriptor) = ap (λ (p : ℕ). name_and_type_of pool (slice_get pool p)) same ∙ name_and_type_again pool m.pair m.name m.descriptor m.named in
     rw found (callable_again calls.Virtual m.name m.callable, m.words, m.zero)
 
 pub interface_member : (pool : List Constant) (index pair count last : ℕ) (b : Bool) → Some pair ≡ interface_pair_in (slice_get pool index)
-    → (IsTrue b ↔ IsInterfaceMember (member_in pool (slice_get pool pair)) count last) → IsTrue b ↔ IsInterfaceCall pool index count last
+    → (IsTrue b ↔ IsInterfaceMember (name_and_type_of pool (slice_get pool pair)) count last) → IsTrue b ↔ IsInterfaceCall pool index count last
 interface_member pool index pair count last b is h =
     let entry = pair_in_is (slice_get pool index) pair (sym is) in
-    (λ t. interface_found pool index entry.0 pair count last (member_in pool (slice_get pool pair)) entry.1 refl (h.0 t), λ m. h.1 (interface_again pool index pair count last is m))
+    (λ t. interface_found pool index entry.0 pair count last (name_and_type_of pool (slice_get pool pair)) entry.1 refl (h.0 t), λ m. h.1 (interface_again pool index pair count last is m))
 
 -- an entry of another kind is called by no invokeinterface
 pub no_interface : (pool : List Constant) (index count last : ℕ) → None ≡ interface_pair_in (slice_get pool index) → IsTrue false ↔ IsInterfaceCall pool index count last

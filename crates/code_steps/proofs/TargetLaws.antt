@@ -10,9 +10,10 @@ use Rattle.instructions.specs.declared.what.What.TheVariants.{Plain, Int, Long, 
 use Rattle.code_steps.specs.declared.fault.StepFault.{StepFault}
 use Rattle.code_steps.specs.declared.fault.StepFault.TheVariants as faults
 use Rattle.code_steps.specs.CodeArray.{targets_of, with_target, with_targets, by_offsets}
-use Rattle.code_steps.specs.Reading.{◌>>=◌}
+use Rattle.class_walk.specs.Reading.{◌>>=◌}
 use Rattle.code_steps.specs.Targets.{target_of, all_of, case_of, what_of, placed, step_of, steps_of}
-use Rattle.code_steps.proofs.Fields.{bind_ok, ok_is, err_is}
+use Rattle.class_walk.proofs.Fields.{bind_ok, ok_is}
+use Rattle.code_steps.proofs.Fields.{err_is}
 
 some_is : {A : Type 0} (x y : A) → Some x ≡ Some y → x ≡ y
 some_is x y e = cc

@@ -11,7 +11,8 @@ use Rattle.instructions.specs.declared.what.Target.{Target}
 use Rattle.code_steps.specs.declared.fault.StepFault.{StepFault}
 use Rattle.code_steps.specs.declared.fault.StepRefusal.{StepRefusal}
 use Rattle.code_steps.specs.declared.fault.StepRefusal.TheVariants as refusals
-use Rattle.code_steps.specs.Reading.{◌>>=◌, Fails}
+use Rattle.class_walk.specs.Reading.{◌>>=◌}
+use Rattle.code_steps.specs.Reading.{Fails}
 use Rattle.code_steps.specs.Targets.{target_of, all_of, step_of, steps_of}
 
 -- ---- a list of options

@@ -8,7 +8,7 @@ use Rattle.class_walk.specs.declared.class.Constant.TheVariants as constants
 use Rattle.class_walk.specs.Layout.{u1, u2, u4}
 use Rattle.class_names.specs.declared.kind.Kind.{Kind}
 use Rattle.class_names.specs.Descriptor.{IsMethodDescriptor, parameter_words_of}
-use Rattle.class_read.specs.Pool.{IsClassAt, IsPairAt}
+use Rattle.class_pool.specs.Pool.{IsClassAt, IsPairAt}
 use Rattle.instructions.specs.declared.form.Form.{Form}
 use Rattle.instructions.specs.declared.form.Form.TheVariants as forms
 use Rattle.instructions.specs.declared.operation.Call.{Call as CallKind}

@@ -1,9 +1,11 @@
 -- Reading an instruction from its front, with the first fault that is met.
-use Rattle.std.specs.Prelude.{◌≡◌, ℕ, zero, suc, ◌+◌, ℤ, ◌-ℤ◌, Bool, true, false, not, List, [], ◌∷◌, length, take, drop, Option, Some, None, Result, Ok, Err, slice_get, nat_lt, int_lt, ◌==◌, ◌&&◌, if◌then◌else◌, MatchBool, codes, bytes_eq, IsTrue, unsigned_abs}
+use Rattle.std.specs.Prelude.{◌≡◌, ℕ, ◌+◌, ℤ, ◌-ℤ◌, Bool, true, false, not, List, [], ◌∷◌, length, take, drop, Option, Some, None, Result, Ok, Err, slice_get, nat_lt, int_lt, ◌==◌, ◌&&◌, if◌then◌else◌, MatchBool, codes, bytes_eq, IsTrue, unsigned_abs}
 use Rattle.std.specs.Int.{w8, w16, w32, cast_signed}
 use Rattle.byteorder.specs.Endian.{big_number}
 use Rattle.class_walk.specs.declared.class.Constant.{Constant}
 use Rattle.class_walk.specs.declared.class.Constant.TheVariants as constants
+use Rattle.class_walk.specs.Reading.{◌>>=◌, items_at}
+use Rattle.class_pool.specs.Lookup.{utf8_of, class_name_of, name_and_type_of}
 use Rattle.class_names.specs.declared.kind.ParameterSize.{ParameterSize}
 use Rattle.instructions.specs.declared.form.Form.{Form}
 use Rattle.instructions.specs.declared.form.Form.TheVariants as forms
@@ -22,11 +24,6 @@ use Rattle.code_steps.specs.declared.fault.StepFault.TheVariants.{Opcode, Unsupp
 use Rattle.code_steps.specs.declared.fault.StepRefusal.{StepRefusal}
 use Rattle.code_steps.specs.declared.fault.StepRefusal.TheVariants as refusals
 use Rattle.code_steps.specs.Operands.{near_target, far_target, padding_of, has_dimensions, IsCount, IsInterfaceCall}
-
-infixl 10 ◌>>=◌
-abbrev pub ◌>>=◌ : {A B : Type 0} → Result A StepFault → (A → Result B StepFault) → Result B StepFault
-(Ok x) >>= f = f x
-(Err e) >>= f = Err e
 
 -- What a function returned, and the bytes that it left, are what is read; want of memory may come anywhere.
 abbrev pub Gives : {X : Type 0} → Result X StepRefusal → List ℕ → (Result (X × List ℕ) StepFault → Type 0) → Type 0
@@ -68,32 +65,7 @@ number_at at n bytes = do
   text ← bytes_at at n bytes
   Ok (big_number n text.0, text.1)
 
--- so many items, one behind the other
-unfoldable pub items_at : {X : Type 0} → (List ℕ → Result (X × List ℕ) StepFault) → ℕ → List ℕ → Result (List X × List ℕ) StepFault
-items_at item zero bytes = Ok ([], bytes)
-items_at item (suc n) bytes = do
-  first ← item bytes
-  others ← items_at item n first.1
-  Ok (first.0 ∷ others.0, others.1)
-
 -- ---- the pool
-
-abbrev pub text_of : Option Constant → Option (List ℕ)
-text_of (Some (constants.Utf8 text)) = Some text
-text_of _ = None
-
-abbrev pub class_name_in : List Constant → Option Constant → Option (List ℕ)
-class_name_in pool (Some (constants.Class name)) = text_of (slice_get pool name)
-class_name_in pool _ = None
-
-abbrev pub both_texts : Option (List ℕ) → Option (List ℕ) → Option (List ℕ × List ℕ)
-both_texts (Some name) (Some descriptor) = Some (name, descriptor)
-both_texts _ _ = None
-
--- a name and a descriptor
-abbrev pub member_in : List Constant → Option Constant → Option (List ℕ × List ℕ)
-member_in pool (Some (constants.Pair name descriptor)) = both_texts (text_of (slice_get pool name)) (text_of (slice_get pool descriptor))
-member_in pool _ = None
 
 abbrev pub loaded_class : ℕ → ℕ → Option (List ℕ) → Result (What ℤ) StepFault
 loaded_class at index None = Err (Operand at)
@@ -102,7 +74,7 @@ loaded_class at index (Some name) = if has_dimensions 1 name then Err (Unsupport
 abbrev pub constant_in : List Constant → ℕ → ℕ → Option Constant → Result (What ℤ) StepFault
 constant_in pool at index (Some (constants.Integer _)) = Ok (Loaded index)
 constant_in pool at index (Some (constants.Str _)) = Ok (Loaded index)
-constant_in pool at index (Some (constants.Class name)) = loaded_class at index (text_of (slice_get pool name))
+constant_in pool at index (Some (constants.Class name)) = loaded_class at index (utf8_of (slice_get pool name))
 constant_in pool at index (Some (constants.Float _)) = Err (Unsupported at)
 constant_in pool at index (Some (constants.Handle _ _)) = Err (Unsupported at)
 constant_in pool at index (Some (constants.MethodType _)) = Err (Unsupported at)
@@ -137,7 +109,7 @@ named_call call at index None = Err (Operand at)
 named_call call at index (Some member) = if may_call call member.0 then Ok (Call call index) else Err (Operand at)
 
 abbrev pub call_in : List Constant → CallKind → ℕ → ℕ → Option Constant → Result (What ℤ) StepFault
-call_in pool call at index (Some (constants.Method _ pair)) = named_call call at index (member_in pool (slice_get pool pair))
+call_in pool call at index (Some (constants.Method _ pair)) = named_call call at index (name_and_type_of pool (slice_get pool pair))
 call_in pool call at index _ = Err (Operand at)
 
 unfoldable pub call_of : List Constant → CallKind → ℕ → ℕ → Result (What ℤ) StepFault
@@ -154,7 +126,7 @@ class_named purpose at index None = Err (Operand at)
 class_named purpose at index (Some name) = if may_use purpose name then Ok (Class purpose index) else Err (Operand at)
 
 unfoldable pub class_of : List Constant → ClassUse → ℕ → ℕ → Result (What ℤ) StepFault
-class_of pool purpose at index = class_named purpose at index (class_name_in pool (slice_get pool index))
+class_of pool purpose at index = class_named purpose at index (class_name_of pool (slice_get pool index))
 
 -- the index of the name and descriptor of an interface method
 abbrev pub interface_pair_in : Option Constant → Option ℕ

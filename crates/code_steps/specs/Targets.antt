@@ -8,7 +8,7 @@ use Rattle.instructions.specs.declared.what.What.{What}
 use Rattle.instructions.specs.declared.what.What.TheVariants.{Plain, Int, Long, Constant as Loaded, LongConstant, Local, Increment, Branch, TableSwitch, LookupSwitch, Field, Call, InterfaceCall, Class, NewArray}
 use Rattle.code_steps.specs.declared.fault.StepFault.{StepFault}
 use Rattle.code_steps.specs.declared.fault.StepFault.TheVariants as faults
-use Rattle.code_steps.specs.Reading.{◌>>=◌}
+use Rattle.class_walk.specs.Reading.{◌>>=◌}
 
 -- the instruction at an offset, where these are the offsets of the instructions
 abbrev pub target_of : List ℕ → ℤ → Option Target

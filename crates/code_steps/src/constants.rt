@@ -3,33 +3,14 @@
 ghost use Rattle.std.specs.Prelude.{◌≡◌, ◌↔◌, IsTrue, slice_get, bytes_eq, codes, option_map};
 ghost use Rattle.class_walk.specs.declared.class.Constant.{Constant};
 ghost use Rattle.code_steps.specs.Operands.{has_dimensions, IsInterfaceCall};
-ghost use Rattle.code_steps.specs.Reading.{text_of, class_name_in, member_in, both_texts, loaded_class, constant_of, long_constant_of, field_of, may_call, named_call, call_of, may_use, class_named, class_of, interface_pair_in, has_words, IsCountIn, IsInterfaceMember, new_array_of};
+ghost use Rattle.class_pool.specs.Lookup.{utf8_of, name_and_type_of, both_texts};
+ghost use Rattle.code_steps.specs.Reading.{loaded_class, constant_of, long_constant_of, field_of, may_call, named_call, call_of, may_use, class_named, class_of, interface_pair_in, has_words, IsCountIn, IsInterfaceMember, new_array_of};
 
 use crate::fault::StepFault;
 use class_names::ParameterSize;
-use class_read::Pool;
+use class_pool::{Pool, class_name_at, name_and_type_at, utf8_at};
 use class_walk::Constant;
 use instructions::{Call, ClassUse, FieldAccess, PrimitiveType, What};
-
-/// The text that stands at an index.
-fn text(pool: &[Constant], index: u16) -> Option<&[u8]>
-    ensures { option_map (λ x. x.now) result ≡ text_of (slice_get pool.now index) }
-{
-    match pool.get(usize::from(index)) {
-        Some(Constant::Utf8(text)) => Some(text.as_slice()),
-        _ => None,
-    }
-}
-
-/// The name of the class whose entry stands at an index.
-fn class_name(pool: &[Constant], index: u16) -> Option<&[u8]>
-    ensures { option_map (λ x. x.now) result ≡ class_name_in pool.now (slice_get pool.now index) }
-{
-    match pool.get(usize::from(index)) {
-        Some(Constant::Class(name)) => text(pool, *name),
-        _ => None,
-    }
-}
 
 /// Whether a class name begins with a `[`.
 fn is_array_name(name: &[u8]) -> bool
@@ -62,7 +43,7 @@ pub fn constant(pool: &[Constant], at: u32, index: u16) -> Result<What<i64>, Ste
 {
     match pool.get(usize::from(index)) {
         Some(Constant::Integer(_) | Constant::Str(_)) => Ok(What::Constant(index)),
-        Some(Constant::Class(name)) => loaded_class(at, index, text(pool, *name)),
+        Some(Constant::Class(name)) => loaded_class(at, index, utf8_at(pool, *name)),
         Some(Constant::Float(_) | Constant::Handle(..) | Constant::MethodType(_)) => {
             Err(StepFault::Unsupported(at))
         }
@@ -115,27 +96,6 @@ fn may_call(call: Call, name: &[u8]) -> bool
     }
 }
 
-/// The name and the descriptor of a member, by the index of the entry that has both.
-fn member(pool: &[Constant], pair: u16) -> Option<(&[u8], &[u8])>
-    ensures { option_map (λ x. (x.0.now, x.1.now)) result ≡ member_in pool.now (slice_get pool.now pair) }
-{
-    match pool.get(usize::from(pair)) {
-        Some(Constant::Pair(name, descriptor)) => {
-            both(text(pool, *name), text(pool, *descriptor))
-        }
-        _ => None,
-    }
-}
-
-fn both<'a>(name: Option<&'a [u8]>, descriptor: Option<&'a [u8]>) -> Option<(&'a [u8], &'a [u8])>
-    ensures { option_map (λ x. (x.0.now, x.1.now)) result ≡ both_texts (option_map (λ x. x.now) name.entry) (option_map (λ x. x.now) descriptor.entry) }
-{
-    match (name, descriptor) {
-        (Some(name), Some(descriptor)) => Some((name, descriptor)),
-        _ => None,
-    }
-}
-
 fn named_call(
     call: Call,
     at: u32,
@@ -156,7 +116,12 @@ pub fn call(pool: &[Constant], call: Call, at: u32, index: u16) -> Result<What<i
     ensures { result ≡ call_of pool.now call at index }
 {
     match pool.get(usize::from(index)) {
-        Some(Constant::Method(_, pair)) => named_call(call, at, index, member(pool, *pair)),
+        Some(Constant::Method(_, pair)) => named_call(
+            call,
+            at,
+            index,
+            name_and_type_at(pool, *pair),
+        ),
         _ => Err(StepFault::Operand(at)),
     }
 }
@@ -195,7 +160,7 @@ pub fn class(
 ) -> Result<What<i64>, StepFault>
     ensures { result ≡ class_of pool.now purpose at index }
 {
-    class_named(purpose, at, index, class_name(pool, index))
+    class_named(purpose, at, index, class_name_at(pool, index))
 }
 
 /// The operand of newarray. The codes of float and double are 6 and 7.
@@ -227,7 +192,7 @@ fn has_words(parameters: Option<ParameterSize>, count: u8) -> bool
 
 /// Whether the parameters of the method descriptor at an index and a receiver take so many words.
 fn is_count(pool: &Pool<'_>, descriptor: u16, count: u8) -> bool
-    ensures { IsTrue result ↔ IsCountIn (text_of (slice_get pool.now descriptor)) count }
+    ensures { IsTrue result ↔ IsCountIn (utf8_of (slice_get pool.now descriptor)) count }
 {
     match pool.text_use(descriptor) {
         Some(text) => has_words(text.parameters, count),
@@ -247,9 +212,9 @@ fn interface_pair(pool: &[Constant], index: u16) -> Option<u16>
 
 /// Whether invokeinterface may call a member of this name and descriptor, with this count and this last byte.
 fn is_interface_member(pool: &Pool<'_>, name: u16, descriptor: u16, count: u8, last: u8) -> bool
-    ensures { IsTrue result ↔ IsInterfaceMember (both_texts (text_of (slice_get pool.now name)) (text_of (slice_get pool.now descriptor))) count last }
+    ensures { IsTrue result ↔ IsInterfaceMember (both_texts (utf8_of (slice_get pool.now name)) (utf8_of (slice_get pool.now descriptor))) count last }
 {
-    match text(pool.constants(), name) {
+    match utf8_at(pool.constants(), name) {
         Some(name) => {
             may_call(Call::Virtual, name) && is_count(pool, descriptor, count) && last == 0
         }
@@ -259,7 +224,7 @@ fn is_interface_member(pool: &Pool<'_>, name: u16, descriptor: u16, count: u8, l
 
 /// Whether invokeinterface may call the member at an index, with this count and this last byte.
 fn is_interface_pair(pool: &Pool<'_>, pair: u16, count: u8, last: u8) -> bool
-    ensures { IsTrue result ↔ IsInterfaceMember (member_in pool.now (slice_get pool.now pair)) count last }
+    ensures { IsTrue result ↔ IsInterfaceMember (name_and_type_of pool.now (slice_get pool.now pair)) count last }
 {
     match pool.constants().get(usize::from(pair)) {
         Some(Constant::Pair(name, descriptor)) => {

@@ -9,7 +9,7 @@ use crate::constants::{call, class, constant, field, is_interface_call, long_con
 use crate::cursor::{Cursor, far_target, near_target};
 use crate::fault::{StepFault, StepRefusal};
 use crate::switches::{lookup_switch, table_switch};
-use class_read::Pool;
+use class_pool::Pool;
 use instructions::{Form, Row, What, row};
 use std::alloc::Global;
 

@@ -12,7 +12,7 @@ use crate::cursor::Cursor;
 use crate::fault::{StepFault, StepRefusal};
 use crate::operands::instruction;
 use crate::targets::steps;
-use class_read::Pool;
+use class_pool::Pool;
 use instructions::{Instr, Numbering, Steps};
 use rows::Rows;
 use std::alloc::Global;

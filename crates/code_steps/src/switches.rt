@@ -2,7 +2,8 @@
 
 ghost use Rattle.std.specs.Prelude.{◌≡◌, Ok, MatchResult};
 ghost use Rattle.code_steps.specs.Operands.{padding_of};
-ghost use Rattle.code_steps.specs.Reading.{FailsExactly, GivesAndLeaves, GivesExactly, bytes_at, target_at, case_at, items_at, keys_between, is_below, rise, table_switch_at, lookup_switch_at};
+ghost use Rattle.class_walk.specs.Reading.{items_at};
+ghost use Rattle.code_steps.specs.Reading.{FailsExactly, GivesAndLeaves, GivesExactly, bytes_at, target_at, case_at, keys_between, is_below, rise, table_switch_at, lookup_switch_at};
 
 use crate::cursor::Cursor;
 use crate::fault::{StepFault, StepRefusal};

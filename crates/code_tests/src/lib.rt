@@ -1,9 +1,11 @@
-//! Tests of reading code arrays and stack map frames, of a refusal's text, and of writing instructions and frames. The program
-//! `code_vectors` tries class files.
+//! Tests of what stands in a constant pool, of reading code arrays and stack map frames, of a refusal's text and number,
+//! and of writing instructions and frames. The program `code_vectors` tries class files.
 #![tactic(auto)]
 
 #[cfg(test)]
 mod frames;
+#[cfg(test)]
+mod lookups;
 #[cfg(test)]
 mod pool;
 #[cfg(test)]

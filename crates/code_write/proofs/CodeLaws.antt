@@ -30,22 +30,22 @@ use Rattle.code_write.specs.Meaning.{targets_read, cases_read, Means, IsMeant, c
 
 -- ---- numbers in two's complement
 
-below8 : (z : ℤ) → FitsSigned w8 z → cast_unsigned w8 z < 256 ^ 1
+pub below8 : (z : ℤ) → FitsSigned w8 z → cast_unsigned w8 z < 256 ^ 1
 below8 (pos n) fits = omega (arith, fits.sfits)
 below8 (negsuc n) fits = omega (arith, fits.sfits)
 
-below16 : (z : ℤ) → FitsSigned w16 z → cast_unsigned w16 z < 256 ^ 2
+pub below16 : (z : ℤ) → FitsSigned w16 z → cast_unsigned w16 z < 256 ^ 2
 below16 (pos n) fits = omega (arith, fits.sfits)
 below16 (negsuc n) fits = omega (arith, fits.sfits)
 
-below32 : (z : ℤ) → FitsSigned w32 z → cast_unsigned w32 z < 2 ^ 32
+pub below32 : (z : ℤ) → FitsSigned w32 z → cast_unsigned w32 z < 2 ^ 32
 below32 (pos n) fits = omega (arith, fits.sfits)
 below32 (negsuc n) fits = omega (arith, fits.sfits)
 
-near_back : (at target : ℕ) → FitsSigned w16 (distance at target) → pos target ≡ near_target at (cast_unsigned w16 (distance at target))
+pub near_back : (at target : ℕ) → FitsSigned w16 (distance at target) → pos target ≡ near_target at (cast_unsigned w16 (distance at target))
 near_back at target fits = omega (arith, ints)
 
-far_back : (at target : ℕ) → IsFar at target → pos target ≡ far_target at (cast_unsigned w32 (distance at target))
+pub far_back : (at target : ℕ) → IsFar at target → pos target ≡ far_target at (cast_unsigned w32 (distance at target))
 far_back at target fits = omega (arith, ints)
 
 is_target : (at target : ℕ) → IsFar at target → IsTarget at (pos target) (far_bytes at target)
@@ -198,7 +198,7 @@ narrow_instruction pool code at next w what m narrow is ends whole = record {
   ends = let size : length (instruction_bytes at w) ≡ suc (length (operand_bytes at w.operands)) = ap (λ (s : List ℕ). length (s ++ (w.number ∷ operand_bytes at w.operands))) narrow in omega (arith, size, ends);
 }
 
-one_byte : (n : ℕ) → n < 256 → u1 n ≡ n ∷ []
+pub one_byte : (n : ℕ) → n < 256 → u1 n ≡ n ∷ []
 one_byte n small = ap (λ (k : ℕ). k ∷ []) (mod-eq_of_lt small)
 
 wide_instruction : (pool : List Constant) (code : List ℕ) (at next : ℕ) (w : Written ℕ) (what : What ℤ) (m : IsMeant pool at w what) → wide_bytes w.operands ≡ 196 ∷ [] → AreWideOf m.row.form what (operand_bytes at w.operands) → next ≡ at + length (instruction_bytes at w) → drop at code ≡ instruction_bytes at w ++ drop next code → IsInstruction pool code (record { at = at; next = next; what = what })
@@ -268,17 +268,3 @@ code_more at (v ∷ others) w =
     ap (λ (s : List ℕ). text ++ s) (code_more next others w)
     ∙ sym (append_assoc text (code_bytes next others) (instruction_bytes (next + length (code_bytes next others)) w))
     ∙ ap (λ (n : ℕ). text ++ code_bytes next others ++ instruction_bytes n w) here
-
-pub meant_more : (pool : List Constant) (at : ℕ) (ws : List (Written ℕ)) (steps : List (Instr ℤ)) (w : Written ℕ) (i : Instr ℤ) → AreMeant pool at ws steps → i.at ≡ at + length (code_bytes at ws) → i.next ≡ i.at + length (instruction_bytes i.at w) → IsMeant pool i.at w i.what → AreMeant pool at (ws ++ w ∷ []) (steps ++ i ∷ [])
-meant_more pool at [] [] w i m start ends is =
-    let here : i.at ≡ at = omega (arith, start) in
-    let Is : ℕ → Type 0 = λ a. IsMeant pool a w i.what in
-    (here, ends ∙ ap (λ (a : ℕ). a + length (instruction_bytes a w)) here, subst Is here is, refl)
-meant_more pool at [] (s ∷ steps) w i m start ends is = cc
-meant_more pool at (v ∷ others) [] w i m start ends is = absurd m
-meant_more pool at (v ∷ others) (s ∷ steps) w i m start ends is =
-    let text : List ℕ = instruction_bytes at v in
-    let next : ℕ = at + length text in
-    let size = length-append text (code_bytes next others) in
-    let here : i.at ≡ next + length (code_bytes next others) = omega (arith, start, size) in
-    (m.0, m.1, m.2, meant_more pool next others steps w i m.3 here ends is)

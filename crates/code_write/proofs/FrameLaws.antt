@@ -63,7 +63,3 @@ frames_more least (f ∷ others) p =
     let text : List ℕ = full_frame (f.at - least) f.locals f.stack in
     let last : List ℕ = full_frame (p.at - least_behind (f.at + 1) others) p.locals p.stack in
     ap (λ (s : List ℕ). text ++ s) (frames_more (f.at + 1) others p) ∙ sym (append_assoc text (frames_bytes (f.at + 1) others) last)
-
-pub placed_more : (pool : List Constant) (steps : List (Instr Target)) (least : ℕ) (frames : List Placed) (p : Placed) → ArePlaced pool steps least frames → IsPlaced pool steps (least_behind least frames) p → ArePlaced pool steps least (frames ++ p ∷ [])
-placed_more pool steps least [] p are is = (is, tt)
-placed_more pool steps least (f ∷ others) p are is = (are.0, placed_more pool steps (f.at + 1) others p are.1 is)

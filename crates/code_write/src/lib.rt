@@ -18,9 +18,7 @@ mod switches;
 
 pub use frames::{VerificationType, put_full_frame};
 pub use instruction::put_instruction;
-pub use laws::{
-    code_grows, frames_grow, shapes_have_sizes, written_code_is_read, written_frames_are_read,
-};
+pub use laws::{shapes_have_sizes, written_code_is_read, written_frames_are_read};
 pub use operands::{Operands, Written};
 pub use refusal::PutRefusal;
 pub use shape::Shape;

@@ -1,14 +1,9 @@
 -- What a sink gains in several puts.
-use Rattle.std.proofs.Common.{◌≡◌, inl, inr, ℕ, ℤ, zero, suc, ◌<◌, List, [], ◌∷◌, ◌++◌, length, take, get_or, map, Option, None, Some, option_map, Result, Ok, Err, refl, sym, ◌∙◌, ap, subst, arith, append_assoc}
+use Rattle.std.proofs.Common.{◌≡◌, inl, inr, ℕ, ℤ, zero, suc, ◌<◌, List, [], ◌∷◌, ◌++◌, length, take, get_or, map, Option, None, Some, option_map, refl, sym, ◌∙◌, ap, subst, arith, append_assoc}
 use Rattle.std.specs.Prelude.{◌⊎◌}
 use Rattle.std.specs.Fmt.{signed_decimal}
-use Rattle.std.specs.Result.{OnErr}
 use Rattle.jr_ports.specs.Stream.{IsPrefix, IsBegun, Gains, GainsPart}
 use Rattle.jrev_top.specs.Answer.{line, lines_of}
-
-pub OnErr-any : {T E : Type 0} (r : Result T E) (P : Type 0) → P → OnErr r P
-OnErr-any (Ok x) P p = tt
-OnErr-any (Err e) P p = p
 
 pub Gains-then : {A : Type 0} (a b c : Option (List A)) (x y : List A) → Gains a b x → Gains b c y → Gains a c (x ++ y)
 Gains-then None b c x y first second = second ∙ ap (option_map (λ told. told ++ y)) first

@@ -9,7 +9,6 @@ use Rattle.pool_make.specs.Uses.{Extends, HasRoom}
 use Rattle.pool_make.proofs.ItemLaws.{item_kept, item_is_at, item_stays}
 use Rattle.pool_make.proofs.UseLaws.{extends_itself, extends_further}
 use Rattle.method_make.specs.Making.{Making, next_of, with_pool, only, each_made, has_room, used}
-use Rattle.method_make.proofs.RoomLaws.{decides_room}
 use Rattle.method_make.proofs.ShapeLaws.{parts_of, known_of}
 use Rattle.method_make.proofs.StepLaws.{chosen}
 
@@ -59,8 +58,8 @@ pub record Used (item : Item) (old : List Constant) (x : List Constant × ℕ) :
 pub used_is : (item : Item) (pool : List Constant) (x : List Constant × ℕ) → used item pool ≡ Some x → Used item pool x
 unfolding used
 used_is item pool x e =
-    let got = chosen (has_room (use_of item pool).0) (use_of item pool) x e in
-    let room : HasRoom (use_of item pool).0 = (decides_room (use_of item pool).0).0 got.0 in
+    let got = chosen (has_room (use_of item pool).0).holds (use_of item pool) x e in
+    let room : HasRoom (use_of item pool).0 = (has_room (use_of item pool).0).tells.0 got.0 in
     let here : Used item pool (use_of item pool) = record {
       keeps = record { extends = (item_kept item).grows pool; made = λ made. (item_kept item).made pool made room };
       at = item_is_at item pool;

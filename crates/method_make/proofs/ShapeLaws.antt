@@ -1,5 +1,6 @@
 -- Instructions have the size that their labels were counted with.
 use Rattle.std.proofs.Common.{◌≡◌, ℕ, suc, ℤ, Bool, true, false, cond, List, [], ◌∷◌, length, Option, Some, None, refl, sym, ap, ◌∙◌}
+use Rattle.std.specs.Int.{w8, w16}
 use Rattle.class_walk.specs.declared.class.Constant.{Constant}
 use Rattle.instructions.specs.declared.form.Form.{Form}
 use Rattle.assembly_lines.specs.declared.operation.Operands as lines
@@ -75,8 +76,8 @@ unfolding int_operand
 int_shape form n x = by_bytes (has_one_byte form)
   where
     by_bytes : (b : Bool) → cond b (one_byte_int n) (two_byte_int n) ≡ Some x → shape x ≡ shapes.Fixed (cond b 2 3)
-    by_bytes true e = made_as (narrow 7 n) (λ k. Byte k) (shapes.Fixed 2) x (λ k. refl) e
-    by_bytes false e = made_as (narrow 15 n) (λ k. Short k) (shapes.Fixed 3) x (λ k. refl) e
+    by_bytes true e = made_as (narrow w8 n) (λ k. Byte k) (shapes.Fixed 2) x (λ k. refl) e
+    by_bytes false e = made_as (narrow w16 n) (λ k. Short k) (shapes.Fixed 3) x (λ k. refl) e
 
 local_shape : (wide : Bool) (n : ℕ) (x : Operands ℕ) → local_operand wide n ≡ Some x → shape x ≡ shapes.Fixed (cond wide 4 2)
 unfolding local_operand
@@ -87,8 +88,8 @@ increment_shape : (wide : Bool) (n : ℕ) (by : ℤ) (x : Operands ℕ) → incr
 unfolding increment_operand
 increment_shape true n by x e = is_made (WideIncrement n by) x e
 increment_shape false n by x e =
-    let p = found_parts (byte n) (λ local. narrow 7 by >>= λ k. Some (Increment local k)) x e in
-    made_as (narrow 7 by) (λ k. Increment p.value k) (shapes.Fixed 3) x (λ k. refl) p.next_is
+    let p = found_parts (byte n) (λ local. narrow w8 by >>= λ k. Some (Increment local k)) x e in
+    made_as (narrow w8 by) (λ k. Increment p.value k) (shapes.Fixed 3) x (λ k. refl) p.next_is
 
 constant_shape : (form : Form) (index : ℕ) (x : Operands ℕ) → constant_operand form index ≡ Some x → shape x ≡ shapes.Fixed (cond (has_one_byte form) 2 3)
 unfolding constant_operand

@@ -23,7 +23,6 @@ use Rattle.method_make.specs.Offsets.{short_offset_of}
 use Rattle.method_make.specs.Operands.{operands_of}
 use Rattle.method_make.specs.Body.{MadeBody, is_in_range, code_with, with_code, with_instruction, caught, put_handler, with_handler, map_name_of, type_of, put_frame, with_frame, is_first_at, step_of, step, steps}
 use Rattle.method_make.specs.Put.{Puts}
-use Rattle.method_make.proofs.RangeLaws.{decides_range}
 use Rattle.method_make.proofs.ShapeLaws.{parts_of, found_of, operands_shape}
 
 -- what passes a test
@@ -41,11 +40,11 @@ pub record Code (w : Written ℕ) (old code : List ℕ) : Type 0 where
 pub code_is : (w : Written ℕ) (old code : List ℕ) → code_with w old ≡ Some code → Code w old code
 unfolding code_with
 code_is w old code e =
-    let got = chosen (is_in_range (length old) w.operands && ltb (length (old ++ instruction_bytes (length old) w)) (2 ^ 16)) (old ++ instruction_bytes (length old) w) code e in
-    let tests = and_parts (is_in_range (length old) w.operands) (ltb (length (old ++ instruction_bytes (length old) w)) (2 ^ 16)) got.0 in
+    let got = chosen ((is_in_range (length old) w.operands).holds && ltb (length (old ++ instruction_bytes (length old) w)) (2 ^ 16)) (old ++ instruction_bytes (length old) w) code e in
+    let tests = and_parts (is_in_range (length old) w.operands).holds (ltb (length (old ++ instruction_bytes (length old) w)) (2 ^ 16)) got.0 in
     let less = (Decides-ltb (length (old ++ instruction_bytes (length old) w)) (2 ^ 16)).0 tests.1 in
     record {
-      in_range = (decides_range (length old) w.operands).0 tests.0;
+      in_range = (is_in_range (length old) w.operands).tells.0 tests.0;
       put = got.1;
       room = omega (arith, ap length got.1, less);
     }

@@ -1,5 +1,6 @@
 -- The code of a method, made line by line (JVMS SE 8, 4.7.3).
-use Rattle.std.specs.Prelude.{ℕ, ◌+◌, ◌-◌, ◌^◌, Bool, true, false, ◌==◌, ◌&&◌, nat_lt, nat_le, if◌then◌else◌, List, [], ◌∷◌, ◌++◌, length, Option, Some, None, codes}
+use Rattle.std.specs.Prelude.{ℕ, ◌+◌, ◌-◌, ◌^◌, ℤ, Bool, false, ◌==◌, ◌&&◌, nat_lt, nat_le, if◌then◌else◌, List, [], ◌∷◌, ◌++◌, length, Option, Some, None, codes}
+use Rattle.std.specs.Int.{w16, w32}
 use Rattle.class_walk.specs.declared.class.RawHandler.{RawHandler}
 use Rattle.class_walk.specs.declared.class.RawAttribute.{RawAttribute}
 use Rattle.class_walk.specs.declared.class.RawCode.{RawCode}
@@ -14,15 +15,16 @@ use Rattle.assembly_lines.specs.declared.frame.FrameItem.{FrameItem}
 use Rattle.assembly_lines.specs.declared.frame.FrameItem.TheVariants as items
 use Rattle.pool_make.specs.Items.{text, class_named}
 use Rattle.code_write.specs.declared.operands.Operands.{Operands}
-use Rattle.code_write.specs.declared.operands.Operands.TheVariants.{Near, Far, TableSwitch, LookupSwitch}
+use Rattle.code_write.specs.declared.operands.Operands.TheVariants.{Absent, Byte, Short, ByteIndex, Index, Local, WideLocal, Increment, WideIncrement, Near, Far, TableSwitch, LookupSwitch, InterfaceCall, NewArray}
 use Rattle.code_write.specs.declared.operands.Written.{Written}
 use Rattle.code_write.specs.declared.frames.VerificationType.{VerificationType}
 use Rattle.code_write.specs.declared.frames.VerificationType.TheVariants as types
-use Rattle.code_write.specs.Instruction.{instruction_bytes, distance, highest}
+use Rattle.code_write.specs.Instruction.{instruction_bytes, distance, highest, IsFar, IsTableInRange, IsCaseInRange, IsLookupInRange, IsInRange}
 use Rattle.code_write.specs.Frame.{full_frame}
 use Rattle.method_make.specs.declared.labels.Mark.{Mark}
 use Rattle.assembly_text.specs.declared.lines.Numbered.{Numbered}
-use Rattle.method_make.specs.Making.{Making, ◌>>=◌, only, each_made, used, fits_signed}
+use Rattle.method_make.specs.Tests.{Test, known, like, both, less, fits_signed, every}
+use Rattle.method_make.specs.Making.{Making, ◌>>=◌, only, each_made, used}
 use Rattle.method_make.specs.Labels.{Marks}
 use Rattle.method_make.specs.Offsets.{short_offset_of}
 use Rattle.method_make.specs.Operands.{operands_of}
@@ -46,31 +48,44 @@ begun room = record { stack = room.stack; locals = room.locals; code = []; handl
 
 -- ---- instructions
 
-abbrev pub is_far_in_range : ℕ → ℕ → Bool
-is_far_in_range at target = fits_signed 31 (distance at target)
+-- the distance to a target has room in four bytes
+abbrev pub is_far_in_range : (at target : ℕ) → Test (IsFar at target)
+is_far_in_range at target = fits_signed w32 (distance at target)
 
-abbrev pub are_far_in_range : ℕ → List ℕ → Bool
-are_far_in_range at [] = true
-are_far_in_range at (target ∷ targets) = is_far_in_range at target && are_far_in_range at targets
+abbrev pub is_table_in_range : (at default : ℕ) (low : ℤ) (targets : List ℕ) → Test (IsTableInRange at default low targets)
+is_table_in_range at default low targets = like
+    (λ h. record { count = h.0; highest_fits = h.1.0; default_fits = h.1.1.0; targets_fit = h.1.1.1 })
+    (λ h. (h.count, (h.highest_fits, (h.default_fits, h.targets_fit))))
+    (both (less (length targets) (2 ^ 32)) (both (fits_signed w32 (highest low targets)) (both (is_far_in_range at default) (every (IsFar at) (is_far_in_range at) targets))))
 
-abbrev pub are_cases_in_range : ℕ → List (Case ℕ) → Bool
-are_cases_in_range at [] = true
-are_cases_in_range at (c ∷ cases) = is_far_in_range at c.target && are_cases_in_range at cases
+abbrev pub is_lookup_in_range : (at default : ℕ) (cases : List (Case ℕ)) → Test (IsLookupInRange at default cases)
+is_lookup_in_range at default cases = like
+    (λ h. record { count = h.0; default_fits = h.1.0; cases_fit = h.1.1 })
+    (λ h. (h.count, (h.default_fits, h.cases_fit)))
+    (both (less (length cases) (2 ^ 32)) (both (is_far_in_range at default) (every (IsCaseInRange at) (λ c. is_far_in_range at c.target) cases)))
 
--- whether each distance of an instruction at this offset has room in its bytes, and the highest key and the count of a switch
-unfoldable pub is_in_range : ℕ → Operands ℕ → Bool
-is_in_range at (Near target) = fits_signed 15 (distance at target)
+-- what is computed for an operand of an instruction at this offset has room in its bytes
+unfoldable pub is_in_range : (at : ℕ) (operands : Operands ℕ) → Test (IsInRange at operands)
+is_in_range at Absent = known tt
+is_in_range at (Byte n) = known tt
+is_in_range at (Short n) = known tt
+is_in_range at (ByteIndex index) = known tt
+is_in_range at (Index index) = known tt
+is_in_range at (Local local) = known tt
+is_in_range at (WideLocal local) = known tt
+is_in_range at (Increment local by) = known tt
+is_in_range at (WideIncrement local by) = known tt
+is_in_range at (Near target) = fits_signed w16 (distance at target)
 is_in_range at (Far target) = is_far_in_range at target
-is_in_range at (TableSwitch default low targets) =
-    nat_lt (length targets) (2 ^ 32) && (fits_signed 31 (highest low targets) && (is_far_in_range at default && are_far_in_range at targets))
-is_in_range at (LookupSwitch default cases) =
-    nat_lt (length cases) (2 ^ 32) && (is_far_in_range at default && are_cases_in_range at cases)
-is_in_range at _ = true
+is_in_range at (TableSwitch default low targets) = is_table_in_range at default low targets
+is_in_range at (LookupSwitch default cases) = is_lookup_in_range at default cases
+is_in_range at (InterfaceCall index count) = known tt
+is_in_range at (NewArray element) = known tt
 
 -- an instruction behind the others; the code has at most 65,535 bytes (JVMS 4.7.3)
 unfoldable pub code_with : Written ℕ → List ℕ → Option (List ℕ)
 code_with written code =
-    if is_in_range (length code) written.operands && nat_lt (length (code ++ instruction_bytes (length code) written)) (2 ^ 16)
+    if (is_in_range (length code) written.operands).holds && nat_lt (length (code ++ instruction_bytes (length code) written)) (2 ^ 16)
     then Some (code ++ instruction_bytes (length code) written)
     else None
 

@@ -1,3 +1,4 @@
+pub mod Tests
 pub mod Making
 pub mod Labels
 pub mod Marks

@@ -1,43 +1,38 @@
 -- Parts of a class that are made with its constant pool, as far as a class file has room for them.
-use Rattle.std.specs.Prelude.{◌≡◌, ℕ, ◌^◌, ℤ, pos, negsuc, Bool, true, ◌&&◌, nat_lt, if◌then◌else◌, List, [], ◌∷◌, length, Option, Some, None, Result, Ok, Err}
+use Rattle.std.specs.Prelude.{◌≡◌, ℕ, ◌^◌, if◌then◌else◌, List, [], ◌∷◌, length, Option, Some, None, Result, Ok, Err}
+use Rattle.std.specs.Int.{w32, w64}
 use Rattle.class_walk.specs.declared.class.Constant.{Constant}
 use Rattle.class_walk.specs.declared.class.Constant.TheVariants.{Gap, Utf8, Integer, Float, Long, Double, Class, Str, Field, Method, IfaceMethod, Pair, Handle, MethodType, Dynamic}
+use Rattle.class_walk.specs.Layout.{Fits}
 use Rattle.pool_make.specs.Items.{Item, use_of}
+use Rattle.pool_make.specs.Uses.{HasRoom}
+use Rattle.method_make.specs.Tests.{Test, known, both, less, fits_signed, each_of}
 use Rattle.method_make.specs.declared.refusal.BodyRefusal.{BodyRefusal}
 use Rattle.method_make.specs.declared.refusal.BodyRefusal.TheVariants.{Refused, NoMemory}
 
 -- ---- room
 
--- whether a number has room in so many bits beside its sign
-abbrev pub fits_signed : ℕ → ℤ → Bool
-fits_signed bits (pos n) = nat_lt n (2 ^ bits)
-fits_signed bits (negsuc n) = nat_lt n (2 ^ bits)
+-- the numbers of an entry, and the length of a text, have the width that the layout gives them (JVMS 4.4)
+abbrev pub fits : (c : Constant) → Test (Fits c)
+fits Gap = known tt
+fits (Utf8 bytes) = less (length bytes) (2 ^ 16)
+fits (Integer value) = fits_signed w32 value
+fits (Float bits) = less bits (2 ^ 32)
+fits (Long value) = fits_signed w64 value
+fits (Double bits) = less bits (2 ^ 64)
+fits (Class name) = less name (2 ^ 16)
+fits (Str text) = less text (2 ^ 16)
+fits (Field class pair) = both (less class (2 ^ 16)) (less pair (2 ^ 16))
+fits (Method class pair) = both (less class (2 ^ 16)) (less pair (2 ^ 16))
+fits (IfaceMethod class pair) = both (less class (2 ^ 16)) (less pair (2 ^ 16))
+fits (Pair name descriptor) = both (less name (2 ^ 16)) (less descriptor (2 ^ 16))
+fits (Handle kind index) = both (less kind (2 ^ 8)) (less index (2 ^ 16))
+fits (MethodType descriptor) = less descriptor (2 ^ 16)
+fits (Dynamic bootstrap pair) = both (less bootstrap (2 ^ 16)) (less pair (2 ^ 16))
 
--- whether the numbers of an entry, and the length of a text, have the width that the layout gives them (JVMS 4.4)
-abbrev pub fits : Constant → Bool
-fits Gap = true
-fits (Utf8 bytes) = nat_lt (length bytes) (2 ^ 16)
-fits (Integer value) = fits_signed 31 value
-fits (Float bits) = nat_lt bits (2 ^ 32)
-fits (Long value) = fits_signed 63 value
-fits (Double bits) = nat_lt bits (2 ^ 64)
-fits (Class name) = nat_lt name (2 ^ 16)
-fits (Str text) = nat_lt text (2 ^ 16)
-fits (Field class pair) = nat_lt class (2 ^ 16) && nat_lt pair (2 ^ 16)
-fits (Method class pair) = nat_lt class (2 ^ 16) && nat_lt pair (2 ^ 16)
-fits (IfaceMethod class pair) = nat_lt class (2 ^ 16) && nat_lt pair (2 ^ 16)
-fits (Pair name descriptor) = nat_lt name (2 ^ 16) && nat_lt descriptor (2 ^ 16)
-fits (Handle kind index) = nat_lt kind (2 ^ 8) && nat_lt index (2 ^ 16)
-fits (MethodType descriptor) = nat_lt descriptor (2 ^ 16)
-fits (Dynamic bootstrap pair) = nat_lt bootstrap (2 ^ 16) && nat_lt pair (2 ^ 16)
-
-abbrev pub all_fit : List Constant → Bool
-all_fit [] = true
-all_fit (c ∷ pool) = fits c && all_fit pool
-
--- whether a class file can hold the pool: its count has two bytes (JVMS 4.1)
-unfoldable pub has_room : List Constant → Bool
-has_room pool = nat_lt (length pool) (2 ^ 16) && all_fit pool
+-- a class file can hold the pool
+unfoldable pub has_room : (pool : List Constant) → Test (HasRoom pool)
+has_room pool = both (less (length pool) (2 ^ 16)) (each_of Fits fits pool)
 
 -- ---- making
 
@@ -64,7 +59,7 @@ only o = λ pool. with_pool pool o
 
 -- the index of an item, where a class file has room for it
 unfoldable pub used : Item → Making ℕ
-used item pool = if has_room (use_of item pool).0 then Some (use_of item pool) else None
+used item pool = if (has_room (use_of item pool).0).holds then Some (use_of item pool) else None
 
 -- each of some items, one behind the other
 abbrev pub each_made : {A B : Type 0} → (A → Making B) → List A → Making (List B)

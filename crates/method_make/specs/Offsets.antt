@@ -1,12 +1,13 @@
 -- Operands that need no entry of the pool: numbers, and targets as the offsets of labels.
 use Rattle.std.specs.Prelude.{ℕ, ◌^◌, ℤ, Bool, nat_lt, if◌then◌else◌, List, [], ◌∷◌, Option, Some, None}
+use Rattle.std.specs.Int.{Width, w8, w16}
 use Rattle.assembly_lines.specs.declared.operation.LabelledCase.{LabelledCase}
 use Rattle.assembly_lines.specs.Front.{◌>>=◌}
 use Rattle.instructions.specs.declared.form.Form.{Form}
 use Rattle.instructions.specs.declared.what.Case.{Case}
 use Rattle.code_write.specs.declared.operands.Operands.{Operands}
 use Rattle.code_write.specs.declared.operands.Operands.TheVariants.{Byte, Short, ByteIndex, Index, Local, WideLocal, Increment, WideIncrement, Near, Far, TableSwitch, LookupSwitch}
-use Rattle.method_make.specs.Making.{fits_signed}
+use Rattle.method_make.specs.Tests.{fits_signed}
 use Rattle.method_make.specs.Labels.{Marks, has_one_byte, is_far}
 
 -- each of some items
@@ -34,9 +35,9 @@ case_of marks said = do
   target ← offset_of marks said.label
   Some (record { key = said.key; target = target })
 
--- an int that has room in its bytes, of which so many bits are beside the sign
-unfoldable pub narrow : ℕ → ℤ → Option ℤ
-narrow bits n = if fits_signed bits n then Some n else None
+-- an int that has room in so many bits
+unfoldable pub narrow : Width → ℤ → Option ℤ
+narrow w n = if (fits_signed w n).holds then Some n else None
 
 -- a local or an index that has room in one byte
 unfoldable pub byte : ℕ → Option ℕ
@@ -45,13 +46,13 @@ byte n = if nat_lt n (2 ^ 8) then Some n else None
 -- bipush has one byte for its int
 abbrev pub one_byte_int : ℤ → Option (Operands ℕ)
 one_byte_int int = do
-  n ← narrow 7 int
+  n ← narrow w8 int
   Some (Byte n)
 
 -- sipush has two
 abbrev pub two_byte_int : ℤ → Option (Operands ℕ)
 two_byte_int int = do
-  n ← narrow 15 int
+  n ← narrow w16 int
   Some (Short n)
 
 unfoldable pub int_operand : Form → ℤ → Option (Operands ℕ)
@@ -68,7 +69,7 @@ local_operand wide number = if wide then Some (WideLocal number) else narrow_loc
 abbrev pub narrow_increment : ℕ → ℤ → Option (Operands ℕ)
 narrow_increment number int = do
   local ← byte number
-  by ← narrow 7 int
+  by ← narrow w8 int
   Some (Increment local by)
 
 unfoldable pub increment_operand : Bool → ℕ → ℤ → Option (Operands ℕ)

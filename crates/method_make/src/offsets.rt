@@ -1,6 +1,7 @@
 //! Operands that need no entry of the pool.
 
 ghost use Rattle.std.specs.Prelude.{◌≡◌};
+ghost use Rattle.std.specs.Int.{w8, w16};
 ghost use Rattle.method_make.specs.Making.{Finds};
 ghost use Rattle.method_make.specs.Marks.{marks_of};
 ghost use Rattle.method_make.specs.Offsets.{offset_of, short_offset_of, each, case_of, narrow, byte, int_operand, local_operand, increment_operand, constant_operand, branch_operand, table_operand, lookup_operand};
@@ -76,7 +77,7 @@ fn cases_of(
 /// An int that has room in one byte.
 #[tactic(auto, unfolding(crate::specs::Offsets::narrow))]
 fn one_byte(int: i32) -> Result<i8, BodyRefusal>
-    ensures { Finds (λ int. int) result (narrow 7 int) }
+    ensures { Finds (λ int. int) result (narrow w8 int) }
 {
     if int < -128 || int > 127 {
         return Err(BodyRefusal::Refused);
@@ -87,7 +88,7 @@ fn one_byte(int: i32) -> Result<i8, BodyRefusal>
 /// An int that has room in two bytes.
 #[tactic(auto, unfolding(crate::specs::Offsets::narrow))]
 fn two_bytes(int: i32) -> Result<i16, BodyRefusal>
-    ensures { Finds (λ int. int) result (narrow 15 int) }
+    ensures { Finds (λ int. int) result (narrow w16 int) }
 {
     if int < -32_768 || int > 32_767 {
         return Err(BodyRefusal::Refused);

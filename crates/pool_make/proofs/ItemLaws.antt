@@ -3,8 +3,8 @@ use Rattle.std.proofs.Common.{◌≡◌, ℕ, List, Some, slice_get, false, refl
 use Rattle.class_walk.specs.declared.class.Constant.{Constant}
 use Rattle.class_walk.specs.declared.class.Constant.TheVariants.{Utf8, Integer, Long, Class, Str, Field, Method, IfaceMethod, Pair}
 use Rattle.class_walk.specs.Layout.{is_gap}
-use Rattle.class_read.specs.Pool.{IsUtf8At, IsClassAt, IsPairAt}
-use Rattle.pool_make.specs.ShortestForms.{encoded}
+use Rattle.class_pool.specs.Pool.{IsUtf8At, IsClassAt, IsPairAt}
+use Rattle.class_names.specs.ShortestForms.{encoded}
 use Rattle.pool_make.specs.Uses.{◌>>=◌, entry, class_entry, string_entry, pair_entry, member_entry, Extends}
 use Rattle.pool_make.specs.Items.{Item, text, integer, long, class_named, string, field, method, interface_method, use_of, IsItemAt}
 use Rattle.pool_make.proofs.EntryLaws.{get-append}

@@ -4,4 +4,3 @@ pub mod IndexLaws
 pub mod UseLaws
 pub mod PutLaws
 pub mod ItemLaws
-pub mod FormLaws

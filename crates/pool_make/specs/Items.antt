@@ -2,8 +2,8 @@
 use Rattle.std.specs.Prelude.{◌≡◌, ℕ, ℤ, List, Some, slice_get}
 use Rattle.class_walk.specs.declared.class.Constant.{Constant}
 use Rattle.class_walk.specs.declared.class.Constant.TheVariants.{Utf8, Integer, Long, Str, IfaceMethod}
-use Rattle.class_read.specs.Pool.{IsUtf8At, IsClassAt, IsPairAt, IsFieldAt, IsMethodAt, reference_of}
-use Rattle.pool_make.specs.ShortestForms.{encoded}
+use Rattle.class_pool.specs.Pool.{IsUtf8At, IsClassAt, IsPairAt, IsFieldAt, IsMethodAt, reference_of}
+use Rattle.class_names.specs.ShortestForms.{encoded}
 use Rattle.pool_make.specs.Uses.{Use, entry, class_entry, string_entry, field_entry, method_entry, interface_method_entry}
 
 pub data Item : Type 0 where

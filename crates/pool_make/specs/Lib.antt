@@ -2,4 +2,3 @@ pub mod Key
 pub mod Uses
 pub mod Indexed
 pub mod Items
-pub mod ShortestForms

@@ -6,7 +6,7 @@ use Rattle.std.specs.Str.{bytes_eq}
 use Rattle.class_walk.specs.declared.class.Constant.{Constant}
 use Rattle.class_walk.specs.declared.class.Constant.TheVariants.{Gap, Utf8, Integer, Float, Long, Double, Class, Str, Field, Method, IfaceMethod, Pair, Handle, MethodType, Dynamic}
 use Rattle.class_walk.specs.Layout.{is_wide, IsCounted, Fits}
-use Rattle.pool_make.specs.ShortestForms.{encoded}
+use Rattle.class_names.specs.ShortestForms.{encoded}
 use Rattle.pool_make.specs.declared.refusal.PoolRefusal.{PoolRefusal}
 use Rattle.pool_make.specs.declared.refusal.PoolRefusal.TheVariants.{Full, NoMemory}
 

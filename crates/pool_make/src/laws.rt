@@ -1,14 +1,11 @@
 //! What a made pool is.
 
-ghost use Rattle.std.specs.Prelude.{◌≡◌, ◌<◌, ◌^◌, ℕ, List, [], ◌∷◌, map};
-ghost use Rattle.std.specs.List.{AllByRecursion};
+ghost use Rattle.std.specs.Prelude.{ℕ, List, [], ◌∷◌};
 ghost use Rattle.class_walk.specs.declared.class.Constant.{Constant};
 ghost use Rattle.class_walk.specs.declared.class.Constant.TheVariants.{Gap};
 ghost use Rattle.class_walk.specs.Layout.{IsPool};
-ghost use Rattle.class_names.specs.ModifiedUtf8.{AreForms, unit_of};
 ghost use Rattle.pool_make.specs.Indexed.{IsMade, AreDifferent};
 ghost use Rattle.pool_make.specs.Items.{Item, use_of, IsItemAt};
-ghost use Rattle.pool_make.specs.ShortestForms.{form_of, encoded};
 ghost use Rattle.pool_make.specs.Uses.{Extends, HasRoom};
 
 /// A used item stands at the index that the use gives, and its parts at the indices that it names.
@@ -33,10 +30,4 @@ pub fn made_pools_are_pools()
     ensures first { IsMade (Gap ∷ []) }
     ensures next { (item : Item) (pool : List Constant) → IsMade pool → HasRoom (use_of item pool).0 → IsMade (use_of item pool).0 }
     ensures pool { (pool : List Constant) → IsMade pool → IsPool pool }
-{}
-
-/// The text of a string literal is in modified UTF-8, and stands for its code units.
-pub fn string_texts_have_their_units()
-    ensures formed { (units : List ℕ) → AllByRecursion (λ u. u < 2 ^ 16) units → AreForms (encoded units) (map form_of units) }
-    ensures units { (units : List ℕ) → AllByRecursion (λ u. u < 2 ^ 16) units → map unit_of (map form_of units) ≡ units }
 {}

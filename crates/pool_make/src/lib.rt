@@ -8,11 +8,10 @@ mod key;
 mod laws;
 mod maker;
 mod refusal;
-mod units;
 
 pub use laws::{
     entries_are_different, items_are_at_their_indices, items_stay_at_their_indices,
-    made_pools_are_pools, string_texts_have_their_units,
+    made_pools_are_pools,
 };
 pub use maker::PoolMaker;
 pub use refusal::PoolRefusal;

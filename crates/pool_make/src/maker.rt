@@ -10,7 +10,7 @@ ghost use Rattle.pool_make.specs.Indexed.{IsMade};
 
 use crate::key::{Key, constant};
 use crate::refusal::PoolRefusal;
-use crate::units::encoded;
+use class_names::encoded;
 use class_walk::Constant;
 use rows::{Bytes, Rows};
 use std::alloc::{AllocError, Global};

@@ -1,4 +1,4 @@
-use class_walk::{CodeRefusal, RawAttribute, RawCode, RawHandler, code_content};
+use class_walk::{ContentRefusal, RawAttribute, RawCode, RawHandler, code_content};
 use class_write::{read_classes_can_be_written, write_code};
 use std::alloc::Global;
 use std::test::Fail;
@@ -31,8 +31,8 @@ fn answer(alloc: Global, content: &[u8]) -> &'static str {
     match code_content(alloc, content) {
         Ok(code) if is_read(&code) => "read",
         Ok(_) => "read otherwise",
-        Err(CodeRefusal::Malformed) => "malformed",
-        Err(CodeRefusal::NoMemory) => "no memory",
+        Err(ContentRefusal::Malformed) => "malformed",
+        Err(ContentRefusal::NoMemory) => "no memory",
     }
 }
 

@@ -221,3 +221,28 @@ fn a_pool_says_what_its_texts_are_used_as(rt: HostRuntime) -> Result<(), Fail> {
     assert!(rt; pool.text_use(19).is_none());
     Ok(())
 }
+
+/// Each refusal with its number and its place.
+static NUMBERS: [(ReadRefusal, u8, u32); 13] = [
+    (ReadRefusal::Magic, 1, 0),
+    (ReadRefusal::Version, 2, 0),
+    (ReadRefusal::Truncated(1_048_576), 3, 1_048_576),
+    (ReadRefusal::PoolTag(7), 4, 7),
+    (ReadRefusal::PoolIndex(7), 5, 7),
+    (ReadRefusal::BadUtf(65_535), 6, 65_535),
+    (ReadRefusal::BadDescriptor(7), 7, 7),
+    (ReadRefusal::Trailing(7), 8, 7),
+    (ReadRefusal::TooLong, 9, 0),
+    (ReadRefusal::Attribute(7), 10, 7),
+    (ReadRefusal::Flags, 11, 0),
+    (ReadRefusal::Member(7), 12, 7),
+    (ReadRefusal::NoMemory, 13, 0),
+];
+
+#[test]
+fn refusals_have_numbers(rt: HostRuntime) -> Result<(), Fail> {
+    for (refusal, number, place) in &NUMBERS {
+        assert!(rt; refusal.number() == *number && refusal.place() == *place);
+    }
+    Ok(())
+}

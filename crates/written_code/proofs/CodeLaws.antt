@@ -1,5 +1,5 @@
 -- Instructions that are laid out in written code are those that were written.
-use Rattle.std.proofs.Common.{◌≡◌, ℕ, suc, ◌+◌, ◌<◌, ℤ, List, [], ◌∷◌, ◌++◌, length, drop, Option, Some, ◌⊎◌, inl, inr, refl, sym, ap, subst, ◌∙◌, arith, length-append, mod-eq_of_lt}
+use Rattle.std.proofs.Common.{◌≡◌, ℕ, suc, ◌+◌, ◌<◌, ℤ, List, [], ◌∷◌, ◌++◌, length, drop, Option, Some, ◌⊎◌, inl, inr, refl, sym, ap, subst, ◌∙◌, arith, length-append}
 use Rattle.std.proofs.Math.Seq.{drop-length}
 use Rattle.class_walk.specs.declared.class.Constant.{Constant}
 use Rattle.class_walk.specs.Layout.{u1}
@@ -15,6 +15,7 @@ use Rattle.code_write.specs.declared.operands.Operands.TheVariants.{Absent, Byte
 use Rattle.code_write.specs.declared.operands.Written.{Written}
 use Rattle.code_write.specs.Instruction.{operand_bytes, wide_bytes, instruction_bytes}
 use Rattle.code_write.specs.Meaning.{IsMeant, code_bytes, AreMeant}
+use Rattle.code_write.proofs.CodeLaws.{one_byte}
 use Rattle.written_code.specs.Suits.{IsSuited, AreSuited}
 use Rattle.written_code.proofs.OperandLaws.{MeansBefore, operands_same, wide_operands_same}
 
@@ -35,9 +36,6 @@ wide_numbered = refl
 wide_is : (pool : List Constant) (at n : ℕ) (r : Instruction) (what : What ℤ) (text : List ℕ) → n ≡ 196 → row_numbered n ≡ Some r → IsOperands pool at r.form what text → IsOperands pool at forms.Wide what text
 unfolding wide_row
 wide_is pool at n r what text e numbered is = subst (λ (s : Instruction). IsOperands pool at s.form what text) (same_row n 196 r wide_row e numbered wide_numbered) is
-
-one_byte : (n : ℕ) → n < 256 → u1 n ≡ n ∷ []
-one_byte n small = ap (λ (k : ℕ). k ∷ []) (mod-eq_of_lt small)
 
 -- ---- one instruction
 

@@ -1,11 +1,7 @@
 -- Numbers at the front of the same bytes are the same.
-use Rattle.std.proofs.Common.{◌≡◌, ℕ, ◌<◌, ◌^◌, ℤ, pos, negsuc, List, [], ◌∷◌, ◌++◌, length, refl, sym, ap, ◌∙◌, arith, append_assoc, FitsSigned}
-use Rattle.std.specs.Int.{w8, w16, w32, cast_unsigned}
-use Rattle.std.proofs.lemmas.Int.{ints}
+use Rattle.std.proofs.Common.{◌≡◌, ℕ, ◌<◌, ◌^◌, List, [], ◌∷◌, ◌++◌, length, refl, sym, ap, ◌∙◌, arith, append_assoc}
 use Rattle.byteorder.specs.Endian.{big_bytes}
 use Rattle.code_frames.proofs.ByteLaws.{unsigned_once}
-use Rattle.code_steps.specs.Operands.{near_target, far_target}
-use Rattle.code_write.specs.Instruction.{distance, IsFar}
 
 -- ---- bytes
 
@@ -32,23 +28,3 @@ front_same (h ∷ x) (k ∷ y) a b size e =
 pub parted : (text first others rest second more behind : List ℕ) → text ≡ first ++ others → text ++ rest ≡ (second ++ more) ++ behind → first ++ (others ++ rest) ≡ second ++ (more ++ behind)
 parted text first others rest second more behind spelled e =
     sym (append_assoc first others rest) ∙ ap (λ (s : List ℕ). s ++ rest) (sym spelled) ∙ e ∙ append_assoc second more behind
-
--- ---- numbers in two's complement
-
-pub below8 : (z : ℤ) → FitsSigned w8 z → cast_unsigned w8 z < 256 ^ 1
-below8 (pos n) fits = omega (arith, fits.sfits)
-below8 (negsuc n) fits = omega (arith, fits.sfits)
-
-pub below16 : (z : ℤ) → FitsSigned w16 z → cast_unsigned w16 z < 256 ^ 2
-below16 (pos n) fits = omega (arith, fits.sfits)
-below16 (negsuc n) fits = omega (arith, fits.sfits)
-
-pub below32 : (z : ℤ) → FitsSigned w32 z → cast_unsigned w32 z < 256 ^ 4
-below32 (pos n) fits = omega (arith, fits.sfits)
-below32 (negsuc n) fits = omega (arith, fits.sfits)
-
-pub near_back : (at target : ℕ) → FitsSigned w16 (distance at target) → pos target ≡ near_target at (cast_unsigned w16 (distance at target))
-near_back at target fits = omega (arith, ints)
-
-pub far_back : (at target : ℕ) → IsFar at target → pos target ≡ far_target at (cast_unsigned w32 (distance at target))
-far_back at target fits = omega (arith, ints)

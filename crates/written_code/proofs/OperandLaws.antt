@@ -17,7 +17,8 @@ use Rattle.code_write.specs.declared.operands.Operands.TheVariants.{Absent, Byte
 use Rattle.code_write.specs.Instruction.{distance, element_code, operand_bytes, wide_bytes, IsInRange, HasWidths}
 use Rattle.code_write.specs.Meaning.{Means}
 use Rattle.written_code.specs.Suits.{Suits}
-use Rattle.written_code.proofs.NumberLaws.{number_same, text_same, parted, below8, below16, below32, near_back, far_back}
+use Rattle.code_write.proofs.CodeLaws.{below8, below16, below32, near_back, far_back}
+use Rattle.written_code.proofs.NumberLaws.{number_same, text_same, parted}
 use Rattle.written_code.proofs.SwitchLaws.{table_same, lookup_same}
 
 -- ---- one operand, two operands

@@ -13,7 +13,8 @@ use Rattle.code_steps.specs.CodeArray.{with_target}
 use Rattle.code_write.specs.Instruction.{s4, distance, far_bytes, padding_bytes, highest, table_bytes, case_bytes, lookup_bytes, IsFar, IsTableInRange, IsCaseInRange, IsLookupInRange, HasKey}
 use Rattle.code_write.specs.Meaning.{targets_read, cases_read}
 use Rattle.code_write.proofs.SizeLaws.{length_zeros}
-use Rattle.written_code.proofs.NumberLaws.{text_same, number_same, front_same, parted, below32, far_back}
+use Rattle.code_write.proofs.CodeLaws.{below32, far_back}
+use Rattle.written_code.proofs.NumberLaws.{text_same, number_same, front_same, parted}
 
 -- ---- a target, a key, a case
 

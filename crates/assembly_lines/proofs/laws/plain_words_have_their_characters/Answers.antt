@@ -1,5 +1,6 @@
-use Rattle.assembly_lines.proofs.PlainLaws.{text_formed, characters_again}
+use Rattle.class_names.proofs.FormLaws.{encoded_formed, units_again}
+use Rattle.assembly_lines.proofs.WordLaws.{plain_units}
 use Rattle.assembly_lines.proofs.laws.plain_words_have_their_characters.Goals as goal
 
 pub returns : goal.returns
-returns c = record { formed = text_formed; characters = characters_again }
+returns c = record { formed = λ word plain. encoded_formed word (plain_units word plain); characters = λ word plain. units_again word (plain_units word plain) }

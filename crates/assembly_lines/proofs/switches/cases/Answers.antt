@@ -1,5 +1,5 @@
 use Rattle.std.proofs.lemmas.Result.{err_from_is_err_and}
-use Rattle.assembly_lines.proofs.Cases.{empty_is, full_is}
+use Rattle.class_names.proofs.Cases.{empty_is, full_is}
 use Rattle.assembly_lines.proofs.SwitchLaws.{case_shorter, cases_on, cases_fail, cases_done}
 use Rattle.assembly_lines.proofs.switches.cases.Goals as goal
 

@@ -1,6 +1,6 @@
 use Rattle.std.proofs.Common.{◌∙◌, ap, sym, List, ℕ, take, drop, rules}
 use Rattle.assembly_lines.specs.declared.word.Word.TheVariants.{Plain}
-use Rattle.assembly_lines.specs.Words.{text_of}
+use Rattle.class_names.specs.ShortestForms.{encoded}
 use Rattle.assembly_lines.proofs.WordLaws.{plain_found, plain_only}
 use Rattle.assembly_lines.proofs.words.plain_word.Goals as goal
 
@@ -11,6 +11,6 @@ pub returns-clause-only : goal.returns-clause-only
 returns-clause-only c word rest is end =
     let p = plain_only c.args.bytes.now word rest c.requires is end in
     let len = c.plain_len-len.ensures.value ∙ p.len in (
-      ap (λ (t : List ℕ). Plain t) (c.in_ok-text.ensures ∙ ap text_of (c.split_at.ensures.front ∙ (ap (λ (n : ℕ). take n c.args.bytes.now) len ∙ p.front))) ∙ sym p.is,
+      ap (λ (t : List ℕ). Plain t) (c.in_ok-text.ensures ∙ ap encoded (c.split_at.ensures.front ∙ (ap (λ (n : ℕ). take n c.args.bytes.now) len ∙ p.front))) ∙ sym p.is,
       c.split_at.ensures.back ∙ (ap (λ (n : ℕ). drop n c.args.bytes.now) len ∙ p.back),
     )

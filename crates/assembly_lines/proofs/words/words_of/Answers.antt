@@ -1,6 +1,6 @@
 use Rattle.std.proofs.Common.{◌∙◌}
 use Rattle.std.proofs.lemmas.Result.{err_from_is_err_and}
-use Rattle.assembly_lines.proofs.Cases.{empty_is, full_is}
+use Rattle.class_names.proofs.Cases.{empty_is, full_is}
 use Rattle.assembly_lines.proofs.WordLaws.{first_word, words_end, words_more, words_bad}
 use Rattle.assembly_lines.proofs.words.words_of.Goals as goal
 

@@ -1,5 +1,5 @@
 use Rattle.std.proofs.Common.{◌∙◌, ap, drop, List, ℕ}
-use Rattle.assembly_lines.proofs.Cases.{full_is}
+use Rattle.class_names.proofs.Cases.{full_is}
 use Rattle.assembly_text.proofs.CutLaws.{first_line}
 use Rattle.assembly_text.proofs.lines.next_line.Goals as goal
 

@@ -1,9 +1,10 @@
 use Rattle.std.proofs.Common.{◌≡◌, ◌≤◌, Bool, true, false, List, codes, refl, length, slice_get, Some, sym, ◌∙◌, subst, option_copied, take}
 use Rattle.std.proofs.lemmas.Option.{slice_get_read}
 use Rattle.class_walk.specs.declared.class.RawAttribute.{RawAttribute}
+use Rattle.class_pool.specs.declared.refusal.ReadRefusal.{ReadRefusal}
 use Rattle.class_read.specs.AttributeRules.{field_attribute_rules, is_named, named}
-use Rattle.class_read.specs.Rules.{Rules}
-use Rattle.class_read.proofs.RuleLaws.{all_hold}
+use Rattle.rules.specs.Rules.{Rules}
+use Rattle.rules.proofs.RuleLaws.{all_hold}
 use Rattle.class_read.proofs.FindLaws.{find_here, find_passed}
 use Rattle.class_read.proofs.FoundLaws.{rules_once, earlier_is, holds_below, found_all}
 use Rattle.class_read.proofs.attributes.constant_value.Goals as goal
@@ -15,7 +16,7 @@ loop-attribute-preserved c =
     let attributes = c.args.field.now.attributes in
     let i = c.loop-attribute.attribute-index in
     let a = c.attribute-item.result in
-    let rules : Bool → RawAttribute → Rules = λ b a. field_attribute_rules c.args.pool.now c.args.field.now b a in
+    let rules : Bool → RawAttribute → Rules ReadRefusal = λ b a. field_attribute_rules c.args.pool.now c.args.field.now b a in
     let test : RawAttribute → Bool = is_named pool (codes "ConstantValue") in
     let slice = c.as_slice-attribute-items.result.now in
     let P : List RawAttribute → Type 0 = λ xs. slice_get xs i ≡ Some a in
@@ -37,7 +38,7 @@ returns c =
     let pool = c.args.pool.now in
     let attributes = c.args.field.now.attributes in
     let i = c.loop-attribute.attribute-index in
-    let rules : Bool → RawAttribute → Rules = λ b a. field_attribute_rules c.args.pool.now c.args.field.now b a in
+    let rules : Bool → RawAttribute → Rules ReadRefusal = λ b a. field_attribute_rules c.args.pool.now c.args.field.now b a in
     let test : RawAttribute → Bool = is_named pool (codes "ConstantValue") in
     let P : List RawAttribute → Type 0 = λ xs. length xs ≤ i in
     let past : length attributes ≤ i = subst P c.as_slice-attribute-items.ensures c.loop-attribute-test.false in

@@ -1,6 +1,6 @@
 use Rattle.std.proofs.Common.{◌≡◌, take, codes, option_copied}
 use Rattle.class_read.specs.AttributeRules.{field_attribute_rules, is_earlier, named}
-use Rattle.class_read.specs.Rules.{HoldBelow}
+use Rattle.rules.specs.Rules.{HoldBelow}
 use Rattle.class_read.proofs.attributes.constant_value.Given as goal
 
 abbrev pub invariant-loop-attribute : goal.invariant-loop-attribute

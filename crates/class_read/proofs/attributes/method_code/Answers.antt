@@ -3,9 +3,10 @@ use Rattle.std.specs.Option.{option_and_then}
 use Rattle.std.proofs.lemmas.Option.{slice_get_read}
 use Rattle.std.proofs.lemmas.Result.{err_from_is_err_and}
 use Rattle.class_walk.specs.declared.class.RawAttribute.{RawAttribute}
+use Rattle.class_pool.specs.declared.refusal.ReadRefusal.{ReadRefusal}
 use Rattle.class_read.specs.AttributeRules.{method_attribute_rules, is_named, code_in}
-use Rattle.class_read.specs.Rules.{Rules}
-use Rattle.class_read.proofs.RuleLaws.{all_hold}
+use Rattle.rules.specs.Rules.{Rules}
+use Rattle.rules.proofs.RuleLaws.{all_hold}
 use Rattle.class_read.proofs.FindLaws.{find_here, find_passed}
 use Rattle.class_read.proofs.FoundLaws.{rules_once, holds_below, refuses_once, code_all, some_all}
 use Rattle.class_read.proofs.attributes.method_code.Goals as goal
@@ -17,7 +18,7 @@ returns-in_err-next c =
     let attributes = c.args.method.now.attributes in
     let i = c.loop-attribute.attribute-index in
     let a = c.attribute-item.result in
-    let rules : Bool → RawAttribute → Rules = λ b a. method_attribute_rules pool b a in
+    let rules : Bool → RawAttribute → Rules ReadRefusal = λ b a. method_attribute_rules pool b a in
     let test : RawAttribute → Bool = is_named pool (codes "Code") in
     let slice = c.as_slice-attribute-items.result.now in
     let P : List RawAttribute → Type 0 = λ xs. slice_get xs i ≡ Some a in
@@ -32,7 +33,7 @@ loop-attribute-preserved c =
     let attributes = c.args.method.now.attributes in
     let i = c.loop-attribute.attribute-index in
     let a = c.attribute-item.result in
-    let rules : Bool → RawAttribute → Rules = λ b a. method_attribute_rules pool b a in
+    let rules : Bool → RawAttribute → Rules ReadRefusal = λ b a. method_attribute_rules pool b a in
     let test : RawAttribute → Bool = is_named pool (codes "Code") in
     let slice = c.as_slice-attribute-items.result.now in
     let P : List RawAttribute → Type 0 = λ xs. slice_get xs i ≡ Some a in
@@ -64,7 +65,7 @@ returns c =
     let pool = c.args.pool.now in
     let attributes = c.args.method.now.attributes in
     let i = c.loop-attribute.attribute-index in
-    let rules : Bool → RawAttribute → Rules = λ b a. method_attribute_rules pool b a in
+    let rules : Bool → RawAttribute → Rules ReadRefusal = λ b a. method_attribute_rules pool b a in
     let test : RawAttribute → Bool = is_named pool (codes "Code") in
     let P : List RawAttribute → Type 0 = λ xs. length xs ≤ i in
     let past : length attributes ≤ i = subst P c.as_slice-attribute-items.ensures c.loop-attribute-test.false in

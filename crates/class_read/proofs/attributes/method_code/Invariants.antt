@@ -1,7 +1,7 @@
 use Rattle.std.proofs.Common.{◌≡◌, take, codes, is_some}
 use Rattle.std.specs.Option.{option_and_then}
 use Rattle.class_read.specs.AttributeRules.{method_attribute_rules, is_earlier, named, code_in}
-use Rattle.class_read.specs.Rules.{HoldBelow}
+use Rattle.rules.specs.Rules.{HoldBelow}
 use Rattle.class_read.proofs.attributes.method_code.Given as goal
 
 abbrev pub invariant-loop-attribute : goal.invariant-loop-attribute

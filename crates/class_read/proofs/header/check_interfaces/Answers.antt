@@ -1,7 +1,7 @@
 use Rattle.std.proofs.Common.{◌≡◌, ◌≤◌, ℕ, List, Some, length, get_or, slice_get, subst}
 use Rattle.std.proofs.lemmas.Option.{slice_get-get_or}
 use Rattle.class_read.specs.ClassRules.{interface_rules}
-use Rattle.class_read.proofs.RuleLaws.{one_more, all_hold}
+use Rattle.rules.proofs.RuleLaws.{one_more, all_hold}
 use Rattle.class_read.proofs.header.check_interfaces.Goals as goal
 
 pub loop-index-preserved : goal.loop-index-preserved

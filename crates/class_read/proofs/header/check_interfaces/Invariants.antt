@@ -1,5 +1,5 @@
 use Rattle.class_read.specs.ClassRules.{interface_rules}
-use Rattle.class_read.specs.Rules.{HoldBelow}
+use Rattle.rules.specs.Rules.{HoldBelow}
 use Rattle.class_read.proofs.header.check_interfaces.Given as goal
 
 abbrev pub invariant-loop-index : goal.invariant-loop-index

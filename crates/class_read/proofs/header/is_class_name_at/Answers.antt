@@ -1,4 +1,4 @@
-use Rattle.class_read.proofs.TextUseLaws.{of_same}
+use Rattle.class_pool.proofs.UseLaws.{of_same}
 use Rattle.class_read.proofs.header.is_class_name_at.Goals as goal
 
 pub returns-in-Some : goal.returns-in-Some

@@ -1,4 +1,4 @@
-use Rattle.class_read.specs.PoolRules.{IsFieldType}
+use Rattle.class_pool.specs.PoolRules.{IsFieldType}
 use Rattle.class_read.proofs.TextUseLaws.{right_text, wrong_text, is_so, not_so}
 use Rattle.class_read.proofs.members.check_field_type.Goals as goal
 

@@ -1,6 +1,6 @@
 use Rattle.std.proofs.Common.{◌≡◌, take, map}
 use Rattle.class_read.specs.MemberRules.{field_rules, field_of}
-use Rattle.class_read.specs.Rules.{HoldBelow}
+use Rattle.rules.specs.Rules.{HoldBelow}
 use Rattle.class_read.proofs.members.fields.Given as goal
 
 abbrev pub invariant-loop-index : goal.invariant-loop-index

@@ -3,10 +3,11 @@ use Rattle.std.proofs.lemmas.List.{take_all}
 use Rattle.std.proofs.lemmas.Option.{slice_get_read}
 use Rattle.std.proofs.lemmas.Result.{err_from_is_err_and}
 use Rattle.class_walk.specs.declared.class.RawMember.{RawMember}
+use Rattle.class_pool.specs.declared.refusal.ReadRefusal.{ReadRefusal}
 use Rattle.class_read.specs.MemberRules.{lone_method_rules, method_of}
-use Rattle.class_read.specs.Rules.{Rules}
+use Rattle.rules.specs.Rules.{Rules}
 use Rattle.class_read.proofs.MemberLaws.{with_new, refuses_lone, refuses_repeat, one_more_new, mapped_more}
-use Rattle.class_read.proofs.RuleLaws.{all_hold}
+use Rattle.rules.proofs.RuleLaws.{all_hold}
 use Rattle.class_read.proofs.members.methods.Goals as goal
 
 pub returns-in_err-method : goal.returns-in_err-method
@@ -15,7 +16,7 @@ returns-in_err-method c =
     let i = c.loop-index.index in
     let m = c.index-members-index.result in
     let at = slice_get_read members (length members) i m refl c.loop-index-test.true c.index-members-index.is in
-    let lone : RawMember → Rules = λ x. lone_method_rules c.args.pool.now x in
+    let lone : RawMember → Rules ReadRefusal = λ x. lone_method_rules c.args.pool.now x in
     let p = err_from_is_err_and c.from_residual.result c.from_residual.ensures.1 in
     rw (p.1, p.2) (refuses_lone c.args.pool.now members lone i m c.in_err-method.field-0.0 at c.loop-index.invariant.below c.in_err-method.ensures)
 
@@ -25,7 +26,7 @@ returns-then-eq c =
     let i = c.loop-index.index in
     let m = c.index-members-index.result in
     let at = slice_get_read members (length members) i m refl c.loop-index-test.true c.index-members-index.is in
-    let lone : RawMember → Rules = λ x. lone_method_rules c.args.pool.now x in
+    let lone : RawMember → Rules ReadRefusal = λ x. lone_method_rules c.args.pool.now x in
     refuses_repeat c.args.pool.now members lone c.args.repeat i m c.requires.repeat (sym c.eq.ensures ∙ c.if-eq.true) at c.loop-index.invariant.below c.in_ok-method.ensures.0
 
 pub loop-index-preserved : goal.loop-index-preserved
@@ -34,7 +35,7 @@ loop-index-preserved c =
     let i = c.loop-index.index in
     let m = c.index-members-index.result in
     let at = slice_get_read members (length members) i m refl c.loop-index-test.true c.index-members-index.is in
-    let lone : RawMember → Rules = λ x. lone_method_rules c.args.pool.now x in
+    let lone : RawMember → Rules ReadRefusal = λ x. lone_method_rules c.args.pool.now x in
     record {
       below = one_more_new c.args.pool.now members lone c.args.repeat i m c.requires.repeat (sym c.eq.ensures ∙ c.if-eq.false) at c.loop-index.invariant.below c.in_ok-method.ensures.0;
       methods = rw c.in_ok-push.ensures.ok (mapped_more (method_of c.args.pool.now) members i m c.in_ok-method.method c.loop-index.methods at c.in_ok-method.ensures.1 c.loop-index.invariant.methods);
@@ -43,5 +44,5 @@ loop-index-preserved c =
 pub returns : goal.returns
 returns c =
     let members = c.args.members.now in
-    let lone : RawMember → Rules = λ x. lone_method_rules c.args.pool.now x in
+    let lone : RawMember → Rules ReadRefusal = λ x. lone_method_rules c.args.pool.now x in
     (all_hold (with_new c.args.pool.now members lone) members c.loop-index.index c.loop-index-test.false c.loop-index.invariant.below, c.loop-index.invariant.methods ∙ ap (λ (ms : List RawMember). map (method_of c.args.pool.now) ms) (take_all c.loop-index.index members c.loop-index-test.false))

@@ -2,8 +2,8 @@ use Rattle.std.proofs.Common.{inl, inr}
 use Rattle.std.proofs.lemmas.Result.{err_from_is_err_and}
 use Rattle.class_read.specs.ClassFile.{AreMembersOf}
 use Rattle.class_read.specs.ClassRules.{member_rules, header_rules}
-use Rattle.class_read.specs.PoolRules.{pool_rules}
-use Rattle.class_read.proofs.RuleLaws.{gives_behind}
+use Rattle.class_pool.specs.PoolRules.{pool_rules}
+use Rattle.class_pool.proofs.RuleLaws.{gives_behind}
 use Rattle.class_read.proofs.read.checked_members.Goals as goal
 
 pub returns-in_err-check_header : goal.returns-in_err-check_header

@@ -1,8 +1,8 @@
 use Rattle.std.proofs.Common.{codes, rules}
 use Rattle.class_walk.specs.declared.class.RawAttribute.{RawAttribute}
-use Rattle.class_read.specs.Pool.{IsUtf8At}
-use Rattle.class_read.proofs.Lists.{all_at}
-use Rattle.class_read.proofs.PoolLaws.{is_text-Decides}
+use Rattle.class_pool.specs.Pool.{IsUtf8At}
+use Rattle.class_pool.proofs.Lists.{all_at}
+use Rattle.class_pool.proofs.PoolLaws.{is_text-Decides}
 use Rattle.class_read.proofs.reading.has_no_maps.Goals as goal
 
 pub returns-then-is_utf8_at : goal.returns-then-is_utf8_at

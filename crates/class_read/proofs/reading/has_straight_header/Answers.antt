@@ -1,9 +1,9 @@
 use Rattle.std.proofs.Common.{◌≡◌, List, true, sym, subst, codes, rules}
 use Rattle.std.specs.List.{AllByRecursion}
 use Rattle.class_walk.specs.declared.class.Constant.{Constant}
-use Rattle.class_read.specs.Pool.{IsClassAt}
+use Rattle.class_pool.specs.Pool.{IsClassAt}
 use Rattle.class_read.specs.StraightClass.{IsStraightConstant}
-use Rattle.class_read.proofs.PoolLaws.{class_found, none_of}
+use Rattle.class_pool.proofs.PoolLaws.{class_found, none_of}
 use Rattle.class_read.proofs.reading.has_straight_header.Goals as goal
 
 pub returns : goal.returns

@@ -1,6 +1,6 @@
 use Rattle.std.proofs.Common.{List, sym, ◌∙◌, subst}
 use Rattle.class_walk.specs.declared.class.Constant.{Constant}
-use Rattle.class_read.specs.Pool.{IsClassAt}
+use Rattle.class_pool.specs.Pool.{IsClassAt}
 use Rattle.class_read.specs.StraightClass.{IsStraightMain}
 use Rattle.class_read.proofs.StraightLaws.{IsClassAt-one, refused_too, main_of}
 use Rattle.class_read.proofs.reading.straight_class.Goals as goal

@@ -3,7 +3,7 @@ use Rattle.std.proofs.lemmas.List.Sums.{fold_more}
 use Rattle.class_read.specs.declared.scan.Scan.{Scan}
 use Rattle.class_read.specs.declared.scan.Scan.TheVariants.{Between}
 use Rattle.class_read.specs.Scan.{step, depth_of}
-use Rattle.class_read.specs.PoolTest.{has_field, has_method}
+use Rattle.class_pool.specs.PoolTest.{has_field, has_method}
 use Rattle.class_read.specs.StraightClass.{system_out, println_int}
 use Rattle.class_read.proofs.ScanLaws.{depth_of-step}
 use Rattle.class_read.proofs.scan.scanned.Goals as goal

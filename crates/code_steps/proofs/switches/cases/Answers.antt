@@ -1,6 +1,7 @@
 use Rattle.std.proofs.lemmas.Result.{err_from_is_err_and}
 use Rattle.code_steps.specs.Reading.{case_at}
-use Rattle.code_steps.proofs.Loop.{goes_on, ends, fails, is_done}
+use Rattle.class_walk.proofs.Loop.{goes_on, is_done}
+use Rattle.code_steps.proofs.Loop.{ends, fails}
 use Rattle.code_steps.proofs.switches.cases.Goals as goal
 
 pub returns-in_err-case : goal.returns-in_err-case

@@ -3,7 +3,8 @@ use Rattle.std.proofs.lemmas.Int.{to_z-of_z}
 use Rattle.std.specs.Prelude.{FitsSigned}
 use Rattle.std.proofs.lemmas.Result.{err_from_is_err_and}
 use Rattle.code_steps.specs.Reading.{target_at}
-use Rattle.code_steps.proofs.Loop.{goes_on, ends, fails, is_done}
+use Rattle.class_walk.proofs.Loop.{goes_on, is_done}
+use Rattle.code_steps.proofs.Loop.{ends, fails}
 use Rattle.code_steps.proofs.switches.targets.Goals as goal
 
 pub returns-in_err-target : goal.returns-in_err-target

@@ -1,6 +1,7 @@
 use Rattle.std.proofs.Common.{◌≡◌, ◌-◌}
-use Rattle.code_steps.specs.Reading.{items_at, target_at}
-use Rattle.code_steps.proofs.Loop.{with_front}
+use Rattle.class_walk.specs.Reading.{items_at}
+use Rattle.code_steps.specs.Reading.{target_at}
+use Rattle.class_walk.proofs.Loop.{with_front}
 use Rattle.code_steps.proofs.switches.targets.Given as goal
 
 abbrev pub invariant-loop : goal.invariant-loop

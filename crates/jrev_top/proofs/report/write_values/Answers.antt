@@ -1,5 +1,6 @@
 use Rattle.std.proofs.Common.{◌∙◌, pos, rules}
-use Rattle.jrev_top.proofs.Streams.{OnErr-any, GainsPart-begun, GainsPart-more}
+use Rattle.jr_ports.proofs.Gained.{OnErr-any}
+use Rattle.jrev_top.proofs.Streams.{GainsPart-begun, GainsPart-more}
 use Rattle.jrev_top.proofs.report.write_values.Goals as goal
 
 pub returns-in_err-line-clause-err : goal.returns-in_err-line-clause-err

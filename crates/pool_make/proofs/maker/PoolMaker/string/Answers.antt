@@ -1,6 +1,6 @@
 use Rattle.std.proofs.Common.{ℕ, List, Ok, Err, refl, ◌∙◌, subst}
 use Rattle.class_walk.specs.declared.class.Constant.TheVariants.{Utf8, Str}
-use Rattle.pool_make.specs.ShortestForms.{encoded}
+use Rattle.class_names.specs.ShortestForms.{encoded}
 use Rattle.pool_make.specs.Uses.{entry, string_entry, Makes}
 use Rattle.pool_make.proofs.UseLaws.{entry_kept, makes_then, makes_stopped}
 use Rattle.pool_make.proofs.maker.PoolMaker.string.Goals as goal

@@ -1,5 +1,0 @@
-use Rattle.class_read.proofs.PoolMarkLaws.{AreMarksBelow}
-use Rattle.class_read.proofs.pool.all_marks.Given as goal
-
-abbrev pub invariant-loop-constant : goal.invariant-loop-constant
-invariant-loop-constant l = AreMarksBelow l.pool l.role l.constant-index l.marks.items

@@ -1,6 +1,0 @@
-use Rattle.class_read.specs.PoolRules.{entry_rules}
-use Rattle.class_read.specs.Rules.{HoldBelow}
-use Rattle.class_read.proofs.pool.check_entries.Given as goal
-
-abbrev pub invariant-loop-index : goal.invariant-loop-index
-invariant-loop-index l = HoldBelow (entry_rules l.pool) l.pool l.index

@@ -1,5 +1,0 @@
-use Rattle.class_read.proofs.TextUseLaws.{AreUsesTo}
-use Rattle.class_read.proofs.text_uses.all_uses.Given as goal
-
-abbrev pub invariant-loop-constant : goal.invariant-loop-constant
-invariant-loop-constant l = AreUsesTo l.pool l.constant-index l.uses.items
