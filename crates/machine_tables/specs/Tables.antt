@@ -1,7 +1,10 @@
 -- What the machine's tables mean, as functions of references, class numbers and thread numbers.
-use Rattle.std.specs.Prelude.{Bool, true, false, ◌≤◌, IsNone, ℕ, ◌&&◌, Option, None, Some, nat_eq, nat_lt, length, slice_get, unwrap_or, if◌then◌else◌}
+use Rattle.std.specs.Prelude.{◌≡◌, ◌+◌, Bool, true, false, ◌≤◌, IsNone, ℕ, ◌&&◌, Option, None, Some, List, nat_eq, nat_lt, length, slice_get, unwrap_or, if◌then◌else◌}
 use Rattle.std.specs.Option.{option_map}
 use Rattle.std.specs.HashMap.{get}
+use Rattle.op_core.specs.declared.Reply.{Reply}
+use Rattle.op_core.specs.ThreadCode.{Code, quiet_steps}
+use Rattle.op_core.specs.Replies.{FitsNext}
 use Rattle.op_core.specs.OrdinaryState.{Object, Monitor, free, held, Waiting, awake, waits, notified, ClassState, unready, claimed, ready, bad, Thread, unused, live, ended}
 use Rattle.machine_tables.specs.declared.objects.MonitorState.{MonitorState}
 use Rattle.machine_tables.specs.declared.objects.MonitorState.TheVariants.{Free, Held}
@@ -71,8 +74,62 @@ waiting_of (Waits r count) = waits r count
 waiting_of (Notified r count) = notified r count
 
 -- the thread of a number, which is from 1 to 255
+abbrev pub seat_in : {C : Type 0} → List (Option (Seat C)) → ℕ → Option (Seat C)
+seat_in seats t = if nat_lt 0 t && nat_lt t 256 then unwrap_or (slice_get seats t) None else None
+
 abbrev pub seat_at : {C : Type 0} → Threads C → ℕ → Option (Seat C)
-seat_at threads t = if nat_lt 0 t && nat_lt t 256 then get nat_eq threads.table t else None
+seat_at threads t = seat_in threads.seats.items t
+
+-- a seat whose thread waits for something else, or stands elsewhere
+abbrev pub waiting_at : {C : Type 0} → WaitState → Option (Seat C) → Option (Seat C)
+waiting_at waiting None = None
+waiting_at waiting (Some x) = Some (record x { waiting = waiting })
+
+abbrev pub standing_at : {C : Type 0} → Standing C → ℕ → Option (Seat C) → Option (Seat C)
+standing_at standing silent None = None
+standing_at standing silent (Some x) = Some (record x { standing = standing; silent = silent })
+
+abbrev pub placed_at : {C : Type 0} → Standing C → Option (Seat C) → Option (Seat C)
+placed_at standing None = None
+placed_at standing (Some x) = Some (record x { standing = standing })
+
+-- a thread makes n silent steps where it stands; one that has ended makes none
+abbrev pub StandingRuns : {C S : Type 0} → Code S → (C → S) → ℕ → Standing C → Standing C → Type 0
+StandingRuns code state n (Live from) (Live behind) = quiet_steps code n (state from) ≡ Some (state behind)
+StandingRuns code state n (Ended x) (Ended y) = (n ≡ 0) × (y ≡ x)
+StandingRuns _ _ _ _ _ = ⊥
+
+pub record RunsOn {C S : Type 0} (code : Code S) (state : C → S) (n : ℕ) (x y : Seat C) : Type 0 where
+  pub standing : StandingRuns code state n x.standing y.standing
+  pub silent : y.silent ≡ x.silent + n
+  pub waiting : y.waiting ≡ x.waiting
+
+abbrev pub SeatRuns : {C S : Type 0} → Code S → (C → S) → ℕ → Option (Seat C) → Option (Seat C) → Type 0
+SeatRuns code state n (Some x) (Some y) = RunsOn code state n x y
+SeatRuns code state n None None = n ≡ 0
+SeatRuns _ _ _ _ _ = ⊥
+
+-- a thread wants an operation that the reply fits, and goes on with it
+abbrev pub StandingAwaits : {C S : Type 0} → Code S → (C → S) → Standing C → Reply → Type 0
+StandingAwaits code state (Live from) reply = FitsNext (code.next (state from)) reply
+StandingAwaits code state (Ended x) reply = ⊥
+
+abbrev pub AwaitsReply : {C S : Type 0} → Code S → (C → S) → Option (Seat C) → Reply → Type 0
+AwaitsReply code state None reply = ⊥
+AwaitsReply code state (Some x) reply = StandingAwaits code state x.standing reply
+
+abbrev pub StandingReplies : {C S : Type 0} → Code S → (C → S) → Reply → Standing C → Standing C → Type 0
+StandingReplies code state reply (Live from) (Live behind) = state behind ≡ code.reply (state from) reply
+StandingReplies _ _ _ _ _ = ⊥
+
+pub record GoesOn {C S : Type 0} (code : Code S) (state : C → S) (reply : Reply) (x y : Seat C) : Type 0 where
+  pub standing : StandingReplies code state reply x.standing y.standing
+  pub silent : y.silent ≡ 0
+  pub waiting : y.waiting ≡ x.waiting
+
+abbrev pub SeatReplies : {C S : Type 0} → Code S → (C → S) → Reply → Option (Seat C) → Option (Seat C) → Type 0
+SeatReplies code state reply (Some x) (Some y) = GoesOn code state reply x y
+SeatReplies _ _ _ _ _ = ⊥
 
 abbrev pub is_end : {C : Type 0} → Standing C → Bool
 is_end (Live code) = false

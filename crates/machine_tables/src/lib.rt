@@ -1,7 +1,8 @@
 //! The tables that an ordinary machine is kept in: objects with their monitors by reference, classes by
 //! number, and the threads that have begun by number.
 //!
-//! No call here makes a step: a table is asked, or changed at one number. What each table means is a
+//! No call here makes the step of an operation: a table is asked, or changed at one number, and a thread's
+//! code is run and answered where it stands. What each table means is a
 //! function, in `specs/Tables.antt`: [`Objects`] is the object of each reference, [`Classes`] how far each
 //! class's initialization is, [`Threads`] where each thread stands and what it waits for. Their parts are
 //! those of an ordinary state of `op_core`.
@@ -9,6 +10,7 @@
 
 mod classes;
 mod objects;
+mod places;
 mod threads;
 mod words;
 

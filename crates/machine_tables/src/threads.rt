@@ -1,12 +1,12 @@
-ghost use Rattle.std.specs.Prelude.{ℕ, ◌≡◌, ◌<◌, OnOk, OnErr, Some, None, ◌↔◌, ◌≤◌, IsTrue, MatchOption};
-ghost use Rattle.std.specs.Option.{option_copied};
+ghost use Rattle.std.specs.Prelude.{ℕ, ◌≡◌, ◌<◌, OnOk, OnErr, Some, None, IsSome, IsNone, ◌↔◌, ◌≤◌, IsTrue, MatchOption, ◌+◌, length, vec_len};
+ghost use Rattle.std.specs.Option.{option_copied, option_map};
 ghost use Rattle.op_core.specs.OrdinaryState.{set_at, IsNotifiedFor, IsWaitingFor, saved_count, notified_of};
-ghost use Rattle.machine_tables.specs.Tables.{seat_at, waiting_of, waiting_in, has_ended, IsFreeSeat};
+ghost use Rattle.machine_tables.specs.Tables.{seat_at, SeatRuns, AwaitsReply, SeatReplies, waiting_of, waiting_in, has_ended, IsFreeSeat};
 ghost use Rattle.op_core.specs.OrdinaryStep.{IsFirstWaiting};
 
-use op_core::NoMemory;
+use crate::places::{replace_at, reply_at, run_at, stand_at, wait_at};
+use op_core::{NoMemory, Reply, ThreadCode};
 use std::alloc::Global;
-use std::collections::HashMap;
 
 /// Where a thread that has begun stands.
 #[derive(Drop)]
@@ -86,7 +86,7 @@ pub struct Seat<C> {
 /// thread has begun with it (`seat_at`).
 #[derive(Drop)]
 pub struct Threads<C> {
-    table: HashMap<u8, Seat<C>>,
+    seats: Vec<Option<Seat<C>>>,
 }
 
 impl<C: Drop> Threads<C> {
@@ -95,7 +95,7 @@ impl<C: Drop> Threads<C> {
         ensures { seat_at result ≡ (λ _. None) }
     {
         Threads {
-            table: HashMap::new(alloc),
+            seats: Vec::new(alloc),
         }
     }
 
@@ -106,7 +106,10 @@ impl<C: Drop> Threads<C> {
         if thread == 0 {
             return None;
         }
-        self.table.get(&thread)
+        match self.seats.get(thread as usize) {
+            Some(Some(seat)) => Some(seat),
+            _ => None,
+        }
     }
 
     /// What a thread waits for. One that has not begun waits for nothing.
@@ -139,6 +142,21 @@ impl<C: Drop> Threads<C> {
         }
     }
 
+    /// The highest number with which a thread has begun, or 0 where none has.
+    pub fn highest(&self) -> u8
+        ensures above { (k : ℕ) → result < k → IsNone (seat_at self.now k) }
+        ensures begun { 0 < result → IsSome (seat_at self.now result) }
+    {
+        let end = self.seats.len().min(256);
+        for above in 0..end {
+            let number = (end - 1 - above) as u8;
+            if self.get(number).is_some() {
+                return number;
+            }
+        }
+        0
+    }
+
     /// Whether a new thread can have the number: it is above 1, and no thread has begun with it.
     pub fn is_free_number(&self, number: u8) -> bool
         ensures { IsTrue result ↔ IsFreeSeat (seat_at self.now) number }
@@ -164,7 +182,7 @@ impl<C: Drop> Threads<C> {
     pub fn first_waiting(&self, reference: u32) -> u8
         ensures { IsFirstWaiting reference result (waiting_in (seat_at self.now)) }
     {
-        for number in 0..256u16 {
+        for number in 0..self.highest() as u16 + 1 {
             let thread = number as u8;
             if self.waiting(thread).is_waiting_for(reference) {
                 return thread;
@@ -187,9 +205,43 @@ impl<C: Drop> Threads<C> {
         ensures ok { OnOk result (seat_at self.new ≡ set_at (seat_at self.old) thread (Some seat)) }
         ensures err { OnErr result (seat_at self.new ≡ seat_at self.old) }
     {
-        match self.table.insert(thread, seat) {
-            Ok(_) => Ok(()),
+        self.grow(thread)?;
+        let place = thread as usize;
+        self.seats[place] = Some(seat);
+        Ok(())
+    }
+
+    // Makes a place for a thread of this number, and for those below it.
+    fn grow(&mut self, thread: u8) -> Result<(), NoMemory>
+        ensures seats { seat_at self.new ≡ seat_at self.old }
+        ensures place { OnOk result (thread < length self.new.seats.items) }
+    {
+        for _ in self.seats.len()..thread as usize + 1 {
+            self.add_place()?;
+        }
+        Ok(())
+    }
+
+    // Makes one place more.
+    fn add_place(&mut self) -> Result<(), NoMemory>
+        ensures seats { seat_at self.new ≡ seat_at self.old }
+        ensures place { OnOk result (vec_len self.new.seats ≡ vec_len self.old.seats + 1) }
+    {
+        match self.seats.push(None) {
+            Ok(()) => Ok(()),
             Err(_) => Err(NoMemory),
+        }
+    }
+
+    // The place of a thread in the table, where the table has one.
+    fn place_of(&self, thread: u8) -> Option<usize>
+        ensures { MatchOption result (seat_at self.now thread ≡ None) (λ place. (place ≡ thread) × (0 < thread) × (thread < length self.now.seats.items)) }
+    {
+        let place = thread as usize;
+        if thread > 0 && place < self.seats.len() {
+            Some(place)
+        } else {
+            None
         }
     }
 
@@ -198,8 +250,8 @@ impl<C: Drop> Threads<C> {
         ensures there { (x : _) → seat_at self.old thread ≡ Some x → seat_at self.new ≡ set_at (seat_at self.old) thread (Some (record x { waiting = waiting })) }
         ensures absent { seat_at self.old thread ≡ None → seat_at self.new ≡ seat_at self.old }
     {
-        if let Some(seat) = self.table.get_mut(&thread) {
-            seat.waiting = waiting;
+        if let Some(place) = self.place_of(thread) {
+            wait_at(&mut self.seats[place], waiting);
         }
     }
 
@@ -209,9 +261,49 @@ impl<C: Drop> Threads<C> {
         ensures there { (x : _) → seat_at self.old thread ≡ Some x → seat_at self.new ≡ set_at (seat_at self.old) thread (Some (record x { standing = standing; silent = silent })) }
         ensures absent { seat_at self.old thread ≡ None → seat_at self.new ≡ seat_at self.old }
     {
-        if let Some(seat) = self.table.get_mut(&thread) {
-            seat.standing = standing;
-            seat.silent = silent;
+        if let Some(place) = self.place_of(thread) {
+            stand_at(&mut self.seats[place], standing, silent);
+        }
+    }
+
+    /// Lets a thread stand elsewhere, with the silent steps that it has made, and gives where it stood; `None`
+    /// where it has not begun, and then nothing changes.
+    pub fn replace_standing(&mut self, thread: u8, standing: Standing<C>) -> Option<Standing<C>>
+        ensures result { result ≡ option_map (λ x. x.standing) (seat_at self.old thread) }
+        ensures there { (x : _) → seat_at self.old thread ≡ Some x → seat_at self.new ≡ set_at (seat_at self.old) thread (Some (record x { standing = standing })) }
+        ensures absent { seat_at self.old thread ≡ None → seat_at self.new ≡ seat_at self.old }
+    {
+        match self.place_of(thread) {
+            Some(place) => replace_at(&mut self.seats[place], standing),
+            None => None,
+        }
+    }
+}
+
+impl<C: ThreadCode + Drop> Threads<C> {
+    /// Makes silent steps of a thread where it stands, at most so many, and answers how many: none where it
+    /// has not begun or has ended. None of them ends a frame that was on top at a save, and the count of its
+    /// silent steps has room for them.
+    pub fn run_silent(&mut self, thread: u8, most: u64) -> u64
+        ensures runs { SeatRuns C.code C.state result (seat_at self.old thread) (seat_at self.new thread) }
+        ensures others { seat_at self.new ≡ set_at (seat_at self.old) thread (seat_at self.new thread) }
+        ensures most { result ≤ most }
+    {
+        match self.place_of(thread) {
+            Some(place) => run_at(&mut self.seats[place], most),
+            None => 0,
+        }
+    }
+
+    /// Goes on with the reply to the operation that a thread wants, where it stands. It has then made no silent
+    /// step since its last event. Takes no memory.
+    pub fn reply(&mut self, thread: u8, reply: Reply)
+        requires { AwaitsReply C.code C.state (seat_at self.old thread) reply }
+        ensures replies { SeatReplies C.code C.state reply (seat_at self.old thread) (seat_at self.new thread) }
+        ensures others { seat_at self.new ≡ set_at (seat_at self.old) thread (seat_at self.new thread) }
+    {
+        if let Some(place) = self.place_of(thread) {
+            reply_at(&mut self.seats[place], reply);
         }
     }
 }

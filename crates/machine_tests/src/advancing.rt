@@ -1,5 +1,5 @@
-use crate::setting::{ample, objects};
-use op_core::{Limit, Limits, Line, NoMemory, Op, Reply, Script, ScriptStep, ThreadCode};
+use crate::setting::{machine, opening};
+use op_core::{Limit, Limits, Line, NoMemory, Op, Reply, ScriptStep, ThreadCode};
 use ordinary_machine::{Advance, Ordinary};
 use std::test::Fail;
 
@@ -31,6 +31,7 @@ fn shown(reply: Reply) -> (&'static str, u32, u32) {
         Reply::Ready => ("ready", 0, 0),
         Reply::Bad => ("bad", 0, 0),
         Reply::Claimed => ("claimed", 0, 0),
+        Reply::Already => ("already", 0, 0),
         _ => ("other", 0, 0),
     }
 }
@@ -78,9 +79,8 @@ const SMALL_HEAP: Limits = Limits {
 
 #[test]
 fn objects_and_classes_are_answered_from_the_start_on(rt: HostRuntime) -> Result<(), Fail> {
-    let objects = objects(rt.alloc(), &[9])?;
-    let code = Script::new(rt.alloc(), &WANTED);
-    let mut machine = ample(Ordinary::start(rt.alloc(), &objects, &[4], 20, code))?;
+    let opening = opening(rt.alloc(), &[9], &[4], 20)?;
+    let mut machine = machine(rt.alloc(), &opening, &WANTED)?;
     for reply in REPLIES {
         let answer = turn(&mut machine, 1, &SMALL_HEAP).ok().flatten();
         assert!(rt; reply_of(answer) == reply);
@@ -141,7 +141,10 @@ fn goes_along<C: ThreadCode + Drop>(
         Some(Advance::Step(event)) => other.step(&event).is_ok(),
         _ => true,
     };
-    let rests = matches!(answer, None | Some(Advance::Waits | Advance::Ended));
+    let rests = matches!(
+        answer,
+        None | Some(Advance::Waits | Advance::Halts | Advance::Ended)
+    );
     Ok(is_accepted && is_enabled != rests && is_alike(machine, other))
 }
 
@@ -149,11 +152,9 @@ fn goes_along<C: ThreadCode + Drop>(
 fn another_machine_accepts_what_advance_answers(rt: HostRuntime) -> Result<(), Fail> {
     let alloc = rt.alloc();
     let steps = &WAITS_FOR_A_STARTED_THREAD;
-    let objects = objects(alloc, &[9, 12])?;
-    let first = Ordinary::start(alloc, &objects, &[], 100, Script::new(alloc, steps));
-    let mut machine = ample(first)?;
-    let second = Ordinary::start(alloc, &objects, &[], 100, Script::new(alloc, steps));
-    let mut other = ample(second)?;
+    let opening = opening(alloc, &[9, 12], &[], 100)?;
+    let mut other = machine(alloc, &opening, steps)?;
+    let mut machine = machine(alloc, &opening, steps)?;
     let mut pick: u32 = 1;
     for _ in 0..400 {
         pick = (pick % 65536 * 75 + 74) % 65537;
@@ -165,5 +166,52 @@ fn another_machine_accepts_what_advance_answers(rt: HostRuntime) -> Result<(), F
     assert!(rt; standing_of(&machine, 3) == (false, false, None));
     assert!(rt; matches!(machine.lines().as_slice(), [Line::Int(2), Line::Int(1)]));
     assert!(rt; matches!(other.lines().as_slice(), [Line::Int(2), Line::Int(1)]));
+    Ok(())
+}
+
+/// Main's own thread object was started, and its thread hasn't ended.
+const STARTS_AND_JOINS_ITSELF: [ScriptStep; 2] = [
+    ScriptStep::Operation(Op::Start(1, 5)),
+    ScriptStep::Operation(Op::Join(1)),
+];
+
+#[test]
+fn mains_own_thread_was_started(rt: HostRuntime) -> Result<(), Fail> {
+    let opening = opening(rt.alloc(), &[], &[], 20)?;
+    let mut machine = machine(rt.alloc(), &opening, &STARTS_AND_JOINS_ITSELF)?;
+    let start = turn(&mut machine, 1, &AMPLE).ok().flatten();
+    assert!(rt; reply_of(start) == ("already", 0, 0));
+    assert!(rt; matches!(turn(&mut machine, 1, &AMPLE), Ok(Some(Advance::Waits))));
+    Ok(())
+}
+
+/// Three silent steps before an operation, and none behind it.
+const RUNS_AND_HALTS: [ScriptStep; 4] = [
+    ScriptStep::Call,
+    ScriptStep::Pass,
+    ScriptStep::Return,
+    ScriptStep::Operation(Op::Enter(9)),
+];
+
+#[test]
+fn silent_steps_run_up_to_an_operation(rt: HostRuntime) -> Result<(), Fail> {
+    let opening = opening(rt.alloc(), &[9], &[], 20)?;
+    let mut machine = machine(rt.alloc(), &opening, &RUNS_AND_HALTS)?;
+    assert!(rt; machine.run_silent(1, 2) == 2);
+    assert!(rt; machine.run_silent(1, 9) == 1);
+    assert!(rt; machine.run_silent(2, 9) == 0);
+    let answer = turn(&mut machine, 1, &AMPLE).ok().flatten();
+    assert!(rt; matches!(answer, Some(Advance::Step(event)) if event.silent == 3));
+    Ok(())
+}
+
+#[test]
+fn a_thread_halts_at_the_end_of_its_code(rt: HostRuntime) -> Result<(), Fail> {
+    let opening = opening(rt.alloc(), &[], &[], 20)?;
+    let mut machine = machine(rt.alloc(), &opening, &[])?;
+    assert!(rt; matches!(turn(&mut machine, 1, &AMPLE), Ok(Some(Advance::Halts))));
+    assert!(rt; !machine.is_enabled(1) && !machine.has_ended(1));
+    assert!(rt; machine.highest() == 1);
+    assert!(rt; machine.into_lines().is_empty());
     Ok(())
 }

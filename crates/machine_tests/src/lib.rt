@@ -28,5 +28,3 @@ mod scripts;
 mod setting;
 #[cfg(test)]
 mod tables;
-#[cfg(test)]
-mod vast;

@@ -51,9 +51,13 @@ fn threads_are_found_by_number(rt: HostRuntime) -> Result<(), Fail> {
     ample(threads.insert(2, seat(20, WaitState::Awake)))?;
     assert!(rt; threads.free_number() == Some(3));
     assert!(rt; threads.is_free_number(3) && !threads.is_free_number(2));
+    assert!(rt; threads.highest() == 2);
     threads.set_standing(2, Standing::Ended(None), 6);
+    let before = threads.replace_standing(1, Standing::Ended(Some(4)));
+    assert!(rt; matches!(before, Some(Standing::Live(10))));
+    assert!(rt; threads.has_ended(1));
     assert!(rt; threads.get(2).map(|found| found.silent) == Some(6));
-    assert!(rt; threads.has_ended(2) && !threads.has_ended(1));
+    assert!(rt; threads.has_ended(2) && !threads.has_ended(3));
     Ok(())
 }
 

@@ -1,4 +1,4 @@
-use crate::setting::{HAND_OVER, ample, objects};
+use crate::setting::{HAND_OVER, machine, opening};
 use op_core::{Event, Op, Reply, Script};
 use ordinary_machine::{Ordinary, StepRefusal};
 use std::alloc::Global;
@@ -16,15 +16,15 @@ fn word_of(refusal: &StepRefusal) -> &'static str {
 
 /// The machine of two threads that hand a monitor over, at its start.
 fn at_start(alloc: Global) -> Result<Ordinary<Script<'static>>, Fail> {
-    let objects = objects(alloc, &[7, 9])?;
-    let code = Script::new(alloc, &HAND_OVER);
-    ample(Ordinary::start(alloc, &objects, &[], 100, code))
+    let opening = opening(alloc, &[7, 9], &[], 100)?;
+    machine(alloc, &opening, &HAND_OVER)
 }
 
 /// Events that are no steps of the start.
-const REFUSED: [(Event, &str); 3] = [
+const REFUSED: [(Event, &str); 4] = [
     (event!(2, 0, Op::Enter(9), Reply::Done), "no thread"),
     (event!(1, 1, Op::Start(7, 5), Reply::Number(2)), "not next"),
+    (event!(1, 0, Op::Enter(9), Reply::Done), "not next"),
     (event!(1, 0, Op::Start(7, 5), Reply::Already), "wrong reply"),
 ];
 

@@ -2,8 +2,9 @@
 
 ghost use Rattle.std.specs.Prelude.{◌≡◌, IfOk, Ok};
 
-use op_core::{NoMemory, Op, Rows, ScriptStep};
-use ordinary_machine::FixedObject;
+use fixed_objects::{FixedObject, Opening};
+use op_core::{NoMemory, Op, Rows, Script, ScriptStep};
+use ordinary_machine::Ordinary;
 use std::alloc::{AllocError, Global};
 use std::test::Fail;
 
@@ -17,9 +18,15 @@ pub fn ample<T: Drop>(answer: Result<T, NoMemory>) -> Result<T, Fail>
     }
 }
 
-/// Objects of class 7 with two words each.
-pub fn objects(alloc: Global, references: &[u32]) -> Result<Vec<FixedObject>, AllocError> {
+/// An opening with objects of class 7 with two words each, and the object of main's thread at 1.
+pub fn opening(
+    alloc: Global,
+    references: &[u32],
+    ready: &[u32],
+    first: u32,
+) -> Result<Opening, AllocError> {
     let mut objects = Vec::new(alloc);
+    objects.push(FixedObject::main_thread(alloc, 1, 7)?)?;
     for reference in references {
         let words = Rows::from_vec(vec![in alloc; 0; 2]?);
         objects.push(FixedObject {
@@ -27,9 +34,29 @@ pub fn objects(alloc: Global, references: &[u32]) -> Result<Vec<FixedObject>, Al
             class: 7,
             length: 0,
             words,
+            started: 0,
         })?;
     }
-    Ok(objects)
+    let ready = Rows::from_vec(Vec::from_slice(alloc, ready)?);
+    Ok(Opening {
+        objects: Rows::from_vec(objects),
+        ready,
+        classes: 8,
+        first,
+        main_thread: 1,
+    })
+}
+
+/// A machine whose first thread makes the steps of a script.
+pub fn machine<'a>(
+    alloc: Global,
+    opening: &Opening,
+    steps: &'a [ScriptStep],
+) -> Result<Ordinary<Script<'a>>, Fail> {
+    if !opening.lies_below_first() {
+        return Err(Fail::from("the first reference is no free one"));
+    }
+    ample(Ordinary::start(alloc, opening, Script::new(alloc, steps)))
 }
 
 /// Thread 1 starts thread 2 at step 7 and waits; thread 2 notifies it and prints.

@@ -156,7 +156,7 @@ HasEnded-with f t n from l stands h =
     let other : n ≢ t = not_live-other f t n from HasEnded stands (λ x. x) h in
     subst HasEnded (sym (set_at-other f t (live l) n other)) h
 
-CanStep-with : {S : Type 0} (b : OrdinaryState S) (t : ℕ) (from l : S) (op : Op) → b.threads t ≡ live from → CanStep b t op → CanStep (with_thread b t (live l)) t op
+pub CanStep-with : {S : Type 0} (b : OrdinaryState S) (t : ℕ) (from l : S) (op : Op) → b.threads t ≡ live from → CanStep b t op → CanStep (with_thread b t (live l)) t op
 CanStep-with b t from l (Start r p) stands h = (
   h.0,
   elim h.1 [
@@ -173,7 +173,7 @@ CanStep-with b t from l (Join r) stands h = (
 )
 CanStep-with b t from l _ stands h = h
 
-MayAnswer-with : {S : Type 0} (b : OrdinaryState S) (t : ℕ) (from l : S) (op : Op) (reply : Reply) → b.threads t ≡ live from → MayAnswer b t op reply → MayAnswer (with_thread b t (live l)) t op reply
+pub MayAnswer-with : {S : Type 0} (b : OrdinaryState S) (t : ℕ) (from l : S) (op : Op) (reply : Reply) → b.threads t ≡ live from → MayAnswer b t op reply → MayAnswer (with_thread b t (live l)) t op reply
 MayAnswer-with b t from l (Start r p) (Number n) stands h = (h.0, IsFreeNumber-with b.threads t n from l stands h.1)
 MayAnswer-with b t from l _ _ stands h = h
 

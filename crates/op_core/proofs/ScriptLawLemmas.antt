@@ -20,14 +20,14 @@ use Rattle.op_core.proofs.PointwiseLemmas.{set_at-at}
 use Rattle.op_core.proofs.QuietLemmas.{quiet_step-silent}
 
 -- what objects there are only grows along a list
-objects_after-grow : {S : Type 0} (code : Code S) (s : OrdinaryState S) (t : ℕ) (op : Op) (reply : Reply) → MayAnswer s t op reply → (r : ℕ) (o : Object) → s.objects r ≡ Some o → objects_after code op reply s.objects r ≡ Some o
-objects_after-grow code s t (New c n) (Made q) answered r o h =
-    let made : Option Object = Some (record { class = c; size = n; words = code.words c n }) in
+objects_after-grow : {S : Type 0} (code : Code S) (s : OrdinaryState S) (t : ℕ) (l : S) (op : Op) (reply : Reply) → MayAnswer s t op reply → (r : ℕ) (o : Object) → s.objects r ≡ Some o → objects_after code l op reply s.objects r ≡ Some o
+objects_after-grow code s t l (New c n) (Made q) answered r o h =
+    let made : Option Object = Some (record { class = c; size = n; words = code.words l c n }) in
     set_at-at (λ x. x ≡ Some o) s.objects q made r
     (λ e. let gone : is_some (s.objects r) ≡ false = subst (λ x. IsNone (s.objects x)) (sym e) answered.2 in
     let there : is_some (s.objects r) ≡ true = ap is_some h in cc)
     (λ _. h)
-objects_after-grow code s t _ _ answered r o h = h
+objects_after-grow code s t l _ _ answered r o h = h
 
 -- and what is there stays there
 some_grows : (f g : ℕ → Option Object) → ((r : ℕ) (o : Object) → f r ≡ Some o → g r ≡ Some o) → (r : ℕ) (x : Option Object) → f r ≡ x → IsSome x → IsSome (g r)
@@ -87,7 +87,7 @@ kept_at steps start s k (event t op reply) kept fits =
     let now : IsKept steps start (s k) = kept k (omega arith) in
     subst (IsKept steps start) (sym fits.leads) (record {
       execute = after-execute steps (s k).threads t fits.at_op op reply now.execute (now.execute t fits.at_op fits.stands);
-      objects = λ r o h. objects_after-grow script_code (s k) t op reply fits.step.answered r o (now.objects r o h);
+      objects = λ r o h. objects_after-grow script_code (s k) t fits.at_op op reply fits.step.answered r o (now.objects r o h);
     })
 kept_at steps start s k (put_back r i v) kept fits =
     let now : IsKept steps start (s k) = kept k (omega arith) in

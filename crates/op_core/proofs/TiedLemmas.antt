@@ -142,11 +142,11 @@ Tied-answer s b view tied t (End x) Done there agrees answered = tt
 Tied-answer s b view tied t _ _ there agrees answered = absurd answered
 
 -- What a left event makes of each part of the tie.
-objects_after-within : {S : Type 0} (code : Code S) (op : Op) (reply : Reply) (f g : ℕ → Option Object) → ((r : ℕ) (o : Object) → f r ≡ Some o → g r ≡ Some o) → (r : ℕ) (o : Object) → objects_after code op reply f r ≡ Some o → objects_after code op reply g r ≡ Some o
-objects_after-within code (New c n) (Made q) f g within r o =
-    let made : Option Object = Some (record { class = c; size = n; words = code.words c n }) in
+objects_after-within : {S : Type 0} (code : Code S) (l : S) (op : Op) (reply : Reply) (f g : ℕ → Option Object) → ((r : ℕ) (o : Object) → f r ≡ Some o → g r ≡ Some o) → (r : ℕ) (o : Object) → objects_after code l op reply f r ≡ Some o → objects_after code l op reply g r ≡ Some o
+objects_after-within code l (New c n) (Made q) f g within r o =
+    let made : Option Object = Some (record { class = c; size = n; words = code.words l c n }) in
     set_at-both (λ x y. x ≡ Some o → y ≡ Some o) f g q made made r (λ _ h. h) (λ _ h. within r o h)
-objects_after-within code _ _ f g within r o = within r o
+objects_after-within code l _ _ f g within r o = within r o
 
 words_after-same : {S : Type 0} (s : OrdinaryState S) (t : ℕ) (op : Op) (reply : Reply) (f : ℕ → ℕ → ℕ) → ((r i : ℕ) → IsNone (s.objects r) → f r i ≡ 0) → MayAnswer s t op reply → words_after op reply f ≡ written_after op reply f
 words_after-same s t (New c n) (Made r) f none answered =
@@ -175,7 +175,7 @@ threads_after-kinds code t l _ reply f g kinds u = set_at-both IsSameKind f g t 
 -- after a step, too, only objects have words
 after-no_words : {S : Type 0} (code : Code S) (b : OrdinaryState S) (t : ℕ) (l : S) (op : Op) (reply : Reply) → IsAllThere b.objects op → OnlyObjectsHaveWords b → OnlyObjectsHaveWords (after code b t l op reply)
 after-no_words code b t l (New c n) (Made q) there none r i gone =
-    let made : Option Object = Some (record { class = c; size = n; words = code.words c n }) in
+    let made : Option Object = Some (record { class = c; size = n; words = code.words l c n }) in
     let zeros : ℕ → ℕ = λ _. 0 in
     set_at-both (λ x y. IsNone x → y i ≡ 0) b.objects b.words q made zeros r (λ _ _. refl) (λ _ h. none r i h) gone
 after-no_words code b t l (Write q j v) Done there none r i h =
@@ -189,7 +189,7 @@ after-no_words code b t l _ _ there none r i h = none r i h
 -- a left event keeps the tie
 pub Tied-left : {S : Type 0} (code : Code S) (s b : OrdinaryState S) (view : View) → Tied s b view → (t : ℕ) (l : S) (op : Op) (reply : Reply) → IsAllThere b.objects op → Agrees s view t op reply → MayAnswer b t op reply → Tied (after code s t l op reply) (after code b t l op reply) (view_after t op reply view)
 Tied-left code s b view tied t l op reply there agrees answered = record {
-  objects = objects_after-within code op reply b.objects s.objects tied.objects;
+  objects = objects_after-within code l op reply b.objects s.objects tied.objects;
   words = words_after-same b t op reply b.words tied.no_words answered ∙ ap (written_after op reply) tied.words;
   monitors = ap (λ w. monitors_after t op reply w b.monitors) (sym tied.waits) ∙ ap (monitors_after t op reply view.waiting) tied.monitors;
   waits = ap (λ m. waiting_after t op reply m view.waiting) (sym tied.monitors) ∙ ap (waiting_after t op reply b.monitors) tied.waits;
@@ -202,14 +202,14 @@ Tied-left code s b view tied t l op reply there agrees answered = record {
 }
 
 -- What a cut event leaves as it was.
-objects_after-cut : {S : Type 0} (code : Code S) (s b : OrdinaryState S) (view : View) → Tied s b view → (t : ℕ) (op : Op) (reply : Reply) → MayAnswer s t op reply → (r : ℕ) (o : Object) → b.objects r ≡ Some o → objects_after code op reply s.objects r ≡ Some o
-objects_after-cut code s b view tied t (New c n) (Made q) answered r o h =
-    let made : Option Object = Some (record { class = c; size = n; words = code.words c n }) in
+objects_after-cut : {S : Type 0} (code : Code S) (s b : OrdinaryState S) (view : View) → Tied s b view → (t : ℕ) (l : S) (op : Op) (reply : Reply) → MayAnswer s t op reply → (r : ℕ) (o : Object) → b.objects r ≡ Some o → objects_after code l op reply s.objects r ≡ Some o
+objects_after-cut code s b view tied t l (New c n) (Made q) answered r o h =
+    let made : Option Object = Some (record { class = c; size = n; words = code.words l c n }) in
     set_at-at (λ x. x ≡ Some o) s.objects q made r
     (λ e. let gone : is_some (s.objects r) ≡ false = subst (λ x. IsNone (s.objects x)) (sym e) answered.2 in
     let there : is_some (s.objects r) ≡ true = ap is_some (tied.objects r o h) in cc)
     (λ _. tied.objects r o h)
-objects_after-cut code s b view tied t _ _ answered r o h = tied.objects r o h
+objects_after-cut code s b view tied t l _ _ answered r o h = tied.objects r o h
 
 waiting_after-cut : {S : Type 0} (s : OrdinaryState S) (t : ℕ) (op : Op) (reply : Reply) (m : ℕ → Monitor) (f : ℕ → Waiting) → CanBeCut op reply → waiting_after t op reply m f ≡ f
 waiting_after-cut s t (Wait r) Done m f can = absurd can
@@ -245,7 +245,7 @@ set_at-kinds f g t l m kinds stands u = set_at-at (IsSameKind (f u)) g t (live m
 -- a cut event keeps the tie, without the ordinary state going on
 pub Tied-cut : {S : Type 0} (code : Code S) (s b : OrdinaryState S) (view : View) → Tied s b view → (t : ℕ) (l : S) (op : Op) (reply : Reply) → s.threads t ≡ live l → CanBeCut op reply → MayAnswer s t op reply → Tied (after code s t l op reply) b view
 Tied-cut code s b view tied t l op reply stands can answered = record {
-  objects = objects_after-cut code s b view tied t op reply answered;
+  objects = objects_after-cut code s b view tied t l op reply answered;
   words = tied.words;
   monitors = tied.monitors;
   waits = tied.waits;

@@ -72,10 +72,10 @@ MayAnswer s t (InitDone c ok) Done = Unit {0}
 MayAnswer s t (End x) Done = Unit {0}
 MayAnswer _ _ _ _ = ⊥
 
--- What a step changes, part by part. What has no row stays.
-abbrev pub objects_after : {S : Type 0} → Code S → Op → Reply → (ℕ → Option Object) → ℕ → Option Object
-objects_after code (New c n) (Made r) f = set_at f r (Some (record { class = c; size = n; words = code.words c n }))
-objects_after code _ _ f = f
+-- What a step changes, part by part. What has no row stays; l is the local state that wants the operation.
+abbrev pub objects_after : {S : Type 0} → Code S → S → Op → Reply → (ℕ → Option Object) → ℕ → Option Object
+objects_after code l (New c n) (Made r) f = set_at f r (Some (record { class = c; size = n; words = code.words l c n }))
+objects_after code l _ _ f = f
 
 abbrev pub words_after : Op → Reply → (ℕ → ℕ → ℕ) → ℕ → ℕ → ℕ
 words_after (New c n) (Made r) f = set_at f r (λ _. 0)
@@ -106,7 +106,6 @@ abbrev pub starts_after : Op → Reply → (ℕ → ℕ) → ℕ → ℕ
 starts_after (Start r p) (Number n) f = set_at f r n
 starts_after _ _ f = f
 
--- l is the local state that wants the operation
 abbrev pub threads_after : {S : Type 0} → Code S → ℕ → S → Op → Reply → (ℕ → Thread S) → ℕ → Thread S
 threads_after code t l (End x) Done f = set_at f t (ended x)
 threads_after code t l (Start r p) (Number n) f = set_at (set_at f n (live (code.child l r))) t (live (code.reply l (Number n)))
@@ -119,7 +118,7 @@ lines_after _ _ lines = lines
 -- the state after thread t's operation, wanted at the local state l, was answered
 abbrev pub after : {S : Type 0} → Code S → OrdinaryState S → ℕ → S → Op → Reply → OrdinaryState S
 after code s t l op reply = record {
-  objects = objects_after code op reply s.objects;
+  objects = objects_after code l op reply s.objects;
   words = words_after op reply s.words;
   monitors = monitors_after t op reply s.waiting s.monitors;
   waiting = waiting_after t op reply s.monitors s.waiting;

@@ -18,8 +18,8 @@ pub record Code (S : Type 0) : Type 0 where
   pub frames : S → ℕ
   -- the first state of the thread that an object starts
   pub child : S → ℕ → S
-  -- how many words a new object of a class has at a length
-  pub words : ℕ → ℕ → ℕ
+  -- how many words an object that the state makes has, of a class and at a length
+  pub words : S → ℕ → ℕ → ℕ
   -- the first argument being a saved state and the second the present one: the next silent step
   -- ends the frame that was on top at the save
   pub leaves : S → S → Bool

@@ -1,4 +1,4 @@
-ghost use Rattle.std.specs.Prelude.{◌≡◌, ◌≢◌, false, [], ◌∷◌, ◌<◌, Some, drop, OnOk, OnErr, IfOk, IfSome};
+ghost use Rattle.std.specs.Prelude.{◌≡◌, ◌≢◌, false, [], ◌∷◌, ◌<◌, ◌≤◌, Some, drop, OnOk, OnErr, IfOk, IfSome};
 ghost use Rattle.std.specs.Option.{option_map};
 ghost use Rattle.op_core.specs.ThreadCode.{leaves_any, quiet_step, quiet_steps};
 ghost use Rattle.op_core.specs.Replies.{FitsNext};
@@ -39,6 +39,26 @@ pub trait ThreadCode: Sized {
         ensures saved { OnOk result (saved self.new ≡ saved self.old) }
         ensures frames { result ≡ Err CodeStop.Frames → 1024 < code.frames (code.silent (state self.old)) }
         ensures err { OnErr result (self.new ≡ self.old) };
+
+    /// Makes some of the silent steps that come next, at most so many, and answers how many. None of
+    /// them ends a frame that was on top at a save. Where it answers less than `most`, there may be
+    /// more to make.
+    fn run_silent(&mut self, most: u64) -> u64
+        ensures steps { quiet_steps code result (state self.old) ≡ Some (state self.new) }
+        ensures saved { saved self.new ≡ saved self.old }
+        ensures most { result ≤ most }
+    {
+        for made in 0..most {
+            match self.next() {
+                Next::Silent if !self.leaves() => match self.silent() {
+                    Ok(()) => {}
+                    Err(_) => return made,
+                },
+                _ => return made,
+            }
+        }
+        most
+    }
 
     /// Goes on with the reply to the operation that the thread wants, which it must fit. Takes no
     /// memory.
@@ -81,9 +101,9 @@ pub trait ThreadCode: Sized {
         ensures saved { IfOk result (λ copy. saved copy ≡ []) };
 
     /// How many words a new object of a class has at a length, which is 0 where the class is no
-    /// array. Takes no memory.
+    /// array, in the program that the local state holds. Takes no memory.
     fn words(&self, class: u32, length: u32) -> u64
-        ensures { result ≡ code.words class length };
+        ensures { result ≡ code.words (state self.now) class length };
 }
 
 /// A thread code as it stands after exactly so many silent steps, none of which makes a 1,025th

@@ -5,6 +5,9 @@ use Rattle.std.proofs.lemmas.Bool.Decides.{leb_tells}
 use Rattle.std.proofs.lemmas.Option.{unwrap_or-slice_get}
 use Rattle.std.proofs.lemmas.List.{length-set, length-replicate, get_or_past, get_or-set_other, get_or-replicate}
 use Rattle.std.proofs.lemmas.Grind.{get_or-set_at}
+use Rattle.op_core.specs.declared.Reply.{Reply}
+use Rattle.op_core.specs.ThreadCode.{Code}
+use Rattle.op_core.specs.Replies.{FitsNext}
 use Rattle.op_core.specs.OrdinaryState.{set_at, Object, HasWord, IsWaitingFor, Monitor, free, Waiting, Thread, live}
 use Rattle.op_core.proofs.PointwiseLemmas.{set_at-at, set_at-same}
 use Rattle.machine_tables.specs.declared.objects.MonitorState.{MonitorState}
@@ -15,7 +18,7 @@ use Rattle.machine_tables.specs.declared.objects.HeapObject.{HeapObject}
 use Rattle.machine_tables.specs.declared.threads.WaitState.{WaitState}
 use Rattle.machine_tables.specs.declared.threads.Standing.{Standing}
 use Rattle.machine_tables.specs.declared.threads.Seat.{Seat}
-use Rattle.machine_tables.specs.Tables.{header_of, monitor_of, monitor_in, started_in, word_in, objects_in, words_in, monitors_in, starts_in, waiting_of, standing_of, thread_in, waiting_state_in, silent_in, threads_in, waiting_in, silents_in}
+use Rattle.machine_tables.specs.Tables.{header_of, monitor_of, monitor_in, started_in, word_in, objects_in, words_in, monitors_in, starts_in, waiting_of, standing_of, thread_in, waiting_state_in, silent_in, threads_in, waiting_in, silents_in, StandingReplies, SeatReplies, StandingAwaits, AwaitsReply}
 use Rattle.ordinary_machine.specs.Machine.{HasBegun}
 use Rattle.std.specs.Option.{option_map}
 
@@ -197,3 +200,60 @@ waiting_begun state r (Some seat) h = standing-begun state seat.standing
 -- a thread that has begun stays so while another begins
 pub begun_after : {S : Type 0} (f : ℕ → Thread S) (n : ℕ) (l : S) (t : ℕ) → HasBegun (f t) → HasBegun (set_at f n (live l) t)
 begun_after f n l t begun = set_at-at HasBegun f n (live l) t (λ _. tt) (λ _. begun)
+
+-- a thread that stands elsewhere, as many silent steps after its last event
+pub standing_changed : {C S : Type 0} (state : C → S) (f g : ℕ → Option (Seat C)) (t : ℕ) (standing : Standing C) (x : Seat C) → f t ≡ Some x
+    → g ≡ set_at f t (Some (record x { standing = standing }))
+    → ThreadParts state g (set_at (threads_in state f) t (standing_of state standing)) (waiting_in f) (set_at (silents_in f) t (silents_in f t))
+standing_changed {C} {S} state f g t standing x is changed =
+    let y : Option (Seat C) = Some (record x { standing = standing }) in
+    record {
+      threads = is_set (thread_in state) f g t y (standing_of state standing) changed refl;
+      waiting = is_kept waiting_state_in f g t y changed (sym (ap waiting_state_in is));
+      silents = is_set silent_in f g t y (silents_in f t) changed (sym (ap silent_in is));
+    }
+
+-- what a seat becomes where its thread goes on with a reply, or makes silent steps
+pub record Becomes {C S : Type 0} (state : C → S) (x y : Option (Seat C)) (l : S) (silent : ℕ) : Type 0 where
+  pub thread : thread_in state y ≡ live l
+  pub waiting : waiting_state_in y ≡ waiting_state_in x
+  pub silents : silent_in y ≡ silent
+
+pub becomes_changed : {C S : Type 0} (state : C → S) (f g : ℕ → Option (Seat C)) (t : ℕ) (l : S) (silent : ℕ)
+    → g ≡ set_at f t (g t) → Becomes state (f t) (g t) l silent
+    → ThreadParts state g (set_at (threads_in state f) t (live l)) (waiting_in f) (set_at (silents_in f) t silent)
+becomes_changed {C} {S} state f g t l silent changed becomes = record {
+  threads = is_set (thread_in state) f g t (g t) (live l) changed becomes.thread;
+  waiting = is_kept waiting_state_in f g t (g t) changed becomes.waiting;
+  silents = is_set silent_in f g t (g t) silent changed becomes.silents;
+}
+
+replied_standing : {C S : Type 0} (code : Code S) (state : C → S) (reply : Reply) (a b : Standing C) (l : S) → StandingReplies code state reply a b → standing_of state a ≡ live l
+    → standing_of state b ≡ live (code.reply l reply)
+replied_standing {C} {S} code state reply (Live from) (Live behind) l h is = let same : state from ≡ l = cc in ap live (h ∙ ap (λ m. code.reply m reply) same)
+replied_standing code state reply (Live from) (Ended x) l h is = absurd h
+replied_standing code state reply (Ended x) b l h is = cc
+
+replied_seat : {C S : Type 0} (code : Code S) (state : C → S) (reply : Reply) (x y : Option (Seat C)) (l : S) → SeatReplies code state reply x y → thread_in state x ≡ live l
+    → Becomes state x y (code.reply l reply) 0
+replied_seat code state reply (Some x) (Some y) l h is = record {
+  thread = replied_standing code state reply x.standing y.standing l h.standing is;
+  waiting = ap waiting_of h.waiting;
+  silents = h.silent;
+}
+replied_seat code state reply (Some x) None l h is = absurd h
+replied_seat code state reply None y l h is = absurd h
+
+pub replied : {C S : Type 0} (code : Code S) (state : C → S) (reply : Reply) (f g : ℕ → Option (Seat C)) (t : ℕ) (l : S)
+    → SeatReplies code state reply (f t) (g t) → g ≡ set_at f t (g t) → threads_in state f t ≡ live l
+    → ThreadParts state g (set_at (threads_in state f) t (live (code.reply l reply))) (waiting_in f) (set_at (silents_in f) t 0)
+replied code state reply f g t l replies changed is = becomes_changed state f g t (code.reply l reply) 0 changed (replied_seat code state reply (f t) (g t) l replies is)
+
+-- a thread awaits a reply in its seat
+awaits_standing : {C S : Type 0} (code : Code S) (state : C → S) (reply : Reply) (a : Standing C) (l : S) → standing_of state a ≡ live l → FitsNext (code.next l) reply → StandingAwaits code state a reply
+awaits_standing {C} {S} code state reply (Live from) l is fits = let same : l ≡ state from = cc in subst (λ m. FitsNext (code.next m) reply) same fits
+awaits_standing code state reply (Ended x) l is fits = cc
+
+pub awaits_seat : {C S : Type 0} (code : Code S) (state : C → S) (reply : Reply) (x : Option (Seat C)) (l : S) → thread_in state x ≡ live l → FitsNext (code.next l) reply → AwaitsReply code state x reply
+awaits_seat code state reply None l is fits = cc
+awaits_seat code state reply (Some x) l is fits = awaits_standing code state reply x.standing l is fits

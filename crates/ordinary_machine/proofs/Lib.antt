@@ -6,3 +6,8 @@ pub mod StartLemmas
 pub mod RunLemmas
 pub mod OutcomeLemmas
 pub mod EnabledLemmas
+pub mod SilentLemmas
+pub mod MakeLemmas
+pub mod StuckLemmas
+pub mod ReferenceLemmas
+pub mod StepOnLemmas

@@ -15,12 +15,12 @@ use Rattle.op_core.specs.declared.Limit.TheVariants.{Heap, Threads, Frames, Dept
 use Rattle.op_core.specs.ThreadCode.{Code, quiet_to, quiet_step, quiet_steps}
 use Rattle.op_core.specs.OrdinaryState.{Object, Waiting, ClassState, unready, claimed, ready, bad, live, OrdinaryState, HasEnded}
 use Rattle.op_core.specs.OrdinaryStep.{IsFirstWaiting, AnswersInit, CanStep, MayAnswer}
-use Rattle.ordinary_machine.specs.declared.advance.Advance.TheVariants.{Silent, Step, Waits, Ended, Spent}
+use Rattle.ordinary_machine.specs.declared.advance.Advance.TheVariants.{Silent, Step, Waits, Halts, Ended, Spent}
 use Rattle.ordinary_machine.specs.declared.step.StepRefusal.{StepRefusal}
 use Rattle.ordinary_machine.specs.declared.step.StepRefusal.TheVariants.{NoThread, NotNext, NotEnabled, WrongReply, NoMemory}
 use Rattle.ordinary_machine.specs.Machine.{Machine, moved, with_thread_at}
 use Rattle.ordinary_machine.specs.Step.{IsNext, IsStepTo, IsNotEnabled, IsWrongReply, Refuses}
-use Rattle.ordinary_machine.specs.Advance.{OpMeets, IsLowest, IsSilentTo, IsAnswered, IsWaiting, IsOver, IsOutOfFrames, IsAtLimit, Meets}
+use Rattle.ordinary_machine.specs.Advance.{OpMeets, IsChosen, IsSilentTo, IsAnswered, IsWaiting, IsOver, IsOutOfFrames, IsAtLimit, Meets}
 use Rattle.ordinary_machine.specs.Laws.{EventsHaveOneOutcome, AdvancesHaveOneAnswer}
 
 -- an event's thread wants one operation at one place
@@ -134,7 +134,7 @@ read_reply s t r i (Value v) (Value w) a b = ap Value (b ∙ sym a)
 read_reply s t r i (Value v) _ a b = absurd b
 read_reply s t r i _ _ a b = absurd a
 
-new_reply : {S : Type 0} (m : Machine S) (t c n : ℕ) (a b : Reply) → MayAnswer m.now t (New c n) a → MayAnswer m.now t (New c n) b → IsLowest m (New c n) a → IsLowest m (New c n) b → b ≡ a
+new_reply : {S : Type 0} (m : Machine S) (t c n : ℕ) (a b : Reply) → MayAnswer m.now t (New c n) a → MayAnswer m.now t (New c n) b → IsChosen m (New c n) a → IsChosen m (New c n) b → b ≡ a
 new_reply m t c n (Made r) (Made q) a b low_a low_b = ap Made (low_b ∙ sym low_a)
 new_reply m t c n (Made r) _ a b low_a low_b = absurd b
 new_reply m t c n _ _ a b low_a low_b = absurd a
@@ -178,7 +178,7 @@ notify_reply s t r NotOwner (Woken k) a b = absurd (a b.0)
 notify_reply s t r NotOwner _ a b = absurd b
 notify_reply s t r _ _ a b = absurd a
 
-start_reply : {S : Type 0} (m : Machine S) (t r p : ℕ) (a b : Reply) → MayAnswer m.now t (Start r p) a → MayAnswer m.now t (Start r p) b → IsLowest m (Start r p) a → IsLowest m (Start r p) b → b ≡ a
+start_reply : {S : Type 0} (m : Machine S) (t r p : ℕ) (a b : Reply) → MayAnswer m.now t (Start r p) a → MayAnswer m.now t (Start r p) b → IsChosen m (Start r p) a → IsChosen m (Start r p) b → b ≡ a
 start_reply m t r p (Number n) (Number k) a b low_a low_b = ap Number (omega (arith, low_a k b.1, low_b n a.1))
 start_reply m t r p (Number n) Already a b low_a low_b = absurd (omega (arith, a.0, b))
 start_reply m t r p (Number n) _ a b low_a low_b = absurd b
@@ -201,7 +201,7 @@ init_reply t ready Ready h = refl
 init_reply t bad Bad h = refl
 init_reply t _ _ h = absurd h
 
-one_reply : {S : Type 0} (m : Machine S) (t : ℕ) (op : Op) (a b : Reply) → MayAnswer m.now t op a → MayAnswer m.now t op b → IsLowest m op a → IsLowest m op b → b ≡ a
+one_reply : {S : Type 0} (m : Machine S) (t : ℕ) (op : Op) (a b : Reply) → MayAnswer m.now t op a → MayAnswer m.now t op b → IsChosen m op a → IsChosen m op b → b ≡ a
 unfolding DoneOnly
 one_reply m t (ClassOf r) a b may_a may_b low_a low_b = class_reply m.now t r a b may_a may_b
 one_reply m t (Read r i) a b may_a may_b low_a low_b = read_reply m.now t r i a b may_a may_b
@@ -235,13 +235,13 @@ one_place code m t l k a b one other = let place : k ≡ l = live_same (sym othe
 pub one_wish : {S : Type 0} (code : Code S) (m : Machine S) (t : ℕ) (l k : S) (op other : Op) → Stands code m t l (Want op) → Stands code m t k (Want other) → other ≡ op
 one_wish code m t l k op other a b = let same : Want other ≡ Want op = (one_place code m t l k (Want op) (Want other) a b).1 in cc
 
-silent_or_wish : {S : Type 0} (code : Code S) (m : Machine S) (t : ℕ) (l k : S) (op : Op) → Stands code m t l next.Silent → Stands code m t k (Want op) → ⊥
+pub silent_or_wish : {S : Type 0} (code : Code S) (m : Machine S) (t : ℕ) (l k : S) (op : Op) → Stands code m t l next.Silent → Stands code m t k (Want op) → ⊥
 silent_or_wish code m t l k op a b = let same : Want op ≡ next.Silent = (one_place code m t l k next.Silent (Want op) a b).1 in cc
 
 pub over_no_more : {S : Type 0} (code : Code S) (m : Machine S) (t : ℕ) (l : S) (goes : Next) → goes ≢ next.Ended → Stands code m t l goes → IsOver code m t → ⊥
 over_no_more code m t l goes more stands (inl is_ended) = subst HasEnded stands.begun is_ended
-over_no_more code m t l goes more stands (inr (k, begun, over)) =
-    more (sym (one_place code m t l k goes next.Ended stands (record { begun = begun; goes_on = over })).1)
+over_no_more code m t l goes more stands (inr halted) =
+    more (sym (one_place code m t l halted.place goes next.Ended stands (record { begun = halted.begun; goes_on = halted.over })).1)
 
 -- a silent step that is made
 record Quiet {S : Type 0} (code : Code S) (l : S) : Type 0 where
@@ -279,14 +279,14 @@ which_limit : {S : Type 0} (code : Code S) (m : Machine S) (t : ℕ) (limits : L
 which_limit code m t limits Frames h = inl (refl, h)
 which_limit code m t limits _ h = inr h
 
-one_op_limit : {S : Type 0} (code : Code S) (m : Machine S) (t : ℕ) (limits : Limits) (op : Op) (a b : Limit) → OpMeets code m t limits op a → OpMeets code m t limits op b → b ≡ a
-one_op_limit code m t limits (New c n) Heap Heap a b = refl
-one_op_limit code m t limits (New c n) Heap _ a b = absurd b
-one_op_limit code m t limits (Start r p) Threads Threads a b = refl
-one_op_limit code m t limits (Start r p) Threads _ a b = absurd b
-one_op_limit code m t limits (Enter r) Depth Depth a b = refl
-one_op_limit code m t limits (Enter r) Depth _ a b = absurd b
-one_op_limit code m t limits _ _ _ a b = absurd a
+one_op_limit : {S : Type 0} (code : Code S) (m : Machine S) (t : ℕ) (l : S) (limits : Limits) (op : Op) (a b : Limit) → OpMeets code m t l limits op a → OpMeets code m t l limits op b → b ≡ a
+one_op_limit code m t l limits (New c n) Heap Heap a b = refl
+one_op_limit code m t l limits (New c n) Heap _ a b = absurd b
+one_op_limit code m t l limits (Start r p) Threads Threads a b = refl
+one_op_limit code m t l limits (Start r p) Threads _ a b = absurd b
+one_op_limit code m t l limits (Enter r) Depth Depth a b = refl
+one_op_limit code m t l limits (Enter r) Depth _ a b = absurd b
+one_op_limit code m t l limits _ _ _ a b = absurd a
 
 one_limit : {S : Type 0} (code : Code S) (m : Machine S) (t : ℕ) (limits : Limits) (a b : Limit) → Meets code m t limits a → Meets code m t limits b → b ≡ a
 one_limit code m t limits a b meets_a meets_b = elim (which_limit code m t limits a meets_a) [
@@ -297,8 +297,11 @@ one_limit code m t limits a b meets_a meets_b = elim (which_limit code m t limit
   | inr at_a ↦ elim (which_limit code m t limits b meets_b) [
     | inl (is_b, many_b) ↦ absurd (silent_or_wish code m t many_b.place at_a.place at_a.op (frames_stand code m t many_b) (limit_stands code m t limits a at_a))
     | inr at_b ↦
-        let same = one_wish code m t at_a.place at_b.place at_a.op at_b.op (limit_stands code m t limits a at_a) (limit_stands code m t limits b at_b) in
-        one_op_limit code m t limits at_a.op a b at_a.meets (subst (λ op. OpMeets code m t limits op b) same at_b.meets)
+        let stands = limit_stands code m t limits a at_a in
+        let other = limit_stands code m t limits b at_b in
+        let place = (one_place code m t at_a.place at_b.place (Want at_a.op) (Want at_b.op) stands other).0 in
+        let same = one_wish code m t at_a.place at_b.place at_a.op at_b.op stands other in
+        one_op_limit code m t at_a.place limits at_a.op a b at_a.meets (subst (λ l. OpMeets code m t l limits at_a.op b) place (subst (λ op. OpMeets code m t at_b.place limits op b) same at_b.meets))
   ]
 ]
 
@@ -330,10 +333,14 @@ step_waits code m new t limits e a b =
 step_over : {S : Type 0} (code : Code S) (m new : Machine S) (t : ℕ) (limits : Limits) (e : Event) → IsAnswered code m t limits e new → IsOver code m t → ⊥
 step_over code m new t limits e a = over_no_more code m t a.place (Want e.op) (λ h. cc) (answered_stands code m new t limits e a)
 
-wish_spent : {S : Type 0} (code : Code S) (m : Machine S) (t : ℕ) (limits : Limits) (l : S) (op : Op) (limit : Limit) → Stands code m t l (Want op) → ((x : Limit) → OpMeets code m t limits op x → ⊥) → Meets code m t limits limit → ⊥
+wish_spent : {S : Type 0} (code : Code S) (m : Machine S) (t : ℕ) (limits : Limits) (l : S) (op : Op) (limit : Limit) → Stands code m t l (Want op) → ((x : Limit) → OpMeets code m t l limits op x → ⊥) → Meets code m t limits limit → ⊥
 wish_spent code m t limits l op limit stands within b = elim (which_limit code m t limits limit b) [
   | inl (is, many) ↦ silent_or_wish code m t many.place l op (frames_stand code m t many) stands
-  | inr at ↦ let same = one_wish code m t l at.place op at.op stands (limit_stands code m t limits limit at) in within limit (subst (λ o. OpMeets code m t limits o limit) same at.meets)
+  | inr at ↦
+      let other = limit_stands code m t limits limit at in
+      let place = (one_place code m t l at.place (Want op) (Want at.op) stands other).0 in
+      let same = one_wish code m t l at.place op at.op stands other in
+      within limit (subst (λ k. OpMeets code m t k limits op limit) place (subst (λ o. OpMeets code m t at.place limits o limit) same at.meets))
 ]
 
 waits_over : {S : Type 0} (code : Code S) (m : Machine S) (t : ℕ) (limits : Limits) → IsWaiting code m t limits → IsOver code m t → ⊥
@@ -359,8 +366,8 @@ same_reply code m new last t limits e f a b =
     let (place, goes) = one_place code m t a.place b.place (Want e.op) (Want f.op) stands (answered_stands code m last t limits f b) in
     let op : f.op ≡ e.op = one_wish code m t a.place b.place e.op f.op stands (answered_stands code m last t limits f b) in
     let may = subst (λ o. MayAnswer m.now t o f.reply) op b.step.answered in
-    let low = subst (λ o. IsLowest m o f.reply) op b.lowest in
-    let reply = one_reply m t e.op e.reply f.reply a.step.answered may a.lowest low in
+    let low = subst (λ o. IsChosen m o f.reply) op b.chosen in
+    let reply = one_reply m t e.op e.reply f.reply a.step.answered may a.chosen low in
     let thread : f.thread ≡ e.thread = b.mine ∙ sym a.mine in
     let silent : f.silent ≡ e.silent = b.silent ∙ sym a.silent in (
       (λ i. record { thread = thread i; silent = silent i; op = op i; reply = reply i }),
@@ -371,25 +378,36 @@ pub one_answer : {S : Type 0} (code : Code S) → AdvancesHaveOneAnswer code
 one_answer code m new last t limits Silent Silent a b = (refl, same_silent code m new last t a b)
 one_answer code m new last t limits Silent (Step e) a b = absurd (silent_step code m new last t limits e a b)
 one_answer code m new last t limits Silent Waits a b = absurd (silent_waits code m new t limits a b.0)
-one_answer code m new last t limits Silent Ended a b = absurd (silent_over code m new t a b.0)
+one_answer code m new last t limits Silent Ended a b = absurd (silent_over code m new t a (inl b.0))
+one_answer code m new last t limits Silent Halts a b = absurd (silent_over code m new t a (inr b.0))
 one_answer code m new last t limits Silent (Spent limit) a b = absurd (silent_spent code m new t limits limit a b.0)
 one_answer code m new last t limits (Step e) Silent a b = absurd (silent_step code m last new t limits e b a)
 one_answer code m new last t limits (Step e) (Step f) a b = let (event, machine) = same_reply code m new last t limits e f a b in (ap Step event, machine)
 one_answer code m new last t limits (Step e) Waits a b = absurd (step_waits code m new t limits e a b.0)
-one_answer code m new last t limits (Step e) Ended a b = absurd (step_over code m new t limits e a b.0)
+one_answer code m new last t limits (Step e) Ended a b = absurd (step_over code m new t limits e a (inl b.0))
+one_answer code m new last t limits (Step e) Halts a b = absurd (step_over code m new t limits e a (inr b.0))
 one_answer code m new last t limits (Step e) (Spent limit) a b = absurd (wish_spent code m t limits a.place e.op limit (answered_stands code m new t limits e a) a.within b.0)
 one_answer code m new last t limits Waits Silent a b = absurd (silent_waits code m last t limits b a.0)
 one_answer code m new last t limits Waits (Step e) a b = absurd (step_waits code m last t limits e b a.0)
 one_answer code m new last t limits Waits Waits a b = (refl, b.1 ∙ sym a.1)
-one_answer code m new last t limits Waits Ended a b = absurd (waits_over code m t limits a.0 b.0)
+one_answer code m new last t limits Waits Ended a b = absurd (waits_over code m t limits a.0 (inl b.0))
+one_answer code m new last t limits Waits Halts a b = absurd (waits_over code m t limits a.0 (inr b.0))
 one_answer code m new last t limits Waits (Spent limit) a b = absurd (wish_spent code m t limits a.0.place a.0.op limit (waiting_stands code m t limits a.0) a.0.within b.0)
-one_answer code m new last t limits Ended Silent a b = absurd (silent_over code m last t b a.0)
-one_answer code m new last t limits Ended (Step e) a b = absurd (step_over code m last t limits e b a.0)
-one_answer code m new last t limits Ended Waits a b = absurd (waits_over code m t limits b.0 a.0)
+one_answer code m new last t limits Ended Silent a b = absurd (silent_over code m last t b (inl a.0))
+one_answer code m new last t limits Halts Silent a b = absurd (silent_over code m last t b (inr a.0))
+one_answer code m new last t limits Ended (Step e) a b = absurd (step_over code m last t limits e b (inl a.0))
+one_answer code m new last t limits Halts (Step e) a b = absurd (step_over code m last t limits e b (inr a.0))
+one_answer code m new last t limits Ended Waits a b = absurd (waits_over code m t limits b.0 (inl a.0))
+one_answer code m new last t limits Halts Waits a b = absurd (waits_over code m t limits b.0 (inr a.0))
 one_answer code m new last t limits Ended Ended a b = (refl, b.1 ∙ sym a.1)
-one_answer code m new last t limits Ended (Spent limit) a b = absurd (over_spent code m t limits limit a.0 b.0)
+one_answer code m new last t limits Halts Halts a b = (refl, b.1 ∙ sym a.1)
+one_answer code m new last t limits Halts Ended a b = absurd (subst HasEnded a.0.begun b.0)
+one_answer code m new last t limits Ended Halts a b = absurd (subst HasEnded b.0.begun a.0)
+one_answer code m new last t limits Ended (Spent limit) a b = absurd (over_spent code m t limits limit (inl a.0) b.0)
+one_answer code m new last t limits Halts (Spent limit) a b = absurd (over_spent code m t limits limit (inr a.0) b.0)
 one_answer code m new last t limits (Spent limit) Silent a b = absurd (silent_spent code m last t limits limit b a.0)
 one_answer code m new last t limits (Spent limit) (Step e) a b = absurd (wish_spent code m t limits b.place e.op limit (answered_stands code m last t limits e b) b.within a.0)
 one_answer code m new last t limits (Spent limit) Waits a b = absurd (wish_spent code m t limits b.0.place b.0.op limit (waiting_stands code m t limits b.0) b.0.within a.0)
-one_answer code m new last t limits (Spent limit) Ended a b = absurd (over_spent code m t limits limit b.0 a.0)
+one_answer code m new last t limits (Spent limit) Ended a b = absurd (over_spent code m t limits limit (inl b.0) a.0)
+one_answer code m new last t limits (Spent limit) Halts a b = absurd (over_spent code m t limits limit (inr b.0) a.0)
 one_answer code m new last t limits (Spent limit) (Spent other) a b = (ap Spent (one_limit code m t limits limit other a.0 b.0), b.1 ∙ sym a.1)

@@ -1,12 +1,16 @@
 -- Replayed events are executions.
 use Rattle.std.proofs.Math.Seq.{take-suc, take-length}
-use Rattle.std.proofs.Common.{◌≡◌, ℕ, ◌+◌, ◌<◌, ◌≤◌, List, [], ◌∷◌, ◌++◌, length, take, get_or, add-one, arith, map, refl, sym, ◌∙◌, ap, subst}
+use Rattle.std.proofs.Common.{◌≡◌, ℕ, ◌+◌, ◌<◌, ◌≤◌, List, [], ◌∷◌, ◌++◌, length, take, get_or, add-one, arith, map, Some, refl, sym, ◌∙◌, ap, subst}
 use Rattle.op_core.specs.declared.Event.{Event}
-use Rattle.op_core.specs.ThreadCode.{Code}
+use Rattle.op_core.specs.declared.Op.{Op}
+use Rattle.op_core.specs.ThreadCode.{Code, quiet_steps}
+use Rattle.op_core.specs.OrdinaryState.{live}
+use Rattle.op_core.specs.OrdinaryStep.{CanStep, MayAnswer}
 use Rattle.op_core.specs.Execution.{Leads}
 use Rattle.op_core.proofs.ExecutionLemmas.{lines}
-use Rattle.ordinary_machine.specs.Machine.{Machine}
-use Rattle.ordinary_machine.specs.Step.{event_without_line, IsStepTo, Replays, IsReplayed}
+use Rattle.ordinary_machine.specs.Machine.{Machine, moved, Wants}
+use Rattle.ordinary_machine.specs.Laws.{ExecutionsAreReplayed}
+use Rattle.ordinary_machine.specs.Step.{event_without_line, IsNext, IsStepTo, Replays, IsReplayed}
 
 -- one step more
 pub replays_on : {S : Type 0} (code : Code S) (m middle last : Machine S) (es : List Event) (e : Event) → Replays code m es middle → IsStepTo code middle e last → Replays code m (es ++ e ∷ []) last
@@ -40,3 +44,38 @@ replayed_whole code m last es n below above replays =
     let all : n ≡ length es = omega (arith, below, above) in
     let whole : take n es ≡ es = ap (λ k. take k es) all ∙ take-length es in
     replayed code m last es (subst (λ xs. Replays code m xs last) whole replays)
+
+-- an event with no silent steps comes where its thread stands
+pub stands_there : {S : Type 0} (code : Code S) (m : Machine S) (e : Event) (l : S) (op : Op) → e.silent ≡ 0 → IsNext code m.now e l op → m.now.threads e.thread ≡ live l
+stands_there {S} code m e l op none next =
+    let here : Some next.from ≡ Some l = subst (λ n. quiet_steps code n next.from ≡ Some l) none next.quiet in
+    let same : next.from ≡ l = cc in next.begun ∙ ap live same
+
+pub wants_there : {S : Type 0} (code : Code S) (m : Machine S) (e : Event) (op : Op) → e.silent ≡ 0 → (l : S) × IsNext code m.now e l op → Wants code m e.thread op
+wants_there {S} code m e op none (l, next) = record { place = l; begun = stands_there code m e l op none next; wanted = next.wanted }
+
+pub stepped_there : {S : Type 0} (code : Code S) (m new : Machine S) (e : Event) (op : Op) → e.silent ≡ 0 → (l : S) × IsNext code m.now e l op
+    → CanStep m.now e.thread op → MayAnswer m.now e.thread op e.reply → ((l : S) → m.now.threads e.thread ≡ live l → new ≡ moved code m e.thread l op e.reply) → IsStepTo code m e new
+stepped_there {S} code m new e op none (l, next) can answered made = record {
+  place = l;
+  op = op;
+  next = next;
+  can = can;
+  answered = answered;
+  leads = made l (stands_there code m e l op none next);
+}
+
+-- an execution is replayed
+pub executions_replayed : {S : Type 0} (code : Code S) → ExecutionsAreReplayed code
+executions_replayed code m [] last same = (m, refl, same)
+executions_replayed {S} code m (e ∷ es) last (l, comes, leads) =
+    let next : Machine S = moved code m e.thread l e.op e.reply in
+    let (new, replays, same) = executions_replayed code next es last leads in
+    let step : IsStepTo code m e next = record {
+      place = l;
+      op = e.op;
+      next = record { from = comes.from; begun = comes.begun; quiet = comes.quiet; wanted = comes.step.wanted; same = refl };
+      can = comes.step.can;
+      answered = comes.step.answered;
+      leads = refl;
+    } in (new, (next, step, replays), same)

@@ -14,13 +14,13 @@ use Rattle.op_core.specs.Execution.{Comes, Leads}
 use Rattle.op_core.proofs.ExecutionLemmas.{lines}
 use Rattle.op_core.proofs.PointwiseLemmas.{same_or_other, set_at-hit, set_at-other}
 use Rattle.ordinary_machine.specs.declared.advance.Advance.{Advance}
-use Rattle.ordinary_machine.specs.declared.advance.Advance.TheVariants.{Silent, Step, Waits, Ended, Spent}
+use Rattle.ordinary_machine.specs.declared.advance.Advance.TheVariants.{Silent, Step, Waits, Halts, Ended, Spent}
 use Rattle.ordinary_machine.specs.Machine.{Machine, silents_after, moved}
 use Rattle.ordinary_machine.specs.Advance.{IsSilentTo, IsAnswered, Advances}
 use Rattle.ordinary_machine.specs.Laws.{Call, Runs, event_of, events_of, StandsFurther, IsFurther, AdvancesAreExecutions}
 
 -- where a thread that stands further stood
-further_from : {S : Type 0} (code : Code S) (thread : Thread S) (n : ℕ) (l : S) → StandsFurther code thread n (live l)
+pub further_from : {S : Type 0} (code : Code S) (thread : Thread S) (n : ℕ) (l : S) → StandsFurther code thread n (live l)
     → (from : S) × (thread ≡ live from) × (quiet_steps code n from ≡ Some l)
 further_from code (live from) n l h = (from, refl, h)
 further_from code unused n l h = absurd h
@@ -125,6 +125,7 @@ one_call code s m next t limits (Step e) further answered =
     let (l, comes, beyond) = answered_comes code s m next t limits e further answered in
     record { state = after code s e.thread l e.op e.reply; further = beyond; leads = λ later last leads. (l, comes, leads) }
 one_call code s m next t limits Waits further (waits, same) = record { state = s; further = subst (IsFurther code s) (sym same) further; leads = λ later last leads. leads }
+one_call code s m next t limits Halts further (halted, same) = record { state = s; further = subst (IsFurther code s) (sym same) further; leads = λ later last leads. leads }
 one_call code s m next t limits Ended further (over, same) = record { state = s; further = subst (IsFurther code s) (sym same) further; leads = λ later last leads. leads }
 one_call code s m next t limits (Spent limit) further (spent, same) = record { state = s; further = subst (IsFurther code s) (sym same) further; leads = λ later last leads. leads }
 

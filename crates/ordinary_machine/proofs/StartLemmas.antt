@@ -13,10 +13,13 @@ use Rattle.machine_tables.specs.declared.threads.WaitState.TheVariants.{Awake}
 use Rattle.machine_tables.specs.declared.threads.Standing.TheVariants.{Live}
 use Rattle.machine_tables.specs.declared.threads.Seat.{Seat}
 use Rattle.ordinary_machine.specs.declared.ordinary.Ordinary.{Ordinary}
-use Rattle.ordinary_machine.specs.declared.start.FixedObject.{FixedObject}
+use Rattle.fixed_objects.specs.declared.FixedObject.{FixedObject}
 use Rattle.machine_tables.specs.Tables.{header_of, monitor_in, started_in, word_in, objects_in, words_in, monitors_in, starts_in, classes_in, object_at, seat_at}
 use Rattle.ordinary_machine.specs.Machine.{machine_of}
-use Rattle.ordinary_machine.specs.Start.{fixed_at, fixed_header, fixed_word, heap_object, class_at_start, start_of}
+use Rattle.fixed_objects.specs.declared.Opening.{Opening}
+use Rattle.fixed_objects.specs.Fixed.{fixed_at, fixed_header, fixed_word, fixed_start}
+use Rattle.fixed_objects.specs.Opening.{class_at_start}
+use Rattle.ordinary_machine.specs.Start.{heap_object, start_of}
 use Rattle.ordinary_machine.proofs.ChangeLemmas.{Parts, ThreadParts, thread_begun}
 
 cond-ap : {A B : Type 0} (P : A → B) (b : Bool) (x y : A) → P (cond b x y) ≡ cond b (P x) (P y)
@@ -72,12 +75,12 @@ monitor-fixed : (o : Option FixedObject) → monitor_in (option_map heap_object 
 monitor-fixed None = refl
 monitor-fixed (Some o) = refl
 
-started-fixed : (o : Option FixedObject) → ◌≡◌ {A = ℕ} (started_in (option_map heap_object o)) 0
+started-fixed : (o : Option FixedObject) → started_in (option_map heap_object o) ≡ fixed_start o
 started-fixed None = refl
 started-fixed (Some o) = refl
 
 fixed_parts : (objects : List FixedObject) (f : ℕ → Option HeapObject) → f ≡ (λ r. option_map heap_object (fixed_at objects r))
-    → Parts f (λ r. option_map fixed_header (fixed_at objects r)) (λ r. fixed_word (fixed_at objects r)) (λ _. free) (λ _. 0)
+    → Parts f (λ r. option_map fixed_header (fixed_at objects r)) (λ r. fixed_word (fixed_at objects r)) (λ _. free) (λ r. fixed_start (fixed_at objects r))
 fixed_parts objects f is = record {
   objects = ap objects_in is ∙ fun_ext (λ r. header-fixed (fixed_at objects r));
   words = ap words_in is ∙ fun_ext (λ r. word-fixed (fixed_at objects r));
@@ -94,13 +97,13 @@ one_thread {C} {S} state f code is =
     let parts = thread_begun state none f 1 code refl is in
     record { threads = parts.threads; waiting = parts.waiting; silents = parts.silents ∙ set_at-same (λ _. 0) 1 0 refl }
 
-pub started : {C S : Type 0} (state : C → S) (m : Ordinary C) (objects : List FixedObject) (classes : List ℕ) (code : C)
-    → object_at m.objects ≡ (λ r. option_map heap_object (fixed_at objects r)) → classes_in m.classes ≡ class_at_start classes
+pub started : {C S : Type 0} (state : C → S) (m : Ordinary C) (opening : Opening) (code : C)
+    → object_at m.objects ≡ (λ r. option_map heap_object (fixed_at opening.objects r)) → classes_in m.classes ≡ class_at_start opening.ready
     → seat_at m.threads ≡ set_at (λ _. None) 1 (Some (record { standing = Live code; waiting = Awake; silent = 0 }))
-    → m.lines ≡ [] → m.taken ≡ 0
-    → machine_of state m ≡ start_of objects classes m.first (state code)
-started state m objects classes code fixed ready_ones thread lines taken =
-    let parts = fixed_parts objects (object_at m.objects) fixed in
+    → m.lines ≡ [] → m.first ≡ opening.first → m.taken ≡ 0
+    → machine_of state m ≡ start_of opening (state code)
+started state m opening code fixed ready_ones thread lines first taken =
+    let parts = fixed_parts opening.objects (object_at m.objects) fixed in
     let threads = one_thread state (seat_at m.threads) code thread in
     λ i. record {
       now = record {
@@ -114,6 +117,6 @@ started state m objects classes code fixed ready_ones thread lines taken =
         lines = lines i;
       };
       silents = threads.silents i;
-      first = m.first;
+      first = first i;
       taken = taken i;
     }

@@ -14,28 +14,28 @@ use Rattle.op_core.specs.ThreadCode.{Code, quiet_step}
 use Rattle.op_core.specs.OrdinaryState.{IsThere, IsOwner, count_of, live, HasEnded}
 use Rattle.op_core.specs.OrdinaryStep.{CanStep, IsFreeNumber, IsFreeReference, IsStep}
 use Rattle.ordinary_machine.specs.declared.advance.Advance.{Advance}
-use Rattle.ordinary_machine.specs.declared.advance.Advance.TheVariants.{Silent, Step, Waits, Ended, Spent}
+use Rattle.ordinary_machine.specs.declared.advance.Advance.TheVariants.{Silent, Step, Waits, Halts, Ended, Spent}
 use Rattle.ordinary_machine.specs.Machine.{Machine, moved, with_thread_at, HasBegun}
 
 -- the object is there and has started no thread, and all thread numbers have been drawn
 abbrev pub IsOutOfNumbers : {S : Type 0} → Machine S → ℕ → Type 0
 IsOutOfNumbers m r = IsThere m.now.objects r × (m.now.starts r ≡ 0) × ((n : ℕ) → IsFreeNumber m.now.threads n → ⊥)
 
--- the operation meets the limit of the heap, of thread numbers, or of a monitor's depth
-abbrev pub OpMeets : {S : Type 0} → Code S → Machine S → ℕ → Limits → Op → Limit → Type 0
-OpMeets code m t limits (New c n) Heap = limits.heap < m.taken + (2 + code.words c n)
-OpMeets code m t limits (Start r p) Threads = IsOutOfNumbers m r
-OpMeets code m t limits (Enter r) Depth = IsOwner t (m.now.monitors r) × (65535 ≤ count_of (m.now.monitors r))
-OpMeets _ _ _ _ _ _ = ⊥
+-- the operation, wanted at the local state l, meets the limit of the heap, of thread numbers, or of a monitor's depth
+abbrev pub OpMeets : {S : Type 0} → Code S → Machine S → ℕ → S → Limits → Op → Limit → Type 0
+OpMeets code m t l limits (New c n) Heap = limits.heap < m.taken + (2 + code.words l c n)
+OpMeets code m t l limits (Start r p) Threads = IsOutOfNumbers m r
+OpMeets code m t l limits (Enter r) Depth = IsOwner t (m.now.monitors r) × (65535 ≤ count_of (m.now.monitors r))
+OpMeets _ _ _ _ _ _ _ = ⊥
 
--- of the answers that the definition leaves open, the lowest: a new object's reference is the first
--- one and all words taken so far, a new thread's number is the lowest free one
-abbrev pub IsLowest : {S : Type 0} → Machine S → Op → Reply → Type 0
-IsLowest m (New c n) (Made r) = r ≡ m.first + m.taken
-IsLowest m (Start r p) (Number n) = (k : ℕ) → IsFreeNumber m.now.threads k → n ≤ k
-IsLowest _ _ _ = Unit {0}
+-- of the answers that the definition leaves open, the one that is given: a new object's reference is the
+-- first one and all words taken since, a new thread's number is the lowest free one
+abbrev pub IsChosen : {S : Type 0} → Machine S → Op → Reply → Type 0
+IsChosen m (New c n) (Made r) = r ≡ m.first + m.taken
+IsChosen m (Start r p) (Number n) = (k : ℕ) → IsFreeNumber m.now.threads k → n ≤ k
+IsChosen _ _ _ = Unit {0}
 
--- no new object can have the lowest reference
+-- no new object can have that reference
 abbrev pub LacksReference : {S : Type 0} → Machine S → Op → Type 0
 LacksReference m (New c n) = IsFreeReference m.now.objects (m.first + m.taken) → ⊥
 LacksReference _ _ = ⊥
@@ -55,8 +55,8 @@ pub record IsAnswered {S : Type 0} (code : Code S) (m : Machine S) (t : ℕ) (li
   pub mine : e.thread ≡ t
   pub silent : e.silent ≡ m.silents t
   pub step : IsStep code m.now t place e.op e.reply
-  pub lowest : IsLowest m e.op e.reply
-  pub within : (limit : Limit) → OpMeets code m t limits e.op limit → ⊥
+  pub chosen : IsChosen m e.op e.reply
+  pub within : (limit : Limit) → OpMeets code m t place limits e.op limit → ⊥
   pub leads : new ≡ moved code m t place e.op e.reply
 
 -- the wanted operation has no step, for another cause than the number of threads
@@ -66,11 +66,16 @@ pub record IsWaiting {S : Type 0} (code : Code S) (m : Machine S) (t : ℕ) (lim
   pub begun : m.now.threads t ≡ live place
   pub wanted : code.next place ≡ Want op
   pub cannot : CanStep m.now t op → ⊥
-  pub within : (limit : Limit) → OpMeets code m t limits op limit → ⊥
+  pub within : (limit : Limit) → OpMeets code m t place limits op limit → ⊥
 
--- the thread has ended, or its code has come to its end
+-- the thread hasn't ended, and its code is at its end
+pub record HasHalted {S : Type 0} (code : Code S) (m : Machine S) (t : ℕ) : Type 0 where
+  pub place : S
+  pub begun : m.now.threads t ≡ live place
+  pub over : code.next place ≡ next.Ended
+
 abbrev pub IsOver : {S : Type 0} → Code S → Machine S → ℕ → Type 0
-IsOver {S} code m t = HasEnded (m.now.threads t) ⊎ ((l : S) × (m.now.threads t ≡ live l) × (code.next l ≡ next.Ended))
+IsOver code m t = HasEnded (m.now.threads t) ⊎ HasHalted code m t
 
 -- the silent step that comes next would make a 1,025th frame
 pub record IsOutOfFrames {S : Type 0} (code : Code S) (m : Machine S) (t : ℕ) : Type 0 where
@@ -85,7 +90,7 @@ pub record IsAtLimit {S : Type 0} (code : Code S) (m : Machine S) (t : ℕ) (lim
   pub op : Op
   pub begun : m.now.threads t ≡ live place
   pub wanted : code.next place ≡ Want op
-  pub meets : OpMeets code m t limits op limit
+  pub meets : OpMeets code m t place limits op limit
 
 abbrev pub Meets : {S : Type 0} → Code S → Machine S → ℕ → Limits → Limit → Type 0
 Meets code m t limits Frames = IsOutOfFrames code m t
@@ -96,11 +101,12 @@ abbrev pub Advances : {S : Type 0} → Code S → Machine S → ℕ → Limits �
 Advances code m t limits Silent new = IsSilentTo code m t new
 Advances code m t limits (Step e) new = IsAnswered code m t limits e new
 Advances code m t limits Waits new = IsWaiting code m t limits × (new ≡ m)
-Advances code m t limits Ended new = IsOver code m t × (new ≡ m)
+Advances code m t limits Halts new = HasHalted code m t × (new ≡ m)
+Advances code m t limits Ended new = HasEnded (m.now.threads t) × (new ≡ m)
 Advances code m t limits (Spent limit) new = Meets code m t limits limit × (new ≡ m)
 
--- the thread has begun, and whatever the limits are, neither Waits nor Ended comes for it
-pub record IsEnabled {S : Type 0} (code : Code S) (m : Machine S) (t : ℕ) : Type 0 where
+-- the thread has begun, and whatever the limits are, neither Waits nor Halts nor Ended comes for it
+pub record MayAdvance {S : Type 0} (code : Code S) (m : Machine S) (t : ℕ) : Type 0 where
   pub begun : HasBegun (m.now.threads t)
   pub goes_on : (limits : Limits) → IsWaiting code m t limits → ⊥
   pub more : IsOver code m t → ⊥

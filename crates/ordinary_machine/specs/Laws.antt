@@ -1,17 +1,21 @@
 -- What is proved of the definitions, for all thread codes.
-use Rattle.std.specs.Prelude.{◌≡◌, ◌≢◌, ℕ, Some, List, [], ◌∷◌, ◌++◌}
+use Rattle.std.specs.Prelude.{◌≡◌, ◌≢◌, ◌≤◌, ◌+◌, ◌^◌, ℕ, zero, suc, Some, List, [], ◌∷◌, ◌++◌}
+use Rattle.op_core.specs.declared.Op.TheVariants.{New}
 use Rattle.op_core.specs.declared.Event.{Event}
 use Rattle.op_core.specs.declared.Limits.{Limits}
 use Rattle.op_core.specs.ThreadCode.{Code, quiet_steps}
 use Rattle.op_core.specs.OrdinaryState.{Thread, unused, live, ended, OrdinaryState}
-use Rattle.op_core.specs.Execution.{Leads, printed}
+use Rattle.op_core.specs.Execution.{Leads, printed, EndsStuck}
+use Rattle.fixed_objects.specs.declared.Opening.{Opening}
+use Rattle.fixed_objects.specs.Opening.{LiesBelowFirst}
 use Rattle.ordinary_machine.specs.declared.advance.Advance.{Advance}
-use Rattle.ordinary_machine.specs.declared.advance.Advance.TheVariants.{Silent, Step, Waits, Ended, Spent}
+use Rattle.ordinary_machine.specs.declared.advance.Advance.TheVariants.{Silent, Step, Waits, Halts, Ended, Spent}
 use Rattle.ordinary_machine.specs.declared.step.StepRefusal.{StepRefusal}
 use Rattle.ordinary_machine.specs.declared.step.StepRefusal.TheVariants.{NoMemory}
-use Rattle.ordinary_machine.specs.Machine.{Machine}
-use Rattle.ordinary_machine.specs.Step.{IsStepTo, Refuses, Replays, IsReplayed}
-use Rattle.ordinary_machine.specs.Advance.{Advances}
+use Rattle.ordinary_machine.specs.Machine.{Machine, RunsSilently}
+use Rattle.ordinary_machine.specs.Start.{start_of}
+use Rattle.ordinary_machine.specs.Step.{IsLive, IsStepTo, Refuses, Replays, IsReplayed}
+use Rattle.ordinary_machine.specs.Advance.{Advances, LacksReference, HasHalted, MayAdvance}
 
 -- at most one thing comes of an event, besides want of memory: a step that leads to one machine, or
 -- one cause of refusal
@@ -47,6 +51,7 @@ abbrev pub event_of : Advance → List Event
 event_of (Step e) = e ∷ []
 event_of Silent = []
 event_of Waits = []
+event_of Halts = []
 event_of Ended = []
 event_of (Spent limit) = []
 
@@ -78,3 +83,34 @@ pub record IsExecuted {S : Type 0} (code : Code S) (m : Machine S) (calls : List
 abbrev pub AdvancesAreExecutions : {S : Type 0} → Code S → Type 0
 AdvancesAreExecutions {S} code = (m last : Machine S) (calls : List Call)
     → m.silents ≡ (λ _. 0) → Runs code m calls last → IsExecuted code m calls last
+
+-- n calls of `advance` that answer Silent
+abbrev pub silent_calls : ℕ → Limits → ℕ → List Call
+silent_calls t limits zero = []
+silent_calls t limits (suc n) = silent_calls t limits n ++ record { thread = t; limits = limits; answer = Silent } ∷ []
+
+-- a run of n silent steps is n answers Silent of `advance`
+abbrev pub RunsAreAdvances : {S : Type 0} → Code S → Type 0
+RunsAreAdvances {S} code = (m new : Machine S) (t n : ℕ) (limits : Limits) → RunsSilently code m t n new → Runs code m (silent_calls t limits n) new
+
+-- each execution from the machine's state is replayed, to its last state
+abbrev pub ExecutionsAreReplayed : {S : Type 0} → Code S → Type 0
+ExecutionsAreReplayed {S} code = (m : Machine S) (es : List Event) (last : OrdinaryState S) → Leads code m.now es last
+    → (new : Machine S) × Replays code m es new × (new.now ≡ last)
+
+-- some thread hasn't ended, none may advance, and none is at its code's end
+pub record IsStandstill {S : Type 0} (code : Code S) (m : Machine S) : Type 0 where
+  pub some_live : (t : ℕ) × IsLive m.now t
+  pub none_advances : (t : ℕ) → MayAdvance code m t → ⊥
+  pub none_halts : (t : ℕ) → HasHalted code m t → ⊥
+
+-- where calls from a machine that counts no silent steps come to a standstill, their events end stuck
+abbrev pub StandstillsAreStuck : {S : Type 0} → Code S → Type 0
+StandstillsAreStuck {S} code = (m last : Machine S) (calls : List Call)
+    → m.silents ≡ (λ _. 0) → Runs code m calls last → IsStandstill code last → EndsStuck code m.now (events_of calls)
+
+-- calls of `advance` from the start of a program on take no reference that the next new object is to have:
+-- it lacks one only past the last number
+abbrev pub ReferencesAreLeft : {S : Type 0} → Code S → Type 0
+ReferencesAreLeft {S} code = (opening : Opening) (l : S) (calls : List Call) (last : Machine S) → LiesBelowFirst opening
+    → Runs code (start_of opening l) calls last → (c n : ℕ) → LacksReference last (New c n) → 2 ^ 32 ≤ last.first + last.taken

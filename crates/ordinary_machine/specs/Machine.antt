@@ -1,11 +1,13 @@
 -- What the machine holds: the ordinary state, and what `advance` needs besides.
-use Rattle.std.specs.Prelude.{ℕ, ◌+◌, Some, [], ◌∷◌, ◌++◌}
+use Rattle.std.specs.Prelude.{◌≡◌, ℕ, zero, suc, ◌+◌, Some, [], ◌∷◌, ◌++◌}
 use Rattle.op_core.specs.declared.Line.{Line}
 use Rattle.op_core.specs.declared.Op.{Op}
 use Rattle.op_core.specs.declared.Op.TheVariants.{New, Start}
 use Rattle.op_core.specs.declared.Reply.{Reply}
 use Rattle.op_core.specs.declared.Reply.TheVariants.{Made, Number, Woken}
-use Rattle.op_core.specs.ThreadCode.{Code}
+use Rattle.op_core.specs.declared.Next.TheVariants.{Want}
+use Rattle.op_core.specs.ThreadCode.{Code, quiet_steps}
+use Rattle.op_core.specs.Replies.{FitsNext}
 use Rattle.op_core.specs.OrdinaryState.{set_at, free, Monitor, Waiting, ClassState, Thread, unused, live, ended, OrdinaryState}
 use Rattle.op_core.specs.OrdinaryStep.{objects_after, words_after, monitors_after, waiting_after, classes_after, starts_after, lines_after, after}
 use Rattle.ordinary_machine.specs.declared.ordinary.Ordinary.{Ordinary}
@@ -44,15 +46,15 @@ silents_after t (Start r p) (Number n) f = set_at (set_at f n 0) t 0
 silents_after t _ _ f = set_at f t 0
 
 -- a new object takes a header, a monitor and its words
-abbrev pub taken_after : {S : Type 0} → Code S → Op → Reply → ℕ → ℕ
-taken_after code (New c n) (Made r) taken = taken + (2 + code.words c n)
-taken_after code _ _ taken = taken
+abbrev pub taken_after : {S : Type 0} → Code S → S → Op → Reply → ℕ → ℕ
+taken_after code l (New c n) (Made r) taken = taken + (2 + code.words l c n)
+taken_after code l _ _ taken = taken
 
--- what thread t's operation changes of all that threads share
-abbrev pub shared_after : {S : Type 0} → Code S → Machine S → ℕ → Op → Reply → Machine S
-shared_after code m t op reply = record m {
+-- what thread t's operation, wanted at the local state l, changes of all that threads share
+abbrev pub shared_after : {S : Type 0} → Code S → Machine S → ℕ → S → Op → Reply → Machine S
+shared_after code m t l op reply = record m {
   now = record m.now {
-    objects = objects_after code op reply m.now.objects;
+    objects = objects_after code l op reply m.now.objects;
     words = words_after op reply m.now.words;
     monitors = monitors_after t op reply m.now.waiting m.now.monitors;
     waiting = waiting_after t op reply m.now.monitors m.now.waiting;
@@ -60,7 +62,7 @@ shared_after code m t op reply = record m {
     starts = starts_after op reply m.now.starts;
     lines = lines_after op reply m.now.lines;
   };
-  taken = taken_after code op reply m.taken;
+  taken = taken_after code l op reply m.taken;
 }
 
 -- the machine after thread t's operation, wanted at the local state l, was answered
@@ -69,7 +71,7 @@ moved code m t l op reply = record {
   now = after code m.now t l op reply;
   silents = silents_after t op reply m.silents;
   first = m.first;
-  taken = taken_after code op reply m.taken;
+  taken = taken_after code l op reply m.taken;
 }
 
 -- thread t at another place of its own, so many silent steps after its last event
@@ -107,6 +109,30 @@ with_class_at m c state = record m { now = record m.now { classes = set_at m.now
 
 abbrev pub with_line : {S : Type 0} → Machine S → Line → Machine S
 with_line m line = record m { now = record m.now { lines = m.now.lines ++ line ∷ [] } }
+
+-- the thread wants the operation
+pub record Wants {S : Type 0} (code : Code S) (m : Machine S) (t : ℕ) (op : Op) : Type 0 where
+  pub place : S
+  pub begun : m.now.threads t ≡ live place
+  pub wanted : code.next place ≡ Want op
+
+-- it wants one that the reply fits
+pub record Awaits {S : Type 0} (code : Code S) (m : Machine S) (t : ℕ) (reply : Reply) : Type 0 where
+  pub place : S
+  pub begun : m.now.threads t ≡ live place
+  pub fits : FitsNext (code.next place) reply
+
+-- the thread makes n silent steps, and nothing else happens
+pub record RunsTo {S : Type 0} (code : Code S) (m : Machine S) (t n : ℕ) (new : Machine S) : Type 0 where
+  pub from : S
+  pub behind : S
+  pub begun : m.now.threads t ≡ live from
+  pub quiet : quiet_steps code n from ≡ Some behind
+  pub leads : new ≡ with_thread_at m t (live behind) (m.silents t + n)
+
+abbrev pub RunsSilently : {S : Type 0} → Code S → Machine S → ℕ → ℕ → Machine S → Type 0
+RunsSilently code m t zero new = new ≡ m
+RunsSilently code m t (suc n) new = RunsTo code m t (suc n) new
 
 -- the thread has begun; it may have ended
 abbrev pub HasBegun : {S : Type 0} → Thread S → Type 0

@@ -1,5 +1,5 @@
 -- What the machine makes of an event of a journal.
-use Rattle.std.specs.Prelude.{◌≡◌, ℕ, Some, List, [], ◌∷◌, ◌++◌, map}
+use Rattle.std.specs.Prelude.{◌≡◌, ℕ, Some, IfSome, List, [], ◌∷◌, ◌++◌, map, take, slice_get}
 use Rattle.op_core.specs.declared.Line.TheVariants.{Empty}
 use Rattle.op_core.specs.declared.Op.{Op}
 use Rattle.op_core.specs.declared.Op.TheVariants.{Print}
@@ -72,6 +72,12 @@ Refuses code s e NoMemory = Unit {0}
 abbrev pub Replays : {S : Type 0} → Code S → Machine S → List Event → Machine S → Type 0
 Replays code m [] last = last ≡ m
 Replays {S} code m (e ∷ es) last = (next : Machine S) × IsStepTo code m e next × Replays code next es last
+
+-- so many events are steps one after another, and the next one is refused
+pub record IsRefusedAt {S : Type 0} (code : Code S) (m : Machine S) (es : List Event) (place : ℕ) (why : StepRefusal) : Type 0 where
+  pub middle : Machine S
+  pub before : Replays code m (take place es) middle
+  pub refused : IfSome (slice_get es place) (λ e. Refuses code middle.now e why)
 
 abbrev pub event_without_line : Event → Event
 event_without_line e = record e { op = without_line e.op }

@@ -1,9 +1,9 @@
-ghost use Rattle.std.specs.Prelude.{ℕ, ◌≡◌, ◌↔◌, ◌<◌, ◌≤◌, ◌+◌, IsTrue, IfOk, IfSome, IfNone, MatchOption, OnErr, OnOk, Some, suc};
+ghost use Rattle.std.specs.Prelude.{ℕ, ◌≡◌, ◌↔◌, ◌<◌, ◌≤◌, ◌+◌, IsTrue, IfOk, IfSome, IfNone, MatchOption, OnErr, OnOk, suc};
 ghost use Rattle.op_core.specs.OrdinaryState.{live, IsOwner, count_of};
 ghost use Rattle.op_core.specs.OrdinaryStep.{CanStep, MayAnswer, IsFreeNumber};
-ghost use Rattle.ordinary_machine.specs.Machine.{machine_of, moved, with_thread_at, HasBegun};
+ghost use Rattle.ordinary_machine.specs.Machine.{machine_of, moved, with_thread_at, HasBegun, Wants};
 ghost use Rattle.op_core.specs.declared.Limit.{Limit};
-ghost use Rattle.ordinary_machine.specs.Advance.{IsOutOfNumbers, OpMeets, IsLowest, Advances, IsEnabled, LacksNumber, LacksReference};
+ghost use Rattle.ordinary_machine.specs.Advance.{IsOutOfNumbers, OpMeets, IsChosen, Advances, MayAdvance, LacksNumber, LacksReference};
 
 use crate::Ordinary;
 use machine_tables::{ClassProgress, Standing};
@@ -18,6 +18,8 @@ pub enum Advance {
     Step(Event),
     /// What it wants has no step now.
     Waits,
+    /// Nothing: its code is at its end, and the thread hasn't ended.
+    Halts,
     /// It has ended.
     Ended,
     /// What it wants meets this limit.
@@ -25,7 +27,7 @@ pub enum Advance {
 }
 
 impl<C: ThreadCode + Drop> Ordinary<C> {
-    fn silent_steps(&self, thread: u8) -> u64
+    pub(crate) fn silent_steps(&self, thread: u8) -> u64
         ensures { result ≡ (machine_of C.state self.now).silents thread }
     {
         match self.threads.get(thread) {
@@ -64,9 +66,9 @@ impl<C: ThreadCode + Drop> Ordinary<C> {
         }
     }
 
-    /// Whether the thread has begun, and `advance` answers neither Waits nor Ended for it.
+    /// Whether the thread has begun, and `advance` answers neither Waits nor Halts nor Ended for it.
     pub fn is_enabled(&self, thread: u8) -> bool
-        ensures { IsTrue result ↔ IsEnabled C.code (machine_of C.state self.now) thread }
+        ensures { IsTrue result ↔ MayAdvance C.code (machine_of C.state self.now) thread }
     {
         let Some(code) = self.live(thread) else {
             return false;
@@ -79,14 +81,16 @@ impl<C: ThreadCode + Drop> Ordinary<C> {
     }
 
     // The limit that an operation meets.
-    fn limit_of(&self, thread: u8, code: &C, op: Op, limits: &Limits) -> Option<Limit>
-        ensures { MatchOption result
-            ((limit : Limit) → OpMeets C.code (machine_of C.state self.now) thread limits.now op limit → ⊥)
-            (λ limit. OpMeets C.code (machine_of C.state self.now) thread limits.now op limit) }
+    fn limit_of(&self, thread: u8, op: Op, limits: &Limits) -> Option<Limit>
+        ensures { (l : C.State) → (machine_of C.state self.now).now.threads thread ≡ live l → MatchOption result
+            ((limit : Limit) → OpMeets C.code (machine_of C.state self.now) thread l limits.now op limit → ⊥)
+            (λ limit. OpMeets C.code (machine_of C.state self.now) thread l limits.now op limit) }
     {
         match op {
-            Op::New(class, length) if self.is_out_of_heap(code.words(class, length), limits) =>
-                Some(Limit::Heap),
+            Op::New(class, length)
+                if self.is_out_of_heap(self.words_of(thread, class, length), limits) => Some(
+                Limit::Heap,
+            ),
             Op::Start(reference, _) if self.is_out_of_numbers(reference) => Some(Limit::Threads),
             Op::Enter(reference) if self.is_deep(thread, reference) => Some(Limit::Depth),
             _ => None,
@@ -115,7 +119,7 @@ impl<C: ThreadCode + Drop> Ordinary<C> {
     fn choose_object(&self, thread: u8, class: u32, length: u32) -> Option<Reply>
         ensures none { IfNone result (LacksReference (machine_of C.state self.now) (Op.New class length)) }
         ensures may { IfSome result (MayAnswer (machine_of C.state self.now).now thread (Op.New class length)) }
-        ensures lowest { IfSome result (IsLowest (machine_of C.state self.now) (Op.New class length)) }
+        ensures chosen { IfSome result (IsChosen (machine_of C.state self.now) (Op.New class length)) }
     {
         let reference = (self.first as u64).checked_add(self.taken)?;
         if reference == 0 || reference >= 0x1_0000_0000 {
@@ -131,7 +135,7 @@ impl<C: ThreadCode + Drop> Ordinary<C> {
     fn choose_start(&self, thread: u8, reference: u32, priority: u8) -> Reply
         requires { CanStep (machine_of C.state self.now).now thread (Op.Start reference priority) }
         ensures may { MayAnswer (machine_of C.state self.now).now thread (Op.Start reference priority) result }
-        ensures lowest { IsLowest (machine_of C.state self.now) (Op.Start reference priority) result }
+        ensures chosen { IsChosen (machine_of C.state self.now) (Op.Start reference priority) result }
     {
         if self.objects.started(reference) > 0 {
             Reply::Already
@@ -172,12 +176,12 @@ impl<C: ThreadCode + Drop> Ordinary<C> {
         }
     }
 
-    // What the operation answers, the lowest where there is a choice; `None` where no reference is left.
+    // What the operation answers, a fixed one where there is a choice; `None` where no reference is left.
     fn choose(&self, thread: u8, op: Op) -> Option<Reply>
         requires { CanStep (machine_of C.state self.now).now thread op }
         ensures none { IfNone result (LacksReference (machine_of C.state self.now) op) }
         ensures may { IfSome result (MayAnswer (machine_of C.state self.now).now thread op) }
-        ensures lowest { IfSome result (IsLowest (machine_of C.state self.now) op) }
+        ensures chosen { IfSome result (IsChosen (machine_of C.state self.now) op) }
     {
         match op {
             Op::ClassOf(reference) => Some(self.choose_class(thread, reference)),
@@ -210,22 +214,42 @@ impl<C: ThreadCode + Drop> Ordinary<C> {
         Ok(())
     }
 
-    // Makes the step of a thread that wants the operation at `code`.
-    fn answer(&mut self, thread: u8, code: C, op: Op) -> Result<Event, NoMemory>
-        requires begun { (machine_of C.state self.old).now.threads thread ≡ live (C.state code) }
-        requires wanted { C.code.next (C.state code) ≡ Next.Want op }
+    // The same on a copy, which tells why no step was made where it stands, and makes one that ends a frame
+    // that was on top at a save.
+    fn try_silent(&mut self, thread: u8, limits: &Limits) -> Result<Advance, NoMemory>
+        requires begun { HasBegun ((machine_of C.state self.old).now.threads thread) }
+        requires silent { (l : C.State) → (machine_of C.state self.old).now.threads thread ≡ live l → C.code.next l ≡ Next.Silent }
+        ensures ok { IfOk result (λ advance. Advances C.code (machine_of C.state self.old) thread limits.now advance (machine_of C.state self.new)) }
+        ensures err { OnErr result (machine_of C.state self.new ≡ machine_of C.state self.old) }
+    {
+        let Some(code) = self.live(thread) else {
+            return Ok(Advance::Ended);
+        };
+        match after_silent_steps(code, 1)? {
+            Some(code) => {
+                self.move_silently(thread, code)?;
+                Ok(Advance::Silent)
+            }
+            None => Ok(Advance::Spent(Limit::Frames)),
+        }
+    }
+
+    // Makes the step of a thread that wants the operation.
+    fn answer(&mut self, thread: u8, op: Op) -> Result<Event, NoMemory>
+        requires wants { Wants C.code (machine_of C.state self.old) thread op }
         requires can { CanStep (machine_of C.state self.old).now thread op }
         ensures event { IfOk result (λ e. (e.thread ≡ thread) × (e.silent ≡ (machine_of C.state self.old).silents thread) × (e.op ≡ op)) }
         ensures answered { IfOk result (λ e. MayAnswer (machine_of C.state self.old).now thread op e.reply) }
-        ensures lowest { IfOk result (λ e. IsLowest (machine_of C.state self.old) op e.reply) }
-        ensures leads { IfOk result (λ e. machine_of C.state self.new ≡ moved C.code (machine_of C.state self.old) thread (C.state code) op e.reply) }
+        ensures chosen { IfOk result (λ e. IsChosen (machine_of C.state self.old) op e.reply) }
+        ensures leads { IfOk result (λ e. (l : C.State) → (machine_of C.state self.old).now.threads thread ≡ live l
+            → machine_of C.state self.new ≡ moved C.code (machine_of C.state self.old) thread l op e.reply) }
         ensures err { OnErr result (machine_of C.state self.new ≡ machine_of C.state self.old) }
     {
         let silent = self.silent_steps(thread);
         let Some(reply) = self.choose(thread, op) else {
             return Err(NoMemory);
         };
-        self.make(thread, code, op, reply)?;
+        self.make(thread, op, reply)?;
         Ok(Event {
             thread,
             silent,
@@ -234,34 +258,27 @@ impl<C: ThreadCode + Drop> Ordinary<C> {
         })
     }
 
-    // What comes of the operation that a thread wants at `code`.
-    fn try_operation(
-        &mut self,
-        thread: u8,
-        code: C,
-        op: Op,
-        limits: &Limits,
-    ) -> Result<Advance, NoMemory>
-        requires begun { (machine_of C.state self.old).now.threads thread ≡ live (C.state code) }
-        requires wanted { C.code.next (C.state code) ≡ Next.Want op }
+    // What comes of the operation that a thread wants.
+    fn try_operation(&mut self, thread: u8, op: Op, limits: &Limits) -> Result<Advance, NoMemory>
+        requires { Wants C.code (machine_of C.state self.old) thread op }
         ensures ok { IfOk result (λ advance. Advances C.code (machine_of C.state self.old) thread limits.now advance (machine_of C.state self.new)) }
         ensures err { OnErr result (machine_of C.state self.new ≡ machine_of C.state self.old) }
     {
-        if let Some(limit) = self.limit_of(thread, &code, op, limits) {
+        if let Some(limit) = self.limit_of(thread, op, limits) {
             return Ok(Advance::Spent(limit));
         }
         if !self.can_step(thread, op) {
             return Ok(Advance::Waits);
         }
-        let event = self.answer(thread, code, op)?;
+        let event = self.answer(thread, op)?;
         Ok(Advance::Step(event))
     }
 
-    /// Makes the next step of a thread that has begun, where it has one: a silent step, or that of
-    /// the operation that it wants, with the lowest reference or number where there is a choice. The
-    /// event's silent number counts the Silent answers since the thread's last step. The machine is
-    /// as before after any other answer, and after an error, which also comes where a count has no
-    /// room for one more, and where no object can have the lowest reference.
+    /// Makes the next step of a thread that has begun, where it has one: a silent step, or that of the operation
+    /// that it wants. Where there is a choice, a new object's reference is the first one and all words taken
+    /// since, and a new thread's number the lowest. The event's silent number counts the Silent answers since
+    /// the thread's last step. The machine is as before after any other answer, and after an error, which also
+    /// comes where a count has no room for one more, and where no object can have that reference.
     pub fn advance(&mut self, thread: u8, limits: &Limits) -> Result<Advance, NoMemory>
         requires { HasBegun ((machine_of C.state self.old).now.threads thread) }
         ensures ok { IfOk result (λ advance. Advances C.code (machine_of C.state self.old) thread limits.now advance (machine_of C.state self.new)) }
@@ -271,18 +288,15 @@ impl<C: ThreadCode + Drop> Ordinary<C> {
             return Ok(Advance::Ended);
         };
         match code.next() {
-            Next::Silent => match after_silent_steps(code, 1)? {
-                Some(code) => {
-                    self.move_silently(thread, code)?;
+            Next::Silent => {
+                if self.run_silent(thread, 1) == 1 {
                     Ok(Advance::Silent)
+                } else {
+                    self.try_silent(thread, limits)
                 }
-                None => Ok(Advance::Spent(Limit::Frames)),
-            },
-            Next::Want(op) => {
-                let code = code.copy()?;
-                self.try_operation(thread, code, op, limits)
             }
-            Next::Ended => Ok(Advance::Ended),
+            Next::Want(op) => self.try_operation(thread, op, limits),
+            Next::Ended => Ok(Advance::Halts),
         }
     }
 }

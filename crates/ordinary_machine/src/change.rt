@@ -1,12 +1,12 @@
-ghost use Rattle.std.specs.Prelude.{◌≡◌, ◌<◌, OnOk, OnErr, IsNone, IfOk, ◌+◌};
+ghost use Rattle.std.specs.Prelude.{◌≡◌, ◌≤◌, OnOk, OnErr, IsNone, IfOk, IfSome, IfNone, ◌+◌};
 ghost use Rattle.op_core.specs.OrdinaryStep.{IsFreeNumber};
 ghost use Rattle.op_core.specs.OrdinaryState.{IsThere, HasWord, live};
-ghost use Rattle.machine_tables.specs.Tables.{seat_at, monitor_of, waiting_of, class_state_of, standing_of};
-ghost use Rattle.ordinary_machine.specs.Machine.{machine_of, with_new_object, with_word_at, with_monitor_at, with_started_at, with_waiting_at, with_class_at, with_line, with_thread_at, HasBegun};
+ghost use Rattle.machine_tables.specs.Tables.{monitor_of, waiting_of, class_state_of, standing_of};
+ghost use Rattle.ordinary_machine.specs.Machine.{machine_of, with_new_object, with_word_at, with_monitor_at, with_started_at, with_waiting_at, with_class_at, with_line, with_thread_at, HasBegun, Awaits, RunsSilently};
 
 use crate::Ordinary;
 use machine_tables::{ClassProgress, HeapObject, MonitorState, Seat, Standing, WaitState, Words};
-use op_core::{Line, NoMemory, ThreadCode};
+use op_core::{Line, NoMemory, Reply, ThreadCode};
 
 impl<C: ThreadCode + Drop> Ordinary<C> {
     pub(crate) fn put_monitor(&mut self, reference: u32, monitor: MonitorState)
@@ -42,6 +42,34 @@ impl<C: ThreadCode + Drop> Ordinary<C> {
         ensures { machine_of C.state self.new ≡ with_thread_at (machine_of C.state self.old) thread (standing_of C.state standing) silent }
     {
         self.threads.set_standing(thread, standing, silent);
+    }
+
+    // Lets a thread stand elsewhere, and gives where it stood.
+    pub(crate) fn swap_standing(&mut self, thread: u8, standing: Standing<C>) -> Option<Standing<C>>
+        ensures some { IfSome result (λ before. standing_of C.state before ≡ (machine_of C.state self.old).now.threads thread) }
+        ensures moved { IfSome result (λ _. machine_of C.state self.new ≡ with_thread_at (machine_of C.state self.old) thread (standing_of C.state standing) ((machine_of C.state self.old).silents thread)) }
+        ensures none { IfNone result (machine_of C.state self.new ≡ machine_of C.state self.old) }
+    {
+        self.threads.replace_standing(thread, standing)
+    }
+
+    // Goes on with the reply to the operation that a thread wants.
+    pub(crate) fn reply_to(&mut self, thread: u8, reply: Reply)
+        requires { Awaits C.code (machine_of C.state self.old) thread reply }
+        ensures { (l : C.State) → (machine_of C.state self.old).now.threads thread ≡ live l
+            → machine_of C.state self.new ≡ with_thread_at (machine_of C.state self.old) thread (live (C.code.reply l reply)) 0 }
+    {
+        self.threads.reply(thread, reply);
+    }
+
+    /// Makes silent steps of a thread, at most so many, and answers how many: none where it hasn't begun or has
+    /// ended. Where it answers less than `most`, `advance` tells why. Takes no memory but what the thread's code
+    /// takes.
+    pub fn run_silent(&mut self, thread: u8, most: u64) -> u64
+        ensures runs { RunsSilently C.code (machine_of C.state self.old) thread result (machine_of C.state self.new) }
+        ensures most { result ≤ most }
+    {
+        self.threads.run_silent(thread, most)
     }
 
     pub(crate) fn put_class(&mut self, class: u32, progress: ClassProgress) -> Result<(), NoMemory>

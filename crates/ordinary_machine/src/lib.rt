@@ -1,12 +1,13 @@
 //! The ordinary machine, over any thread code: the definition of an execution made to run, one step at
-//! a time, slow and plain.
+//! a time.
 //!
 //! An [`Ordinary`] holds what threads share and where each thread stands. [`Ordinary::step`] makes the
 //! step of one event of a journal, or says why the event is none; [`Ordinary::replay`] makes those of
-//! a list. [`Ordinary::advance`] makes a thread's next step of its own accord. `specs/` says what the
+//! a list. [`Ordinary::advance`] makes a thread's next step of its own accord, and
+//! [`Ordinary::run_silent`] silent steps alone, many in one call. `specs/` says what the
 //! tables of `machine_tables` mean together: an ordinary state of `op_core`, with three counts beside
-//! it. [`laws`] says what follows: at most one thing comes of an event, `advance` has one answer, and
-//! what it answers is an execution.
+//! it. [`laws`] says what follows: at most one thing comes of an event, `advance` has one answer, what it
+//! answers is an execution, and each execution is replayed.
 #![tactic(auto)]
 
 mod advance;
@@ -21,5 +22,4 @@ mod step;
 pub use advance::Advance;
 pub use ordinary::Ordinary;
 pub use replay::ReplayRefusal;
-pub use start::FixedObject;
 pub use step::StepRefusal;

@@ -1,7 +1,8 @@
-ghost use Rattle.std.specs.Prelude.{◌≡◌, ℕ, Option, OnOk, OnErr};
-ghost use Rattle.op_core.specs.OrdinaryState.{IsThere, HasWord};
+ghost use Rattle.std.specs.Prelude.{◌≡◌, ℕ, Option, IfOk, OnOk, OnErr};
+ghost use Rattle.op_core.specs.OrdinaryState.{live};
 ghost use Rattle.op_core.specs.OrdinaryStep.{CanStep, MayAnswer};
-ghost use Rattle.ordinary_machine.specs.Machine.{machine_of, shared_after, moved, woken_of, HasBegun};
+ghost use Rattle.ordinary_machine.specs.Machine.{machine_of, shared_after, moved, woken_of, HasBegun, Wants};
+ghost use Rattle.ordinary_machine.specs.Step.{IsLive};
 
 use crate::Ordinary;
 use machine_tables::{ClassProgress, MonitorState, Standing, WaitState};
@@ -18,25 +19,33 @@ fn woken_in(reply: Reply) -> u8
 }
 
 impl<C: ThreadCode + Drop> Ordinary<C> {
+    // How many words a new object has that a thread makes.
+    pub(crate) fn words_of(&self, thread: u8, class: u32, length: u32) -> u64
+        ensures { (l : C.State) → (machine_of C.state self.now).now.threads thread ≡ live l → result ≡ C.code.words l class length }
+    {
+        match self.live(thread) {
+            Some(code) => code.words(class, length),
+            None => 0,
+        }
+    }
+
     fn make_object(
         &mut self,
         thread: u8,
-        code: &C,
         class: u32,
         length: u32,
         reply: Reply,
     ) -> Result<(), NoMemory>
         requires { MayAnswer (machine_of C.state self.old).now thread (Op.New class length) reply }
-        ensures ok { OnOk result (machine_of C.state self.new ≡ shared_after C.code (machine_of C.state self.old) thread (Op.New class length) reply) }
+        ensures ok { OnOk result ((l : C.State) → (machine_of C.state self.old).now.threads thread ≡ live l
+            → machine_of C.state self.new ≡ shared_after C.code (machine_of C.state self.old) thread l (Op.New class length) reply) }
         ensures err { OnErr result (machine_of C.state self.new ≡ machine_of C.state self.old) }
     {
         match reply {
-            Reply::Made(reference) => self.put_object(
-                reference,
-                class,
-                length,
-                code.words(class, length),
-            ),
+            Reply::Made(reference) => {
+                let count = self.words_of(thread, class, length);
+                self.put_object(reference, class, length, count)
+            }
             _ => Ok(()),
         }
     }
@@ -44,7 +53,7 @@ impl<C: ThreadCode + Drop> Ordinary<C> {
     fn enter(&mut self, thread: u8, reference: u32, reply: Reply) -> Result<(), NoMemory>
         requires can { CanStep (machine_of C.state self.old).now thread (Op.Enter reference) }
         requires answered { MayAnswer (machine_of C.state self.old).now thread (Op.Enter reference) reply }
-        ensures ok { OnOk result (machine_of C.state self.new ≡ shared_after C.code (machine_of C.state self.old) thread (Op.Enter reference) reply) }
+        ensures ok { OnOk result ((l : C.State) → machine_of C.state self.new ≡ shared_after C.code (machine_of C.state self.old) thread l (Op.Enter reference) reply) }
         ensures err { OnErr result (machine_of C.state self.new ≡ machine_of C.state self.old) }
     {
         match self.objects.monitor(reference).entered(thread) {
@@ -59,7 +68,7 @@ impl<C: ThreadCode + Drop> Ordinary<C> {
     fn exit(&mut self, thread: u8, reference: u32, reply: Reply)
         requires can { CanStep (machine_of C.state self.old).now thread (Op.Exit reference) }
         requires answered { MayAnswer (machine_of C.state self.old).now thread (Op.Exit reference) reply }
-        ensures { machine_of C.state self.new ≡ shared_after C.code (machine_of C.state self.old) thread (Op.Exit reference) reply }
+        ensures { (l : C.State) → machine_of C.state self.new ≡ shared_after C.code (machine_of C.state self.old) thread l (Op.Exit reference) reply }
     {
         if self.objects.is_owner(thread, reference) {
             let monitor = self.objects.monitor(reference).left_once();
@@ -71,7 +80,7 @@ impl<C: ThreadCode + Drop> Ordinary<C> {
         requires begun { HasBegun ((machine_of C.state self.old).now.threads thread) }
         requires can { CanStep (machine_of C.state self.old).now thread (Op.Wait reference) }
         requires answered { MayAnswer (machine_of C.state self.old).now thread (Op.Wait reference) reply }
-        ensures { machine_of C.state self.new ≡ shared_after C.code (machine_of C.state self.old) thread (Op.Wait reference) reply }
+        ensures { (l : C.State) → machine_of C.state self.new ≡ shared_after C.code (machine_of C.state self.old) thread l (Op.Wait reference) reply }
     {
         if self.objects.is_owner(thread, reference) {
             let count = self.objects.monitor(reference).count();
@@ -84,7 +93,7 @@ impl<C: ThreadCode + Drop> Ordinary<C> {
         requires begun { HasBegun ((machine_of C.state self.old).now.threads thread) }
         requires can { CanStep (machine_of C.state self.old).now thread (Op.Rewake reference) }
         requires answered { MayAnswer (machine_of C.state self.old).now thread (Op.Rewake reference) reply }
-        ensures { machine_of C.state self.new ≡ shared_after C.code (machine_of C.state self.old) thread (Op.Rewake reference) reply }
+        ensures { (l : C.State) → machine_of C.state self.new ≡ shared_after C.code (machine_of C.state self.old) thread l (Op.Rewake reference) reply }
     {
         let count = self.threads.waiting(thread).saved_count();
         self.put_waiting(thread, WaitState::Awake);
@@ -93,7 +102,7 @@ impl<C: ThreadCode + Drop> Ordinary<C> {
 
     fn notify(&mut self, thread: u8, reference: u32, reply: Reply)
         requires { MayAnswer (machine_of C.state self.old).now thread (Op.Notify reference) reply }
-        ensures { machine_of C.state self.new ≡ shared_after C.code (machine_of C.state self.old) thread (Op.Notify reference) reply }
+        ensures { (l : C.State) → machine_of C.state self.new ≡ shared_after C.code (machine_of C.state self.old) thread l (Op.Notify reference) reply }
     {
         let woken = woken_in(reply);
         if woken > 0 {
@@ -104,7 +113,7 @@ impl<C: ThreadCode + Drop> Ordinary<C> {
 
     fn init(&mut self, thread: u8, class: u32, reply: Reply) -> Result<(), NoMemory>
         requires { MayAnswer (machine_of C.state self.old).now thread (Op.Init class) reply }
-        ensures ok { OnOk result (machine_of C.state self.new ≡ shared_after C.code (machine_of C.state self.old) thread (Op.Init class) reply) }
+        ensures ok { OnOk result ((l : C.State) → machine_of C.state self.new ≡ shared_after C.code (machine_of C.state self.old) thread l (Op.Init class) reply) }
         ensures err { OnErr result (machine_of C.state self.new ≡ machine_of C.state self.old) }
     {
         if self.classes.is_unready(class) {
@@ -122,7 +131,7 @@ impl<C: ThreadCode + Drop> Ordinary<C> {
         reply: Reply,
     ) -> Result<(), NoMemory>
         requires { MayAnswer (machine_of C.state self.old).now thread (Op.InitDone class well) reply }
-        ensures ok { OnOk result (machine_of C.state self.new ≡ shared_after C.code (machine_of C.state self.old) thread (Op.InitDone class well) reply) }
+        ensures ok { OnOk result ((l : C.State) → machine_of C.state self.new ≡ shared_after C.code (machine_of C.state self.old) thread l (Op.InitDone class well) reply) }
         ensures err { OnErr result (machine_of C.state self.new ≡ machine_of C.state self.old) }
     {
         if well {
@@ -133,17 +142,18 @@ impl<C: ThreadCode + Drop> Ordinary<C> {
     }
 
     // All that the operation changes but where threads stand.
-    fn share(&mut self, thread: u8, code: &C, op: Op, reply: Reply) -> Result<(), NoMemory>
+    fn share(&mut self, thread: u8, op: Op, reply: Reply) -> Result<(), NoMemory>
         requires begun { HasBegun ((machine_of C.state self.old).now.threads thread) }
         requires can { CanStep (machine_of C.state self.old).now thread op }
         requires answered { MayAnswer (machine_of C.state self.old).now thread op reply }
         requires no_number { (r p n : ℕ) → op ≡ Op.Start r p → reply ≡ Reply.Number n → ⊥ }
-        ensures ok { OnOk result (machine_of C.state self.new ≡ shared_after C.code (machine_of C.state self.old) thread op reply) }
+        ensures ok { OnOk result ((l : C.State) → (machine_of C.state self.old).now.threads thread ≡ live l
+            → machine_of C.state self.new ≡ shared_after C.code (machine_of C.state self.old) thread l op reply) }
         ensures err { OnErr result (machine_of C.state self.new ≡ machine_of C.state self.old) }
     {
         match op {
             Op::Write(reference, place, value) => self.put_word(reference, place, value),
-            Op::New(class, length) => self.make_object(thread, code, class, length, reply)?,
+            Op::New(class, length) => self.make_object(thread, class, length, reply)?,
             Op::Enter(reference) => self.enter(thread, reference, reply)?,
             Op::Exit(reference) => self.exit(thread, reference, reply),
             Op::Wait(reference) => self.wait(thread, reference, reply),
@@ -157,53 +167,60 @@ impl<C: ThreadCode + Drop> Ordinary<C> {
         Ok(())
     }
 
+    // The first state of the thread that an object starts.
+    fn child_of(&self, thread: u8, reference: u32) -> Result<C, NoMemory>
+        ensures { IfOk result (λ child. (l : C.State) → (machine_of C.state self.now).now.threads thread ≡ live l → C.state child ≡ C.code.child l reference) }
+    {
+        match self.live(thread) {
+            Some(code) => code.child(reference),
+            None => Err(NoMemory),
+        }
+    }
+
     fn begin(
         &mut self,
         thread: u8,
-        mut code: C,
         reference: u32,
         priority: u8,
         number: u8,
     ) -> Result<(), NoMemory>
-        requires begun { HasBegun ((machine_of C.state self.old).now.threads thread) }
-        requires wanted { C.code.next (C.state code) ≡ Next.Want (Op.Start reference priority) }
+        requires wants { Wants C.code (machine_of C.state self.old) thread (Op.Start reference priority) }
         requires can { CanStep (machine_of C.state self.old).now thread (Op.Start reference priority) }
         requires answered { MayAnswer (machine_of C.state self.old).now thread (Op.Start reference priority) (Reply.Number number) }
-        ensures ok { OnOk result (machine_of C.state self.new ≡ moved C.code (machine_of C.state self.old) thread (C.state code) (Op.Start reference priority) (Reply.Number number)) }
+        ensures ok { OnOk result ((l : C.State) → (machine_of C.state self.old).now.threads thread ≡ live l
+            → machine_of C.state self.new ≡ moved C.code (machine_of C.state self.old) thread l (Op.Start reference priority) (Reply.Number number)) }
         ensures err { OnErr result (machine_of C.state self.new ≡ machine_of C.state self.old) }
     {
-        let child = code.child(reference)?;
+        let child = self.child_of(thread, reference)?;
         self.put_new_thread(number, child)?;
         self.put_started(reference, number);
-        code.reply(Reply::Number(number));
-        self.put_thread(thread, Standing::Live(code), 0);
+        self.reply_to(thread, Reply::Number(number));
         Ok(())
     }
 
-    fn go_on(&mut self, thread: u8, mut code: C, op: Op, reply: Reply) -> Result<(), NoMemory>
-        requires begun { HasBegun ((machine_of C.state self.old).now.threads thread) }
-        requires wanted { C.code.next (C.state code) ≡ Next.Want op }
+    fn go_on(&mut self, thread: u8, op: Op, reply: Reply) -> Result<(), NoMemory>
+        requires wants { Wants C.code (machine_of C.state self.old) thread op }
         requires can { CanStep (machine_of C.state self.old).now thread op }
         requires answered { MayAnswer (machine_of C.state self.old).now thread op reply }
         requires no_number { (r p n : ℕ) → op ≡ Op.Start r p → reply ≡ Reply.Number n → ⊥ }
         requires no_end { (x : Option ℕ) → op ≡ Op.End x → ⊥ }
-        ensures ok { OnOk result (machine_of C.state self.new ≡ moved C.code (machine_of C.state self.old) thread (C.state code) op reply) }
+        ensures ok { OnOk result ((l : C.State) → (machine_of C.state self.old).now.threads thread ≡ live l
+            → machine_of C.state self.new ≡ moved C.code (machine_of C.state self.old) thread l op reply) }
         ensures err { OnErr result (machine_of C.state self.new ≡ machine_of C.state self.old) }
     {
-        self.share(thread, &code, op, reply)?;
-        code.reply(reply);
-        self.put_thread(thread, Standing::Live(code), 0);
+        self.share(thread, op, reply)?;
+        self.reply_to(thread, reply);
         Ok(())
     }
 
-    /// Makes the step of a thread that wants the operation at `code`, with a reply that it may have.
-    /// Without memory nothing changes.
-    pub(crate) fn make(&mut self, thread: u8, code: C, op: Op, reply: Reply) -> Result<(), NoMemory>
-        requires begun { HasBegun ((machine_of C.state self.old).now.threads thread) }
-        requires wanted { C.code.next (C.state code) ≡ Next.Want op }
+    /// Makes the step of the operation that a thread wants, with a reply that it may have. Without memory nothing
+    /// changes.
+    pub(crate) fn make(&mut self, thread: u8, op: Op, reply: Reply) -> Result<(), NoMemory>
+        requires wants { Wants C.code (machine_of C.state self.old) thread op }
         requires can { CanStep (machine_of C.state self.old).now thread op }
         requires answered { MayAnswer (machine_of C.state self.old).now thread op reply }
-        ensures ok { OnOk result (machine_of C.state self.new ≡ moved C.code (machine_of C.state self.old) thread (C.state code) op reply) }
+        ensures ok { OnOk result ((l : C.State) → (machine_of C.state self.old).now.threads thread ≡ live l
+            → machine_of C.state self.new ≡ moved C.code (machine_of C.state self.old) thread l op reply) }
         ensures err { OnErr result (machine_of C.state self.new ≡ machine_of C.state self.old) }
     {
         match op {
@@ -212,10 +229,38 @@ impl<C: ThreadCode + Drop> Ordinary<C> {
                 Ok(())
             }
             Op::Start(reference, priority) => match reply {
-                Reply::Number(number) => self.begin(thread, code, reference, priority, number),
-                _ => self.go_on(thread, code, op, reply),
+                Reply::Number(number) => self.begin(thread, reference, priority, number),
+                _ => self.go_on(thread, op, reply),
             },
-            _ => self.go_on(thread, code, op, reply),
+            _ => self.go_on(thread, op, reply),
+        }
+    }
+
+    /// The same for a thread that wants the operation at `code`, where it comes by silent steps.
+    pub(crate) fn make_at(
+        &mut self,
+        thread: u8,
+        code: C,
+        op: Op,
+        reply: Reply,
+    ) -> Result<(), NoMemory>
+        requires live { IsLive (machine_of C.state self.old).now thread }
+        requires wanted { C.code.next (C.state code) ≡ Next.Want op }
+        requires can { CanStep (machine_of C.state self.old).now thread op }
+        requires answered { MayAnswer (machine_of C.state self.old).now thread op reply }
+        ensures ok { OnOk result (machine_of C.state self.new ≡ moved C.code (machine_of C.state self.old) thread (C.state code) op reply) }
+        ensures err { OnErr result (machine_of C.state self.new ≡ machine_of C.state self.old) }
+    {
+        let silent = self.silent_steps(thread);
+        let Some(before) = self.swap_standing(thread, Standing::Live(code)) else {
+            return Err(NoMemory);
+        };
+        match self.make(thread, op, reply) {
+            Ok(()) => Ok(()),
+            Err(error) => {
+                self.put_thread(thread, before, silent);
+                Err(error)
+            }
         }
     }
 }

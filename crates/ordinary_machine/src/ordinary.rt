@@ -1,5 +1,5 @@
 ghost use Rattle.std.specs.Prelude.{◌≡◌, ◌↔◌, ◌<◌, ℕ, IsTrue, MatchOption};
-ghost use Rattle.op_core.specs.OrdinaryState.{IsThere, HasEnded, ended};
+ghost use Rattle.op_core.specs.OrdinaryState.{HasEnded, unused, ended};
 ghost use Rattle.op_core.specs.OrdinaryStep.{CanStep, MayAnswer, IsFreeNumber};
 ghost use Rattle.ordinary_machine.specs.Machine.{machine_of, HasBegun};
 
@@ -25,6 +25,22 @@ impl<C: ThreadCode + Drop> Ordinary<C> {
         ensures { result.now ≡ (machine_of C.state self.now).now.lines }
     {
         &self.lines
+    }
+
+    /// The lines that were printed, in order, in place of the machine.
+    pub fn into_lines(self) -> Rows<Line>
+        ensures { result ≡ (machine_of C.state self).now.lines }
+    {
+        let Ordinary { lines, .. } = self;
+        lines
+    }
+
+    /// The highest number with which a thread has begun.
+    pub fn highest(&self) -> u8
+        ensures above { (k : ℕ) → result < k → (machine_of C.state self.now).now.threads k ≡ unused }
+        ensures begun { 0 < result → HasBegun ((machine_of C.state self.now).now.threads result) }
+    {
+        self.threads.highest()
     }
 
     /// Whether the thread has begun. It may have ended.

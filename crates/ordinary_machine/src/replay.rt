@@ -1,6 +1,6 @@
-ghost use Rattle.std.specs.Prelude.{◌≡◌, ◌<◌, OnOk, IfErr, length, take, slice_get, Some, MatchOption, IfSome};
+ghost use Rattle.std.specs.Prelude.{◌<◌, OnOk, IfOk, IfErr, length, take, slice_get, IfSome};
 ghost use Rattle.ordinary_machine.specs.Machine.{machine_of};
-ghost use Rattle.ordinary_machine.specs.Step.{Refuses, Replays, IsReplayed};
+ghost use Rattle.ordinary_machine.specs.Step.{Refuses, Replays, IsReplayed, IsRefusedAt};
 
 use crate::{Ordinary, StepRefusal};
 use op_core::{Event, ThreadCode};
@@ -30,5 +30,23 @@ impl<C: ThreadCode + Drop> Ordinary<C> {
             }
         }
         Ok(())
+    }
+
+    /// The same with nothing kept of a machine whose event is refused: the silent steps are made where their
+    /// threads stand, and no thread is copied. Gives the machine behind the events.
+    pub fn replayed(self, events: &[Event]) -> Result<Self, ReplayRefusal>
+        ensures steps { IfOk result (λ last. Replays C.code (machine_of C.state self) events.now (machine_of C.state last)) }
+        ensures execution { IfOk result (λ last. IsReplayed C.code (machine_of C.state self).now events.now (machine_of C.state last).now) }
+        ensures place { IfErr result (λ stop. stop.place < length events.now) }
+        ensures refused { IfErr result (λ stop. IsRefusedAt C.code (machine_of C.state self) events.now stop.place stop.refusal) }
+    {
+        let mut machine = self;
+        for (place, event) in events.iter().enumerate() {
+            match machine.step_on(event) {
+                Ok(()) => {}
+                Err(refusal) => return Err(ReplayRefusal { place, refusal }),
+            }
+        }
+        Ok(machine)
     }
 }

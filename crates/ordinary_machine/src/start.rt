@@ -5,9 +5,12 @@ ghost use Rattle.machine_tables.specs.declared.threads.WaitState.TheVariants.{Aw
 ghost use Rattle.machine_tables.specs.declared.threads.Standing.TheVariants.{Live};
 ghost use Rattle.machine_tables.specs.Tables.{object_at, classes_in, seat_at};
 ghost use Rattle.ordinary_machine.specs.Machine.{machine_of};
-ghost use Rattle.ordinary_machine.specs.Start.{fixed_at, heap_object, class_at_start, start_of};
+ghost use Rattle.fixed_objects.specs.Fixed.{fixed_at};
+ghost use Rattle.fixed_objects.specs.Opening.{LiesBelowFirst, class_at_start};
+ghost use Rattle.ordinary_machine.specs.Start.{heap_object, start_of};
 
 use crate::Ordinary;
+use fixed_objects::{FixedObject, Opening};
 use machine_tables::{
     ClassProgress, Classes, HeapObject, MonitorState, Objects, Seat, Standing, Threads, WaitState,
     Words,
@@ -15,18 +18,7 @@ use machine_tables::{
 use op_core::{NoMemory, Rows, ThreadCode};
 use std::alloc::Global;
 
-/// An object that is there from the start, as a class object or a string literal is.
-#[derive(Drop)]
-pub struct FixedObject {
-    pub reference: u32,
-    pub class: u32,
-    /// The length, 0 for an object that is no array.
-    pub length: u32,
-    /// The first value of each of its words.
-    pub words: Rows<u32>,
-}
-
-fn fixed_objects(alloc: Global, objects: &[FixedObject]) -> Result<Objects, NoMemory>
+fn fixed_table(alloc: Global, objects: &[FixedObject]) -> Result<Objects, NoMemory>
     ensures { IfOk result (λ table. object_at table ≡ (λ r. option_map heap_object (fixed_at objects.now r))) }
 {
     let mut table = Objects::new(alloc);
@@ -36,7 +28,7 @@ fn fixed_objects(alloc: Global, objects: &[FixedObject]) -> Result<Objects, NoMe
             length: object.length,
             words: Words::copy_of(alloc, object.words.as_slice())?,
             monitor: MonitorState::Free,
-            started: 0,
+            started: object.started,
         };
         table.insert(object.reference, fixed)?;
     }
@@ -68,26 +60,20 @@ fn main_thread<C: Drop>(alloc: Global, code: C) -> Result<Threads<C>, NoMemory>
 }
 
 impl<C: ThreadCode + Drop> Ordinary<C> {
-    /// A machine at the start of a program: with its fixed objects, of which the last counts where two
-    /// have one reference; with some classes ready; and with the first thread's code, at which thread 1
-    /// begins. `first` is the first reference that `advance` gives a new object: it is above 0, and
-    /// above the references of the fixed objects.
-    pub fn start(
-        alloc: Global,
-        objects: &[FixedObject],
-        ready: &[u32],
-        first: u32,
-        code: C,
-    ) -> Result<Self, NoMemory>
-        ensures { IfOk result (λ machine. machine_of C.state machine ≡ start_of objects.now ready.now first (C.state code)) }
+    /// A machine at the start of a program, with the first thread's code, at which thread 1 begins. The
+    /// opening's first free reference is that of the first new object that `advance` makes: it must be above
+    /// 0, and above the references of the fixed objects, as `Opening::lies_below_first` tells.
+    pub fn start(alloc: Global, opening: &Opening, code: C) -> Result<Self, NoMemory>
+        requires { LiesBelowFirst opening.now }
+        ensures { IfOk result (λ machine. machine_of C.state machine ≡ start_of opening.now (C.state code)) }
     {
         Ok(Ordinary {
             alloc,
-            objects: fixed_objects(alloc, objects)?,
-            classes: ready_classes(alloc, ready)?,
+            objects: fixed_table(alloc, opening.objects.as_slice())?,
+            classes: ready_classes(alloc, opening.ready.as_slice())?,
             threads: main_thread(alloc, code)?,
             lines: Rows::new(alloc),
-            first,
+            first: opening.first,
             taken: 0,
         })
     }

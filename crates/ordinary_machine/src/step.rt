@@ -1,6 +1,7 @@
 ghost use Rattle.std.specs.Prelude.{◌≡◌, ◌↔◌, IfOk, IfErr, OnOk, OnErr, MatchOption, IsTrue};
 ghost use Rattle.op_core.specs.declared.Op.{Op};
 ghost use Rattle.op_core.specs.OrdinaryState.{live};
+ghost use Rattle.op_core.specs.OrdinaryStep.{CanStep, MayAnswer};
 ghost use Rattle.ordinary_machine.specs.Machine.{machine_of};
 ghost use Rattle.ordinary_machine.specs.Step.{without_line, IsLive, IsNext, IsStepTo, Refuses};
 
@@ -78,6 +79,62 @@ impl<C: ThreadCode + Drop> Ordinary<C> {
         }
     }
 
+    // The same for an event with no silent steps: the operation that its thread wants where it stands.
+    fn find_here(&self, event: &Event) -> Result<Op, StepRefusal>
+        requires { event.now.silent ≡ 0 }
+        ensures ok { IfOk result (λ op. (l : C.State) × IsNext C.code (machine_of C.state self.now).now event.now l op) }
+        ensures refused { IfErr result (Refuses C.code (machine_of C.state self.now).now event.now) }
+    {
+        let Some(code) = self.live(event.thread) else {
+            return Err(StepRefusal::NoThread);
+        };
+        match code.next() {
+            Next::Want(op) if is_same(op, event.op) => Ok(op),
+            _ => Err(StepRefusal::NotNext),
+        }
+    }
+
+    // Whether the operation that was found has a step with the event's reply.
+    fn admit(&self, event: &Event, op: Op) -> Result<(), StepRefusal>
+        requires { (l : C.State) × IsNext C.code (machine_of C.state self.now).now event.now l op }
+        ensures can { OnOk result (CanStep (machine_of C.state self.now).now event.now.thread op) }
+        ensures answered { OnOk result (MayAnswer (machine_of C.state self.now).now event.now.thread op event.now.reply) }
+        ensures refused { IfErr result (Refuses C.code (machine_of C.state self.now).now event.now) }
+    {
+        if !self.can_step(event.thread, op) {
+            return Err(StepRefusal::NotEnabled);
+        }
+        if !self.may_answer(event.thread, op, event.reply) {
+            return Err(StepRefusal::WrongReply);
+        }
+        Ok(())
+    }
+
+    // The step of an event with no silent steps, made where its thread stands.
+    fn step_here(&mut self, event: &Event) -> Result<(), StepRefusal>
+        requires { event.now.silent ≡ 0 }
+        ensures ok { OnOk result (IsStepTo C.code (machine_of C.state self.old) event.now (machine_of C.state self.new)) }
+        ensures refused { IfErr result (Refuses C.code (machine_of C.state self.old).now event.now) }
+        ensures err { OnErr result (machine_of C.state self.new ≡ machine_of C.state self.old) }
+    {
+        let op = self.find_here(event)?;
+        self.admit(event, op)?;
+        self.make(event.thread, op, event.reply)?;
+        Ok(())
+    }
+
+    // The step of any event: the silent steps are made on a copy, since the event may be refused behind them.
+    fn step_ahead(&mut self, event: &Event) -> Result<(), StepRefusal>
+        ensures ok { OnOk result (IsStepTo C.code (machine_of C.state self.old) event.now (machine_of C.state self.new)) }
+        ensures refused { IfErr result (Refuses C.code (machine_of C.state self.old).now event.now) }
+        ensures err { OnErr result (machine_of C.state self.new ≡ machine_of C.state self.old) }
+    {
+        let (code, op) = self.find(event)?;
+        self.admit(event, op)?;
+        self.make_at(event.thread, code, op, event.reply)?;
+        Ok(())
+    }
+
     /// Makes one step of an execution, where the event is one. For Print the line is the thread's
     /// own, and the event's isn't compared. After a refusal the machine is as before.
     pub fn step(&mut self, event: &Event) -> Result<(), StepRefusal>
@@ -85,14 +142,28 @@ impl<C: ThreadCode + Drop> Ordinary<C> {
         ensures refused { IfErr result (Refuses C.code (machine_of C.state self.old).now event.now) }
         ensures err { OnErr result (machine_of C.state self.new ≡ machine_of C.state self.old) }
     {
-        let (code, op) = self.find(event)?;
-        if !self.can_step(event.thread, op) {
-            return Err(StepRefusal::NotEnabled);
+        if event.silent == 0 {
+            self.step_here(event)
+        } else {
+            self.step_ahead(event)
         }
-        if !self.may_answer(event.thread, op, event.reply) {
-            return Err(StepRefusal::WrongReply);
+    }
+
+    // The same with the silent steps made where the thread stands. After a refusal it may have made some.
+    pub(crate) fn step_on(&mut self, event: &Event) -> Result<(), StepRefusal>
+        ensures ok { OnOk result (IsStepTo C.code (machine_of C.state self.old) event.now (machine_of C.state self.new)) }
+        ensures refused { IfErr result (Refuses C.code (machine_of C.state self.old).now event.now) }
+    {
+        let made = self.run_silent(event.thread, event.silent);
+        let rest = Event {
+            thread: event.thread,
+            silent: event.silent - made,
+            op: event.op,
+            reply: event.reply,
+        };
+        match self.step(&rest) {
+            Ok(()) => Ok(()),
+            Err(refusal) => Err(refusal),
         }
-        self.make(event.thread, code, op, event.reply)?;
-        Ok(())
     }
 }

@@ -1,6 +1,6 @@
 use Rattle.std.proofs.Common.{◌≡◌, take}
 use Rattle.machine_tables.specs.Tables.{classes_in}
-use Rattle.ordinary_machine.specs.Start.{class_at_start}
+use Rattle.fixed_objects.specs.Opening.{class_at_start}
 use Rattle.ordinary_machine.proofs.start.ready_classes.Given as goal
 
 abbrev pub invariant-loop-class : goal.invariant-loop-class

@@ -1,7 +1,14 @@
-use Rattle.std.proofs.Common.{subst, sym}
-use Rattle.ordinary_machine.specs.Machine.{Machine, HasBegun}
+use Rattle.ordinary_machine.specs.Machine.{machine_of}
+use Rattle.ordinary_machine.proofs.MakeLemmas.{shared_awaits, shared_moved}
 use Rattle.ordinary_machine.proofs.ordinary.Ordinary.go_on.Goals as goal
 
-pub put_thread-requires : goal.put_thread-requires
-put_thread-requires g c =
-    subst (λ (m : Machine g.C.ThreadCode.State). HasBegun (m.now.threads c.args.thread)) (sym c.in_ok-share.ensures.ok) c.requires.begun
+pub reply_to-requires : goal.reply_to-requires
+reply_to-requires g c =
+    let machine = machine_of g.C.ThreadCode.state in
+    shared_awaits g.C.ThreadCode.code (machine c.args.self.now) (machine c.share.new.self) c.args.thread c.args.op c.args.reply c.requires.wants c.requires.answered c.in_ok-share.ensures.ok
+
+pub returns-clause-ok : goal.returns-clause-ok
+returns-clause-ok g c =
+    let machine = machine_of g.C.ThreadCode.state in
+    shared_moved g.C.ThreadCode.code (machine c.args.self.now) (machine c.share.new.self) (machine c.reply_to.new.self) c.args.thread c.args.op c.args.reply
+    c.requires.no_number c.requires.no_end c.in_ok-share.ensures.ok c.reply_to.ensures

@@ -1,10 +1,15 @@
-use Rattle.std.proofs.Common.{refl}
+use Rattle.std.proofs.Common.{refl, ap, ◌∙◌}
+use Rattle.std.specs.Option.{option_map}
+use Rattle.fixed_objects.specs.Fixed.{fixed_at}
+use Rattle.fixed_objects.specs.Opening.{class_at_start}
+use Rattle.ordinary_machine.specs.Start.{heap_object}
 use Rattle.ordinary_machine.proofs.StartLemmas.{started}
 use Rattle.ordinary_machine.proofs.ordinary.Ordinary.start.Goals as goal
 
 pub returns : goal.returns
 returns g c =
     started g.C.ThreadCode.state
-    (record { alloc = c.args.alloc; objects = c.in_ok-fixed_objects.field-0; classes = c.in_ok-ready_classes.field-0; threads = c.in_ok-main_thread.field-0; lines = c.new.result; first = c.args.first; taken = 0 })
-    c.args.objects.now c.args.ready.now c.args.code
-    c.in_ok-fixed_objects.ensures c.in_ok-ready_classes.ensures c.in_ok-main_thread.ensures c.new.ensures refl
+    (record { alloc = c.args.alloc; objects = c.in_ok-fixed_table.field-0; classes = c.in_ok-ready_classes.field-0; threads = c.in_ok-main_thread.field-0; lines = c.new.result; first = c.args.opening.now.first; taken = 0 })
+    c.args.opening.now c.args.code
+    (c.in_ok-fixed_table.ensures ∙ ap (λ xs r. option_map heap_object (fixed_at xs r)) c.as_slice.ensures)
+    (c.in_ok-ready_classes.ensures ∙ ap class_at_start c.as_slice-2.ensures) c.in_ok-main_thread.ensures c.new.ensures refl refl

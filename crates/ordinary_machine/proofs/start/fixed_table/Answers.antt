@@ -3,17 +3,18 @@ use Rattle.std.proofs.Math.Seq.{take-length}
 use Rattle.std.specs.Option.{option_map}
 use Rattle.op_core.specs.OrdinaryState.{set_at}
 use Rattle.machine_tables.specs.declared.objects.MonitorState.TheVariants.{Free}
-use Rattle.ordinary_machine.specs.declared.start.FixedObject.{FixedObject}
+use Rattle.fixed_objects.specs.declared.FixedObject.{FixedObject}
 use Rattle.machine_tables.specs.Tables.{object_at}
-use Rattle.ordinary_machine.specs.Start.{fixed_at, heap_object}
+use Rattle.fixed_objects.specs.Fixed.{fixed_at}
+use Rattle.ordinary_machine.specs.Start.{heap_object}
 use Rattle.ordinary_machine.proofs.StartLemmas.{fixed_next}
-use Rattle.ordinary_machine.proofs.start.fixed_objects.Goals as goal
+use Rattle.ordinary_machine.proofs.start.fixed_table.Goals as goal
 
 pub loop-object-preserved : goal.loop-object-preserved
 loop-object-preserved c =
     let before = object_at c.loop-object.table in
     let item : FixedObject = c.object-item.result in
-    let put = ap (λ words. set_at before item.reference (Some (record { class = item.class; length = item.length; words = words; monitor = Free; started = 0 }))) (c.in_ok-copy_of.ensures ∙ c.as_slice.ensures) in
+    let put = ap (λ words. set_at before item.reference (Some (record { class = item.class; length = item.length; words = words; monitor = Free; started = item.started }))) (c.in_ok-copy_of.ensures ∙ c.as_slice.ensures) in
     fixed_next c.args.objects.now c.loop-object.object-index item before (object_at c.insert.new.self) c.loop-object-test.true c.loop-object.invariant
     (c.in_ok-insert.ensures.ok ∙ put ∙ ap (λ (x : FixedObject). set_at before x.reference (Some (heap_object x))) c.object-item.is)
 

@@ -1,0 +1,153 @@
+-- Silent steps that a thread makes where it stands.
+use Rattle.std.proofs.Common.{◌≡◌, ℕ, zero, suc, ◌+◌, ◌≤◌, Option, Some, None, List, [], ◌∷◌, ◌++◌, refl, sym, ◌∙◌, ap, subst, arith}
+use Rattle.op_core.specs.declared.Next.TheVariants.{Silent}
+use Rattle.std.specs.Option.{option_and_then}
+use Rattle.op_core.specs.declared.Limits.{Limits}
+use Rattle.op_core.specs.ThreadCode.{Code, quiet_step, quiet_steps}
+use Rattle.op_core.specs.OrdinaryState.{set_at, Thread, live}
+use Rattle.op_core.proofs.PointwiseLemmas.{set_at-hit, set_at-same, set_at-twice}
+use Rattle.machine_tables.specs.declared.threads.Standing.{Standing}
+use Rattle.machine_tables.specs.declared.threads.Standing.TheVariants.{Live, Ended}
+use Rattle.machine_tables.specs.declared.threads.Seat.{Seat}
+use Rattle.machine_tables.specs.declared.threads.Threads.{Threads}
+use Rattle.machine_tables.specs.Tables.{seat_at, waiting_of, standing_of, thread_in, waiting_state_in, silent_in, threads_in, waiting_in, silents_in, StandingRuns, SeatRuns}
+use Rattle.ordinary_machine.specs.declared.ordinary.Ordinary.{Ordinary}
+use Rattle.ordinary_machine.specs.Machine.{Machine, machine_of, with_thread_at, HasBegun, RunsTo, RunsSilently}
+use Rattle.ordinary_machine.specs.Advance.{IsSilentTo, Advances}
+use Rattle.ordinary_machine.specs.declared.advance.Advance.TheVariants as advance
+use Rattle.ordinary_machine.specs.Laws.{Call, Runs, silent_calls, RunsAreAdvances}
+use Rattle.ordinary_machine.proofs.ChangeLemmas.{ThreadParts, Becomes, becomes_changed, is_kept}
+use Rattle.ordinary_machine.proofs.MachineLemmas.{with_threads}
+
+-- a thread that makes a silent step is live, and is so behind it
+record Ran {C S : Type 0} (code : Code S) (state : C → S) (n : ℕ) (x y : Option (Seat C)) : Type 0 where
+  from : S
+  behind : S
+  begun : thread_in state x ≡ live from
+  quiet : quiet_steps code n from ≡ Some behind
+  becomes : Becomes state x y behind (silent_in x + n)
+
+ran_seat : {C S : Type 0} (code : Code S) (state : C → S) (n : ℕ) (x y : Option (Seat C)) → SeatRuns code state (suc n) x y → Ran code state (suc n) x y
+ran_seat {C} {S} code state n (Some x) (Some y) h = of x.standing y.standing refl refl h.standing
+  where
+    of : (a b : Standing C) → x.standing ≡ a → y.standing ≡ b → StandingRuns code state (suc n) a b → Ran code state (suc n) (Some x) (Some y)
+    of (Live from) (Live behind) stood stands ran = record {
+      from = state from;
+      behind = state behind;
+      begun = ap (standing_of state) stood;
+      quiet = ran;
+      becomes = record { thread = ap (standing_of state) stands; waiting = ap waiting_of h.waiting; silents = h.silent };
+    }
+    of (Live from) (Ended q) stood stands ran = absurd ran
+    of (Ended p) (Live behind) stood stands ran = absurd ran
+    of (Ended p) (Ended q) stood stands ran = let none : suc n ≡ 0 = ran.0 in absurd (omega (arith, none))
+ran_seat code state n (Some x) None h = absurd h
+ran_seat code state n None (Some y) h = absurd h
+ran_seat code state n None None h = absurd (omega (arith, h))
+
+-- no silent step leaves all as it was
+record Same {C S : Type 0} (state : C → S) (x y : Option (Seat C)) : Type 0 where
+  thread : thread_in state y ≡ thread_in state x
+  waiting : waiting_state_in y ≡ waiting_state_in x
+  silents : silent_in y ≡ silent_in x
+
+same_standing : {C S : Type 0} (code : Code S) (state : C → S) (a b : Standing C) → StandingRuns code state 0 a b → standing_of state b ≡ standing_of state a
+same_standing {C} {S} code state (Live from) (Live behind) ran = let same : state from ≡ state behind = cc in ap live (sym same)
+same_standing code state (Live from) (Ended y) ran = absurd ran
+same_standing code state (Ended x) (Live behind) ran = absurd ran
+same_standing code state (Ended x) (Ended y) ran = ap (standing_of state) (ap Ended ran.1)
+
+same_seat : {C S : Type 0} (code : Code S) (state : C → S) (x y : Option (Seat C)) → SeatRuns code state 0 x y → Same state x y
+same_seat code state (Some x) (Some y) h = record {
+  thread = same_standing code state x.standing y.standing h.standing;
+  waiting = ap waiting_of h.waiting;
+  silents = let is : y.silent ≡ x.silent + 0 = h.silent in omega (arith, is);
+}
+same_seat code state (Some x) None h = absurd h
+same_seat code state None (Some y) h = absurd h
+same_seat code state None None h = record { thread = refl; waiting = refl; silents = refl }
+
+pub ran : {C S : Type 0} (code : Code S) (state : C → S) (m : Ordinary C) (threads : Threads C) (t n : ℕ)
+    → SeatRuns code state n (seat_at m.threads t) (seat_at threads t) → seat_at threads ≡ set_at (seat_at m.threads) t (seat_at threads t)
+    → RunsSilently code (machine_of state m) t n (machine_of state (record m { threads = threads }))
+ran code state m threads t zero runs changed =
+    let f = seat_at m.threads in
+    let g = seat_at threads in
+    let same = same_seat code state (f t) (g t) runs in
+    let parts : ThreadParts state g (threads_in state f) (waiting_in f) (silents_in f) = record {
+      threads = is_kept (thread_in state) f g t (g t) changed same.thread;
+      waiting = is_kept waiting_state_in f g t (g t) changed same.waiting;
+      silents = is_kept silent_in f g t (g t) changed same.silents;
+    } in
+    with_threads state m threads parts
+ran code state m threads t (suc n) runs changed =
+    let h = ran_seat code state n (seat_at m.threads t) (seat_at threads t) runs in
+    record {
+      from = h.from;
+      behind = h.behind;
+      begun = h.begun;
+      quiet = h.quiet;
+      leads = with_threads state m threads (becomes_changed state (seat_at m.threads) (seat_at threads) t h.behind (silent_in (seat_at m.threads t) + suc n) changed h.becomes);
+    }
+
+-- one silent step is that of `advance`
+pub silent_once : {S : Type 0} (code : Code S) (m new : Machine S) (t n : ℕ) → n ≡ 1 → RunsSilently code m t n new → IsSilentTo code m t new
+silent_once {S} code m new t n is runs = of (subst (λ k. RunsSilently code m t k new) is runs)
+  where
+    of : RunsTo code m t 1 new → IsSilentTo code m t new
+    of h = record { from = h.from; behind = h.behind; begun = h.begun; quiet = h.quiet; leads = h.leads ∙ ap (with_thread_at m t (live h.behind)) (omega arith) }
+
+-- and where none was made, the thread is silent still
+pub not_run : {S : Type 0} (code : Code S) (m new : Machine S) (t n : ℕ) → n ≤ 1 → (n ≡ 1 → ⊥) → RunsSilently code m t n new → new ≡ m
+not_run code m new t zero most other runs = runs
+not_run code m new t (suc zero) most other runs = absurd (other refl)
+not_run code m new t (suc (suc n)) most other runs = absurd (omega (arith, most))
+
+pub begun_still : {S : Type 0} (m new : Machine S) (t : ℕ) (l : S) → new ≡ m → m.now.threads t ≡ live l → HasBegun (new.now.threads t)
+begun_still {S} m new t l same begun = subst HasBegun (sym (ap (λ (x : Machine S). x.now.threads t) same ∙ begun)) tt
+
+pub silent_still : {S : Type 0} (code : Code S) (m new : Machine S) (t : ℕ) (from : S) → new ≡ m → m.now.threads t ≡ live from → code.next from ≡ Silent
+    → (l : S) → new.now.threads t ≡ live l → code.next l ≡ Silent
+silent_still {S} code m new t from same begun silent l stands =
+    let both : live from ≡ live l = sym begun ∙ ap (λ (x : Machine S). x.now.threads t) (sym same) ∙ stands in
+    let place : l ≡ from = cc in ap code.next place ∙ silent
+
+-- A run of silent steps is one answer Silent after another.
+runs_on : {S : Type 0} (code : Code S) (m middle last : Machine S) (calls : List Call) (call : Call) → Runs code m calls middle → Advances code middle call.thread call.limits call.answer last
+    → Runs code m (calls ++ call ∷ []) last
+runs_on code m middle last [] call before advances = (last, subst (λ x. Advances code x call.thread call.limits call.answer last) before advances, refl)
+runs_on code m middle last (first ∷ calls) call (next, one, rest) advances = (next, one, runs_on code next middle last calls call rest advances)
+
+and_then_some : {S : Type 0} (f : S → Option S) (o : Option S) (y : S) → option_and_then f o ≡ Some y → (x : S) × (o ≡ Some x) × (f x ≡ Some y)
+and_then_some f None y h = cc
+and_then_some f (Some x) y h = (x, refl, h)
+
+put_twice : {S : Type 0} (m : Machine S) (t : ℕ) (a b : Thread S) (j k : ℕ) → with_thread_at (with_thread_at m t a j) t b k ≡ with_thread_at m t b k
+put_twice m t a b j k = λ i. record m { now = record m.now { threads = set_at-twice m.now.threads t a b i }; silents = set_at-twice m.silents t j k i }
+
+put_back : {S : Type 0} (m : Machine S) (t : ℕ) (a : Thread S) (k : ℕ) → m.now.threads t ≡ a → m.silents t ≡ k → with_thread_at m t a k ≡ m
+put_back m t a k thread count = λ i. record m { now = record m.now { threads = set_at-same m.now.threads t a thread i }; silents = set_at-same m.silents t k count i }
+
+quiet_runs : {S : Type 0} (code : Code S) (m : Machine S) (t n : ℕ) (limits : Limits) (from behind : S) → m.now.threads t ≡ live from → quiet_steps code n from ≡ Some behind
+    → Runs code m (silent_calls t limits n) (with_thread_at m t (live behind) (m.silents t + n))
+quiet_runs {S} code m t zero limits from behind begun quiet =
+    let same : from ≡ behind = cc in put_back m t (live behind) (m.silents t + 0) (begun ∙ ap live same) (omega arith)
+quiet_runs {S} code m t (suc n) limits from behind begun quiet =
+    let (middle, before, step) = and_then_some (quiet_step code) (quiet_steps code n from) behind quiet in
+    let there : Machine S = with_thread_at m t (live middle) (m.silents t + n) in
+    let count : there.silents t ≡ m.silents t + n = set_at-hit m.silents t (m.silents t + n) in
+    let more : suc (there.silents t) ≡ m.silents t + suc n = omega (arith, count) in
+    let silent : IsSilentTo code there t (with_thread_at m t (live behind) (m.silents t + suc n)) = record {
+      from = middle;
+      behind = behind;
+      begun = set_at-hit m.now.threads t (live middle);
+      quiet = step;
+      leads = sym (put_twice m t (live middle) (live behind) (m.silents t + n) (suc (there.silents t)) ∙ ap (with_thread_at m t (live behind)) more);
+    } in
+    runs_on code m there (with_thread_at m t (live behind) (m.silents t + suc n)) (silent_calls t limits n) (record { thread = t; limits = limits; answer = advance.Silent })
+    (quiet_runs code m t n limits from middle begun before) silent
+
+pub runs_advance : {S : Type 0} (code : Code S) → RunsAreAdvances code
+runs_advance code m new t zero limits runs = runs
+runs_advance {S} code m new t (suc n) limits runs =
+    subst (Runs code m (silent_calls t limits (suc n))) (sym runs.leads) (quiet_runs code m t (suc n) limits runs.from runs.behind runs.begun runs.quiet)
