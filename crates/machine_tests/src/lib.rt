@@ -23,8 +23,12 @@ mod refusals;
 #[cfg(test)]
 mod replays;
 #[cfg(test)]
+mod scheduling;
+#[cfg(test)]
 mod scripts;
 #[cfg(test)]
 mod setting;
 #[cfg(test)]
 mod tables;
+#[cfg(test)]
+mod toys;

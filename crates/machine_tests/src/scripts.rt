@@ -4,6 +4,7 @@ use op_core::{
     CodeStop, Line, Next, NoMemory, Op, Reply, Script, ScriptStep, ThreadCode, after_silent_steps,
 };
 use std::test::Fail;
+use toy_code::{Toy, ToyScript, ToyStep};
 
 /// Makes the silent step that comes next, unless it ends a frame that is kept.
 fn quiet<C: ThreadCode>(code: &mut C) -> Result<bool, CodeStop>
@@ -156,5 +157,28 @@ fn silent_steps_are_tried_on_a_copy(rt: HostRuntime) -> Result<(), Fail> {
     assert!(rt; matches!(next, Some(Next::Want(Op::Join(3)))));
     assert!(rt; matches!(after_silent_steps(&code, 3), Ok(None)));
     assert!(rt; matches!(code.next(), Next::Silent));
+    Ok(())
+}
+
+const TOYS: [ToyScript<'static>; 2] = [
+    ToyScript {
+        object: 1,
+        steps: &[ToyStep::Pass, ToyStep::Do(Op::Enter(1))],
+    },
+    ToyScript {
+        object: 2,
+        steps: &[ToyStep::Call, ToyStep::Return, ToyStep::Return],
+    },
+];
+
+#[test]
+fn a_toy_goes_back_to_its_saves(rt: HostRuntime) -> Result<(), Fail> {
+    let mut toy = Toy::new(rt.alloc(), &TOYS, 1);
+    assert!(rt; matches!(goes_the_same_way(&mut toy), Ok(true)));
+    assert!(rt; matches!(copies_are_silent(&toy), Ok(true)));
+    let mut other = Toy::new(rt.alloc(), &TOYS, 2);
+    assert!(rt; leaves_by_turns(&mut other).ok() == Some([true, false, true, false]));
+    assert!(rt; matches!(next_of_child(&other, 3), Ok(Next::Want(Op::End(None)))));
+    assert!(rt; other.words(3, 8) == 8);
     Ok(())
 }

@@ -5,4 +5,6 @@ pub mod GroundedLemmas
 pub mod TiedLemmas
 pub mod CutLemmas
 pub mod ScriptLemmas
+pub mod StandLemmas
 pub mod ScriptLawLemmas
+pub mod PremiseLemmas

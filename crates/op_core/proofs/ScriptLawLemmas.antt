@@ -1,118 +1,27 @@
 -- Scripts meet the premises of the cut law, and show that it needs its grounds.
-use Rattle.std.proofs.Common.{◌≡◌, inl, inr, ℕ, zero, suc, ◌+◌, ◌<◌, ◌≤◌, true, false, List, [], ◌∷◌, length, Option, Some, None, refl, sym, ◌∙◌, ap, subst, arith}
-use Rattle.std.specs.Prelude.{IsSome, IsNone, IsSomeAnd, is_some, slice_get}
-use Rattle.std.proofs.lemmas.Bool.Decides.{leb_tells}
+use Rattle.std.proofs.Common.{◌≡◌, inl, inr, ℕ, zero, suc, ◌<◌, true, false, List, Option, Some, None, refl, sym, ◌∙◌, ap, subst, arith}
+use Rattle.std.specs.Prelude.{slice_get}
 use Rattle.op_core.specs.declared.Op.{Op}
-use Rattle.op_core.specs.declared.Op.TheVariants.{ClassOf, Read, Write, New, Enter, Exit, Wait, Rewake, Notify, Start, Join, End}
-use Rattle.op_core.specs.declared.Reply.{Reply}
-use Rattle.op_core.specs.declared.Reply.TheVariants.{Made, Done, Number}
 use Rattle.op_core.specs.declared.Next.TheVariants.{Want}
 use Rattle.op_core.specs.declared.script.ScriptStep.{ScriptStep}
 use Rattle.op_core.specs.declared.script.ScriptStep.TheVariants.{Pass, Call, Return, Operation}
-use Rattle.op_core.specs.ThreadCode.{Code}
-use Rattle.op_core.specs.OrdinaryState.{set_at, Object, Thread, unused, live, ended, OrdinaryState}
-use Rattle.op_core.specs.OrdinaryStep.{MayAnswer, objects_after, threads_after}
-use Rattle.op_core.specs.InPlaceList.{Entry, silent, event, put_back, give_back, go_back, unseen, with_thread, FitsAt, FitFrom, IsInPlaceList, IsAllThere, IsInRange}
+use Rattle.op_core.specs.OrdinaryState.{set_at, Thread, unused, live}
+use Rattle.op_core.specs.InPlaceList.{Entry, event, go_back, IsInPlaceList, IsAllThere, IsInRange}
 use Rattle.op_core.specs.CleanCut.{IsStepOf, CanBeCut, IsGoneBackOver}
 use Rattle.op_core.specs.Script.{ScriptState, next_at, script_code}
 use Rattle.op_core.specs.ScriptLaws.{AllExecute, ScriptsAreGrounded, script_at, two_threads, undone_steps, undone_list, undone_states, undone_cut, UndoneSectionsAreCut, groundless_steps, groundless_list, groundless_cut, CutsNeedGrounds}
 use Rattle.op_core.proofs.PointwiseLemmas.{set_at-at}
-use Rattle.op_core.proofs.QuietLemmas.{quiet_step-silent}
+use Rattle.op_core.proofs.StandLemmas.{IsClosed, grounded_by}
 
--- what objects there are only grows along a list
-objects_after-grow : {S : Type 0} (code : Code S) (s : OrdinaryState S) (t : ℕ) (l : S) (op : Op) (reply : Reply) → MayAnswer s t op reply → (r : ℕ) (o : Object) → s.objects r ≡ Some o → objects_after code l op reply s.objects r ≡ Some o
-objects_after-grow code s t l (New c n) (Made q) answered r o h =
-    let made : Option Object = Some (record { class = c; size = n; words = code.words l c n }) in
-    set_at-at (λ x. x ≡ Some o) s.objects q made r
-    (λ e. let gone : is_some (s.objects r) ≡ false = subst (λ x. IsNone (s.objects x)) (sym e) answered.2 in
-    let there : is_some (s.objects r) ≡ true = ap is_some h in cc)
-    (λ _. h)
-objects_after-grow code s t l _ _ answered r o h = h
+-- threads of a script go on in it
+pub script_closed : (steps : List ScriptStep) → IsClosed script_code (λ l. l.steps ≡ steps)
+script_closed steps = record {
+  silent = λ l own is. own;
+  reply = λ l op reply own wanted goes fits. own;
+  child = λ l r p own wanted. own;
+}
 
--- and what is there stays there
-some_grows : (f g : ℕ → Option Object) → ((r : ℕ) (o : Object) → f r ≡ Some o → g r ≡ Some o) → (r : ℕ) (x : Option Object) → f r ≡ x → IsSome x → IsSome (g r)
-some_grows f g grows r None is there = cc
-some_grows f g grows r (Some o) is there = ap is_some (grows r o is)
-
-word_grows : (f g : ℕ → Option Object) → ((r : ℕ) (o : Object) → f r ≡ Some o → g r ≡ Some o) → (r i : ℕ) (x : Option Object) → f r ≡ x → IsSomeAnd x (λ o. i < o.words) → IsSomeAnd (g r) (λ o. i < o.words)
-word_grows f g grows r i None is there = absurd there
-word_grows f g grows r i (Some o) is there = subst (λ x. IsSomeAnd x (λ o. i < o.words)) (sym (grows r o is)) there
-
-pub IsAllThere-grows : (f g : ℕ → Option Object) → ((r : ℕ) (o : Object) → f r ≡ Some o → g r ≡ Some o) → (op : Op) → IsAllThere f op → IsAllThere g op
-IsAllThere-grows f g grows (ClassOf r) h = some_grows f g grows r (f r) refl h
-IsAllThere-grows f g grows (Read r i) h = word_grows f g grows r i (f r) refl h
-IsAllThere-grows f g grows (Write r i v) h = word_grows f g grows r i (f r) refl h
-IsAllThere-grows f g grows (Enter r) h = some_grows f g grows r (f r) refl h
-IsAllThere-grows f g grows (Exit r) h = some_grows f g grows r (f r) refl h
-IsAllThere-grows f g grows (Wait r) h = some_grows f g grows r (f r) refl h
-IsAllThere-grows f g grows (Rewake r) h = some_grows f g grows r (f r) refl h
-IsAllThere-grows f g grows (Notify r) h = some_grows f g grows r (f r) refl h
-IsAllThere-grows f g grows (Start r p) h = some_grows f g grows r (f r) refl h
-IsAllThere-grows f g grows (Join r) h = some_grows f g grows r (f r) refl h
-IsAllThere-grows f g grows _ h = tt
-
--- What a list keeps: all threads execute the script, and the objects of the start are there.
-record IsKept (steps : List ScriptStep) (start s : OrdinaryState ScriptState) : Type 0 where
-  execute : AllExecute steps s
-  objects : (r : ℕ) (o : Object) → start.objects r ≡ Some o → s.objects r ≡ Some o
-
-with_thread-execute : (steps : List ScriptStep) (s : OrdinaryState ScriptState) (t : ℕ) (m : ScriptState) → AllExecute steps s → m.steps ≡ steps → AllExecute steps (with_thread s t (live m))
-with_thread-execute steps s t m execute own u l = set_at-at (λ x. x ≡ live l → l.steps ≡ steps) s.threads t (live m) u
-    (λ _ e. let same : m ≡ l = cc in ap (λ x. x.steps) (sym same) ∙ own)
-    (λ _ e. execute u l e)
-
-after-execute : (steps : List ScriptStep) (f : ℕ → Thread ScriptState) (t : ℕ) (l : ScriptState) (op : Op) (reply : Reply) → ((u : ℕ) (m : ScriptState) → f u ≡ live m → m.steps ≡ steps) → l.steps ≡ steps → (u : ℕ) (m : ScriptState) → threads_after script_code t l op reply f u ≡ live m → m.steps ≡ steps
-after-execute steps f t l (End x) Done execute own u m =
-    set_at-at (λ y. y ≡ live m → m.steps ≡ steps) f t (ended x) u (λ _ e. cc) (λ _ e. execute u m e)
-after-execute steps f t l (Start r p) (Number n) execute own u m =
-    let child : Thread ScriptState = live (script_code.child l r) in
-    let after_it : ScriptState = script_code.reply l (Number n) in
-    set_at-at (λ y. y ≡ live m → m.steps ≡ steps) (set_at f n child) t (live after_it) u
-    (λ _ e. let same : after_it ≡ m = cc in ap (λ x. x.steps) (sym same) ∙ own)
-    (λ _. set_at-at (λ y. y ≡ live m → m.steps ≡ steps) f n child u
-    (λ _ e. let same : script_code.child l r ≡ m = cc in ap (λ x. x.steps) (sym same) ∙ own)
-    (λ _ e. execute u m e))
-after-execute steps f t l _ reply execute own u m =
-    let after_it : ScriptState = script_code.reply l reply in
-    set_at-at (λ y. y ≡ live m → m.steps ≡ steps) f t (live after_it) u
-    (λ _ e. let same : after_it ≡ m = cc in ap (λ x. x.steps) (sym same) ∙ own)
-    (λ _ e. execute u m e)
-
-kept_at : (steps : List ScriptStep) (start : OrdinaryState ScriptState) (s : ℕ → OrdinaryState ScriptState) (k : ℕ) (e : Entry) → ((p : ℕ) → p ≤ k → IsKept steps start (s p)) → FitsAt script_code s k e → IsKept steps start (s (suc k))
-kept_at steps start s k (silent t) kept fits =
-    let now : IsKept steps start (s k) = kept k (omega arith) in
-    let own : fits.next.steps ≡ steps = ap (λ x. x.steps) (sym (quiet_step-silent script_code fits.from fits.next fits.quiet)) ∙ now.execute t fits.from fits.stands in
-    subst (IsKept steps start) (sym fits.leads) (record { execute = with_thread-execute steps (s k) t fits.next now.execute own; objects = now.objects })
-kept_at steps start s k (event t op reply) kept fits =
-    let now : IsKept steps start (s k) = kept k (omega arith) in
-    subst (IsKept steps start) (sym fits.leads) (record {
-      execute = after-execute steps (s k).threads t fits.at_op op reply now.execute (now.execute t fits.at_op fits.stands);
-      objects = λ r o h. objects_after-grow script_code (s k) t fits.at_op op reply fits.step.answered r o (now.objects r o h);
-    })
-kept_at steps start s k (put_back r i v) kept fits =
-    let now : IsKept steps start (s k) = kept k (omega arith) in
-    subst (IsKept steps start) (sym fits.leads) (record { execute = now.execute; objects = now.objects })
-kept_at steps start s k (give_back t r count) kept fits =
-    let now : IsKept steps start (s k) = kept k (omega arith) in
-    subst (IsKept steps start) (sym fits) (record { execute = now.execute; objects = now.objects })
-kept_at steps start s k (go_back t p) kept fits =
-    let now : IsKept steps start (s k) = kept k (omega arith) in
-    let own : fits.past.steps ≡ steps = (kept p fits.earlier).execute t fits.past fits.was in
-    subst (IsKept steps start) (sym fits.leads) (record { execute = with_thread-execute steps (s k) t fits.past now.execute own; objects = now.objects })
-kept_at steps start s k unseen kept fits = subst (IsKept steps start) (sym fits) (kept k (omega arith))
-
-kept_along : (steps : List ScriptStep) (start : OrdinaryState ScriptState) (s : ℕ → OrdinaryState ScriptState) (k n : ℕ) (es : List Entry) → k + length es ≡ n → ((p : ℕ) → p ≤ k → IsKept steps start (s p)) → FitFrom script_code s k es → IsKept steps start (s n)
-kept_along steps start s k n [] here kept fit = kept n (omega (arith, here))
-kept_along steps start s k n (e ∷ es) here kept (first, fit) =
-    let next : IsKept steps start (s (suc k)) = kept_at steps start s k e kept first in
-    kept_along steps start s (suc k) n es (omega (arith, here))
-    (λ p within. elim (leb_tells p k) [
-      | inl h ↦ kept p h.1
-      | inr h ↦ let is : suc k ≡ p = omega (arith, within, h.1) in subst (λ x. IsKept steps start (s x)) is next
-    ])
-    fit
-
-wanted_step : (x : Option ScriptStep) (op : Op) → next_at x ≡ Want op → x ≡ Some (Operation op)
+pub wanted_step : (x : Option ScriptStep) (op : Op) → next_at x ≡ Want op → x ≡ Some (Operation op)
 wanted_step None op h = cc
 wanted_step (Some Pass) op h = cc
 wanted_step (Some Call) op h = cc
@@ -120,16 +29,9 @@ wanted_step (Some Return) op h = cc
 wanted_step (Some (Operation wanted)) op h = let same : wanted ≡ op = cc in ap (λ x. Some (Operation x)) same
 
 pub scripts_grounded : ScriptsAreGrounded
-scripts_grounded steps start execute named s es begins fit =
-    let first : IsKept steps start start = record { execute = execute; objects = λ r o h. h } in
-    let last : IsKept steps start (s (length es)) = kept_along steps start s 0 (length es) es (omega arith)
-    (λ p within. let zero_th : 0 ≡ p = omega (arith, within) in subst (λ x. IsKept steps start (s x)) zero_th (subst (IsKept steps start) (sym begins) first)) fit in
-    let at_step : (t : ℕ) (l : ScriptState) (op : Op) → (s (length es)).threads t ≡ live l → script_code.next l ≡ Want op → IsAllThere start.objects op × IsInRange op
-    = λ t l op stands wanted. named l.place op (subst (λ x. slice_get x l.place ≡ Some (Operation op)) (last.execute t l stands) (wanted_step (slice_get l.steps l.place) op wanted)) in
-    record {
-      all_there = λ t l op stands wanted. IsAllThere-grows start.objects (s (length es)).objects last.objects op (at_step t l op stands wanted).0;
-      in_range = λ t l op stands wanted. (at_step t l op stands wanted).1;
-    }
+scripts_grounded steps start execute named =
+    grounded_by ScriptState script_code (λ l. l.steps ≡ steps) (script_closed steps) start execute
+    (λ l op own wanted. named l.place op (subst (λ x. slice_get x l.place ≡ Some (Operation op)) own (wanted_step (slice_get l.steps l.place) op wanted)))
 
 -- the threads of the examples execute their script
 two_threads-execute : (steps : List ScriptStep) (first second : ℕ) → AllExecute steps (two_threads steps first second)

@@ -8,3 +8,5 @@ pub mod CleanCut
 pub mod Laws
 pub mod Script
 pub mod ScriptLaws
+pub mod Orderly
+pub mod OrderlyLaws

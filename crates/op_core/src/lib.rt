@@ -10,6 +10,7 @@
 ghost use Rattle.std.specs.Prelude.{◌≡◌};
 
 pub mod laws;
+pub mod premises;
 mod script;
 mod thread_code;
 
