@@ -12,7 +12,7 @@ abbrev pub fixed_at : List FixedObject → ℕ → Option FixedObject
 fixed_at objects r = find (λ o. r == o.reference) (reverse objects)
 
 abbrev pub fixed_header : FixedObject → Object
-fixed_header o = record { class = o.class; size = o.length; words = length o.words }
+fixed_header o = record { class = o.class; length = o.length; words = length o.words }
 
 -- the words of a fixed object by place, 0 past the end and where there is none
 abbrev pub fixed_word : Option FixedObject → ℕ → ℕ

@@ -29,7 +29,7 @@ monitor_of Free = free
 monitor_of (Held owner count) = held owner count
 
 abbrev pub header_of : HeapObject → Object
-header_of x = record { class = x.class; size = x.length; words = length x.words }
+header_of x = record { class = x.class; length = x.length; words = length x.words }
 
 abbrev pub monitor_in : Option HeapObject → Monitor
 monitor_in None = free

@@ -1,7 +1,7 @@
 ghost use Rattle.std.specs.Prelude.{◌≡◌, ◌<◌, OnOk, OnErr, Some, None, IsSome, IsNone, length, slice_set};
 ghost use Rattle.std.specs.Prelude.{◌↔◌, ◌+◌, ◌^◌, ◌≤◌, IsTrue, true, MatchOption};
 ghost use Rattle.std.specs.Option.{option_copied};
-ghost use Rattle.op_core.specs.OrdinaryState.{set_at, free, IsThere, HasWord, IsOfClass, IsOwner, IsOpenTo, entered, left_once, count_of};
+ghost use Rattle.op_core.specs.OrdinaryState.{set_at, free, IsThere, HasWord, IsOfClass, IsOwner, IsOpenTo, entered, exited, count_of};
 ghost use Rattle.machine_tables.specs.Tables.{object_at, monitor_of, objects_in, words_in, monitors_in, starts_in};
 
 use crate::Words;
@@ -62,8 +62,8 @@ impl MonitorState {
     }
 
     /// Left once (`monitorexit`, JVMS 6.5): free at the last time. A free monitor stays free.
-    pub fn left_once(self) -> MonitorState
-        ensures { monitor_of result ≡ left_once (monitor_of self) }
+    pub fn exited(self) -> MonitorState
+        ensures { monitor_of result ≡ exited (monitor_of self) }
     {
         match self {
             MonitorState::Held(owner, count) if count >= 2 => MonitorState::Held(owner, count - 1),

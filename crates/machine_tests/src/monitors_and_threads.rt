@@ -20,11 +20,11 @@ fn a_monitor_is_left_as_often_as_entered(rt: HostRuntime) -> Result<(), Fail> {
     assert!(rt; MonitorState::Held(3, u64::MAX).entered(3).is_none());
     assert!(rt;
         matches!(
-            MonitorState::Held(3, 2).left_once(),
+            MonitorState::Held(3, 2).exited(),
             MonitorState::Held(3, 1)
         )
     );
-    assert!(rt; matches!(MonitorState::Held(3, 1).left_once(), MonitorState::Free));
+    assert!(rt; matches!(MonitorState::Held(3, 1).exited(), MonitorState::Free));
     assert!(rt; MonitorState::Held(3, 2).count() == 2);
     assert!(rt; MonitorState::Free.count() == 0);
     Ok(())

@@ -12,12 +12,12 @@ use Rattle.op_core.specs.ThreadCode.{Code, quiet_step, quiet_steps}
 use Rattle.op_core.specs.OrdinaryState.{set_at, Thread, unused, live, ended, OrdinaryState, OnlyObjectsHaveWords}
 use Rattle.op_core.specs.OrdinaryStep.{MayAnswer, threads_after, after}
 use Rattle.op_core.specs.Execution.{Comes, Leads}
-use Rattle.op_core.specs.InPlaceList.{Entry, silent, event, put_back, give_back, go_back, unseen, with_thread, monitor_of, IsSilentAt, IsEventAt, IsGoBackAt, FitFrom, IsAllThere, IsSound, IsGrounded}
-use Rattle.op_core.specs.CleanCut.{IsStepOf, View, view_of, view_after, view_from, Agrees, AgreeFrom, IsCleanCut, left_from}
+use Rattle.op_core.specs.InPlaceList.{Entry, silent, event, put_back, give_back, go_back, unseen, with_thread, owned_by, IsSilentAt, IsEventAt, IsGoBackAt, FitFrom, IsAllThere, IsSound, IsGrounded}
+use Rattle.op_core.specs.CleanCut.{IsStepOf, View, view_of, view_after, view_from, Agrees, AgreeFrom, IsCleanCut, kept_from}
 use Rattle.op_core.specs.Laws.{IsSameKind, CutsLeadOn, CutsLeaveExecutions}
 use Rattle.op_core.proofs.PointwiseLemmas.{set_at-hit, set_at-other, set_at-at, same_or_other}
 use Rattle.op_core.proofs.GroundedLemmas.{Traced, Traced-start, Traced-quiet, Traced-comes, Traced-sound}
-use Rattle.op_core.proofs.TiedLemmas.{Tied, Tied-can, Tied-answer, Tied-left, Tied-cut, Tied-moved, Tied-word, Tied-monitor, threads_after-cut}
+use Rattle.op_core.proofs.TiedLemmas.{Tied, Tied-can, Tied-answer, Tied-kept, Tied-cut, Tied-moved, Tied-word, Tied-monitor, threads_after-cut}
 
 -- the list goes on so from a place on
 abbrev IsRest : {A : Type 0} → List A → ℕ → List A → Type 0
@@ -424,9 +424,9 @@ along_event : {S : Type 0} (code : Code S) (s : ℕ → OrdinaryState S) (all : 
     → (fits : IsEventAt code s k t op reply) → slice_get all k ≡ Some (event t op reply)
     → (x : Bool) → cut k ≡ x → (x ≡ false → Agrees (s k) view t op reply)
     → AgreeFrom cut s (suc k) (cond x view (view_after t op reply view)) rest
-    → ((b' : OrdinaryState S) (view' : View) (silents' : ℕ → ℕ) → AgreeFrom cut s (suc k) view' rest → Traced code (s 0) b' → IsFollowed code s all cut (suc k) b' view' silents' → Outcome code s all cut (suc k) rest b' view' (left_from cut (suc k) silents' rest))
+    → ((b' : OrdinaryState S) (view' : View) (silents' : ℕ → ℕ) → AgreeFrom cut s (suc k) view' rest → Traced code (s 0) b' → IsFollowed code s all cut (suc k) b' view' silents' → Outcome code s all cut (suc k) rest b' view' (kept_from cut (suc k) silents' rest))
     → Outcome code s all cut (suc k) rest b (cond x view (view_after t op reply view))
-    (cond x (left_from cut (suc k) silents rest) (record { thread = t; silent = silents t; op = op; reply = reply } ∷ left_from cut (suc k) (set_at silents t 0) rest))
+    (cond x (kept_from cut (suc k) silents rest) (record { thread = t; silent = silents t; op = op; reply = reply } ∷ kept_from cut (suc k) (set_at silents t 0) rest))
 along_event code s all cut k rest b view silents t op reply clean grounded traced h fits at_k true is agrees later on =
     let can = clean.allowed k t op reply is at_k in
     let tied : Tied (s (suc k)) b view = subst (λ x. Tied x b view) (sym fits.leads) (Tied-cut code (s k) b view h.tied t fits.at_op op reply fits.stands can fits.step.answered) in
@@ -438,7 +438,7 @@ along_event code s all cut k rest b view silents t op reply clean grounded trace
     let (there, comes) = left_comes code s all cut k b view silents t op reply clean grounded traced h fits (agrees refl) is at_k in
     let tied : Tied (s (suc k)) (after code b t fits.at_op op reply) (view_after t op reply view)
     = subst (λ x. Tied x (after code b t fits.at_op op reply) (view_after t op reply view)) (sym fits.leads)
-    (Tied-left code (s k) b view h.tied t fits.at_op op reply there (agrees refl) comes.step.answered) in
+    (Tied-kept code (s k) b view h.tied t fits.at_op op reply there (agrees refl) comes.step.answered) in
     let outcome = on (after code b t fits.at_op op reply) (view_after t op reply view) (set_at silents t 0) later
     (Traced-comes code (s 0) b (record { thread = t; silent = silents t; op = op; reply = reply }) fits.at_op traced comes)
     (followed_left code s all cut k b view silents t op reply fits h tied comes.step.answered is at_k) in
@@ -457,7 +457,7 @@ along_silent code s all cut k b view silents t clean h fits at_k false is = foll
 along : {S : Type 0} (code : Code S) (s : ℕ → OrdinaryState S) (all : List Entry) (cut : ℕ → Bool) → IsCleanCut s all cut → IsGrounded code (s 0)
     → (k : ℕ) (rest : List Entry) (b : OrdinaryState S) (view : View) (silents : ℕ → ℕ)
     → IsRest all k rest → FitFrom code s k rest → AgreeFrom cut s k view rest → Traced code (s 0) b → IsFollowed code s all cut k b view silents
-    → Outcome code s all cut k rest b view (left_from cut k silents rest)
+    → Outcome code s all cut k rest b view (kept_from cut k silents rest)
 along code s all cut clean grounded k [] b view silents at fit agree traced h = record {
   last = b;
   leads = refl;
@@ -483,7 +483,7 @@ along code s all cut clean grounded k (put_back r i v ∷ rest) b view silents a
     record { last = o.last; leads = o.leads; silents = o.silents; followed = o.followed }
 along code s all cut clean grounded k (give_back t r count ∷ rest) b view silents at (fits, fit) agree traced h =
     let at_k : slice_get all k ≡ Some (give_back t r count) = rest_get all k (give_back t r count) rest at in
-    let tied : Tied (s (suc k)) b view = subst (λ x. Tied x b view) (sym fits) (Tied-monitor (s k) b view h.tied r (monitor_of t count)) in
+    let tied : Tied (s (suc k)) b view = subst (λ x. Tied x b view) (sym fits) (Tied-monitor (s k) b view h.tied r (owned_by t count)) in
     let o = along code s all cut clean grounded (suc k) rest b view silents (rest_next all k (give_back t r count) rest at) fit agree traced
     (followed_still code s all cut k b view silents h tied (ap (λ x. x.threads) fits) (λ u q e. cc)) in
     record { last = o.last; leads = o.leads; silents = o.silents; followed = o.followed }

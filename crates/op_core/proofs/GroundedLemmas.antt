@@ -12,7 +12,7 @@ use Rattle.op_core.specs.ThreadCode.{Code, quiet_step, quiet_steps}
 use Rattle.op_core.specs.OrdinaryState.{set_at, Thread, unused, live, ended, OrdinaryState, HasEnded}
 use Rattle.op_core.specs.OrdinaryStep.{IsFreeNumber, CanStep, MayAnswer, threads_after, after, IsStep}
 use Rattle.op_core.specs.Execution.{Comes, Leads}
-use Rattle.op_core.specs.InPlaceList.{Entry, silent, event, put_back, give_back, go_back, unseen, with_thread, with_word, with_monitor, monitor_of, FitsAt, FitFrom, IsInPlaceList, IsSound, IsGrounded}
+use Rattle.op_core.specs.InPlaceList.{Entry, silent, event, put_back, give_back, go_back, unseen, with_thread, with_word, with_monitor, owned_by, FitsAt, FitFrom, IsInPlaceList, IsSound, IsGrounded}
 use Rattle.op_core.specs.Laws.{ExecutionsAreSound}
 use Rattle.op_core.proofs.PointwiseLemmas.{set_at-hit, set_at-other, set_at-twice, set_at-swap, set_at-same}
 
@@ -50,7 +50,7 @@ FitsAt-same code s r k (put_back q i v) same h =
 FitsAt-same code s r k (give_back t q count) same h =
     let now : r k ≡ s k = same k (omega arith) in
     let next : r (suc k) ≡ s (suc k) = same (suc k) (omega arith) in
-    subst (λ x. r (suc k) ≡ with_monitor x q (monitor_of t count)) (sym now) (next ∙ h)
+    subst (λ x. r (suc k) ≡ with_monitor x q (owned_by t count)) (sym now) (next ∙ h)
 FitsAt-same code s r k (go_back t p) same h =
     let now : r k ≡ s k = same k (omega arith) in
     let next : r (suc k) ≡ s (suc k) = same (suc k) (omega arith) in

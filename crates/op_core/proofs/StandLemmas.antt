@@ -23,7 +23,7 @@ use Rattle.op_core.proofs.ExecutionLemmas.{answers_fit}
 -- what objects there are only grows along a list
 objects_after-grow : {S : Type 0} (code : Code S) (s : OrdinaryState S) (t : ℕ) (l : S) (op : Op) (reply : Reply) → MayAnswer s t op reply → (r : ℕ) (o : Object) → s.objects r ≡ Some o → objects_after code l op reply s.objects r ≡ Some o
 objects_after-grow code s t l (New c n) (Made q) answered r o h =
-    let made : Option Object = Some (record { class = c; size = n; words = code.words l c n }) in
+    let made : Option Object = Some (record { class = c; length = n; words = code.words l c n }) in
     set_at-at (λ x. x ≡ Some o) s.objects q made r
     (λ e. let gone : is_some (s.objects r) ≡ false = subst (λ x. IsNone (s.objects x)) (sym e) answered.2 in
     let there : is_some (s.objects r) ≡ true = ap is_some h in cc)

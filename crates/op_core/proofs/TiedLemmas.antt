@@ -68,10 +68,10 @@ none_there s b view tied r h (Some o) e = let there : s.objects r ≡ Some o = t
 free_reference : {S : Type 0} (s b : OrdinaryState S) (view : View) → Tied s b view → (r : ℕ) → IsFreeReference s.objects r → IsFreeReference b.objects r
 free_reference s b view tied r h = (h.0, h.1, none_there s b view tied r h.2 (b.objects r) refl)
 
-of_class : {S : Type 0} (s b : OrdinaryState S) (view : View) → Tied s b view → (r c n : ℕ) → IsOfClass s.objects r c n → (x : Option Object) → b.objects r ≡ x → IsSome x → IsSomeAnd x (λ o. (o.class ≡ c) × (o.size ≡ n))
+of_class : {S : Type 0} (s b : OrdinaryState S) (view : View) → Tied s b view → (r c n : ℕ) → IsOfClass s.objects r c n → (x : Option Object) → b.objects r ≡ x → IsSome x → IsSomeAnd x (λ o. (o.class ≡ c) × (o.length ≡ n))
 of_class s b view tied r c n h None e some = cc
 of_class s b view tied r c n h (Some o) e some =
-    let P : Option Object → Type 0 = λ x. IsSomeAnd x (λ o. (o.class ≡ c) × (o.size ≡ n)) in
+    let P : Option Object → Type 0 = λ x. IsSomeAnd x (λ o. (o.class ≡ c) × (o.length ≡ n)) in
     subst P (tied.objects r o e) h
 
 -- the operation has a step in the ordinary state too, with the same reply
@@ -144,7 +144,7 @@ Tied-answer s b view tied t _ _ there agrees answered = absurd answered
 -- What a left event makes of each part of the tie.
 objects_after-within : {S : Type 0} (code : Code S) (l : S) (op : Op) (reply : Reply) (f g : ℕ → Option Object) → ((r : ℕ) (o : Object) → f r ≡ Some o → g r ≡ Some o) → (r : ℕ) (o : Object) → objects_after code l op reply f r ≡ Some o → objects_after code l op reply g r ≡ Some o
 objects_after-within code l (New c n) (Made q) f g within r o =
-    let made : Option Object = Some (record { class = c; size = n; words = code.words l c n }) in
+    let made : Option Object = Some (record { class = c; length = n; words = code.words l c n }) in
     set_at-both (λ x y. x ≡ Some o → y ≡ Some o) f g q made made r (λ _ h. h) (λ _ h. within r o h)
 objects_after-within code l _ _ f g within r o = within r o
 
@@ -175,7 +175,7 @@ threads_after-kinds code t l _ reply f g kinds u = set_at-both IsSameKind f g t 
 -- after a step, too, only objects have words
 after-no_words : {S : Type 0} (code : Code S) (b : OrdinaryState S) (t : ℕ) (l : S) (op : Op) (reply : Reply) → IsAllThere b.objects op → OnlyObjectsHaveWords b → OnlyObjectsHaveWords (after code b t l op reply)
 after-no_words code b t l (New c n) (Made q) there none r i gone =
-    let made : Option Object = Some (record { class = c; size = n; words = code.words l c n }) in
+    let made : Option Object = Some (record { class = c; length = n; words = code.words l c n }) in
     let zeros : ℕ → ℕ = λ _. 0 in
     set_at-both (λ x y. IsNone x → y i ≡ 0) b.objects b.words q made zeros r (λ _ _. refl) (λ _ h. none r i h) gone
 after-no_words code b t l (Write q j v) Done there none r i h =
@@ -187,8 +187,8 @@ after-no_words code b t l (Write q j v) Done there none r i h =
 after-no_words code b t l _ _ there none r i h = none r i h
 
 -- a left event keeps the tie
-pub Tied-left : {S : Type 0} (code : Code S) (s b : OrdinaryState S) (view : View) → Tied s b view → (t : ℕ) (l : S) (op : Op) (reply : Reply) → IsAllThere b.objects op → Agrees s view t op reply → MayAnswer b t op reply → Tied (after code s t l op reply) (after code b t l op reply) (view_after t op reply view)
-Tied-left code s b view tied t l op reply there agrees answered = record {
+pub Tied-kept : {S : Type 0} (code : Code S) (s b : OrdinaryState S) (view : View) → Tied s b view → (t : ℕ) (l : S) (op : Op) (reply : Reply) → IsAllThere b.objects op → Agrees s view t op reply → MayAnswer b t op reply → Tied (after code s t l op reply) (after code b t l op reply) (view_after t op reply view)
+Tied-kept code s b view tied t l op reply there agrees answered = record {
   objects = objects_after-within code l op reply b.objects s.objects tied.objects;
   words = words_after-same b t op reply b.words tied.no_words answered ∙ ap (written_after op reply) tied.words;
   monitors = ap (λ w. monitors_after t op reply w b.monitors) (sym tied.waits) ∙ ap (monitors_after t op reply view.waiting) tied.monitors;
@@ -204,7 +204,7 @@ Tied-left code s b view tied t l op reply there agrees answered = record {
 -- What a cut event leaves as it was.
 objects_after-cut : {S : Type 0} (code : Code S) (s b : OrdinaryState S) (view : View) → Tied s b view → (t : ℕ) (l : S) (op : Op) (reply : Reply) → MayAnswer s t op reply → (r : ℕ) (o : Object) → b.objects r ≡ Some o → objects_after code l op reply s.objects r ≡ Some o
 objects_after-cut code s b view tied t l (New c n) (Made q) answered r o h =
-    let made : Option Object = Some (record { class = c; size = n; words = code.words l c n }) in
+    let made : Option Object = Some (record { class = c; length = n; words = code.words l c n }) in
     set_at-at (λ x. x ≡ Some o) s.objects q made r
     (λ e. let gone : is_some (s.objects r) ≡ false = subst (λ x. IsNone (s.objects x)) (sym e) answered.2 in
     let there : is_some (s.objects r) ≡ true = ap is_some (tied.objects r o h) in cc)

@@ -111,20 +111,20 @@ view_from cut k view (unseen ∷ es) = view_from cut (suc k) view es
 
 -- the events from number k on that are left, each with the number of its thread's silent steps left
 -- since its event before; `silents` says how many there are already
-abbrev pub left_from : (ℕ → Bool) → ℕ → (ℕ → ℕ) → List Entry → List Event
-left_from cut k silents [] = []
-left_from cut k silents (silent t ∷ es) =
-    left_from cut (suc k) (if cut k then silents else set_at silents t (suc (silents t))) es
-left_from cut k silents (event t op reply ∷ es) =
+abbrev pub kept_from : (ℕ → Bool) → ℕ → (ℕ → ℕ) → List Entry → List Event
+kept_from cut k silents [] = []
+kept_from cut k silents (silent t ∷ es) =
+    kept_from cut (suc k) (if cut k then silents else set_at silents t (suc (silents t))) es
+kept_from cut k silents (event t op reply ∷ es) =
     if cut k
-    then left_from cut (suc k) silents es
+    then kept_from cut (suc k) silents es
     else (record { thread = t; silent = silents t; op = op; reply = reply }
-    ∷ left_from cut (suc k) (set_at silents t 0) es)
-left_from cut k silents (put_back r i v ∷ es) = left_from cut (suc k) silents es
-left_from cut k silents (give_back t r count ∷ es) = left_from cut (suc k) silents es
-left_from cut k silents (go_back t p ∷ es) = left_from cut (suc k) silents es
-left_from cut k silents (unseen ∷ es) = left_from cut (suc k) silents es
+    ∷ kept_from cut (suc k) (set_at silents t 0) es)
+kept_from cut k silents (put_back r i v ∷ es) = kept_from cut (suc k) silents es
+kept_from cut k silents (give_back t r count ∷ es) = kept_from cut (suc k) silents es
+kept_from cut k silents (go_back t p ∷ es) = kept_from cut (suc k) silents es
+kept_from cut k silents (unseen ∷ es) = kept_from cut (suc k) silents es
 
 -- what the cut leaves
-abbrev pub left_by : (ℕ → Bool) → List Entry → List Event
-left_by cut es = left_from cut 0 (λ _. 0) es
+abbrev pub kept_by : (ℕ → Bool) → List Entry → List Event
+kept_by cut es = kept_from cut 0 (λ _. 0) es

@@ -9,14 +9,14 @@ use Rattle.op_core.specs.OrdinaryState.{Object, Thread, unused, live, ended, Ord
 use Rattle.op_core.specs.OrdinaryStep.{MayAnswer, after}
 use Rattle.op_core.specs.Execution.{Comes, Leads, IsExecution, IsReached, printed}
 use Rattle.op_core.specs.InPlaceList.{Entry, IsInPlaceList, IsSound, IsGrounded}
-use Rattle.op_core.specs.CleanCut.{view_of, view_from, IsStepOf, IsGoneBackOver, IsCleanCut, left_by}
+use Rattle.op_core.specs.CleanCut.{view_of, view_from, IsStepOf, IsGoneBackOver, IsCleanCut, kept_by}
 
 -- The cut law: what a clean cut leaves of a list in which undoing is seen is an execution from the
 -- same start.
 abbrev pub CutsLeaveExecutions : {S : Type 0} → Code S → Type 0
 CutsLeaveExecutions {S} code = (s : ℕ → OrdinaryState S) (es : List Entry) (cut : ℕ → Bool)
     → OnlyObjectsHaveWords (s 0) → IsGrounded code (s 0) → IsInPlaceList code s es → IsCleanCut s es cut
-    → IsExecution code (s 0) (left_by cut es)
+    → IsExecution code (s 0) (kept_by cut es)
 
 -- two threads are both not drawn, or both at a local state, or both ended, and alike
 abbrev pub IsSameKind : {S : Type 0} → Thread S → Thread S → Type 0
@@ -28,7 +28,7 @@ IsSameKind _ _ = ⊥
 -- How the last state of what is left, `last`, stands to the last state of the list, `now`: words and
 -- monitors are as the events that are left make them, and a thread whose cut steps are all gone back
 -- over stands, some silent steps later, where it stands in the list.
-pub record IsLeftOf {S : Type 0} (code : Code S) (first : OrdinaryState S) (es : List Entry) (cut : ℕ → Bool) (now last : OrdinaryState S) : Type 0 where
+pub record IsKeptOf {S : Type 0} (code : Code S) (first : OrdinaryState S) (es : List Entry) (cut : ℕ → Bool) (now last : OrdinaryState S) : Type 0 where
   pub objects : (r : ℕ) (o : Object) → last.objects r ≡ Some o → now.objects r ≡ Some o
   pub words : last.words ≡ (view_from cut 0 (view_of first) es).words
   pub monitors : last.monitors ≡ (view_from cut 0 (view_of first) es).monitors
@@ -45,7 +45,7 @@ pub record IsLeftOf {S : Type 0} (code : Code S) (first : OrdinaryState S) (es :
 abbrev pub CutsLeadOn : {S : Type 0} → Code S → Type 0
 CutsLeadOn {S} code = (s : ℕ → OrdinaryState S) (es : List Entry) (cut : ℕ → Bool)
     → OnlyObjectsHaveWords (s 0) → IsGrounded code (s 0) → IsInPlaceList code s es → IsCleanCut s es cut
-    → (last : OrdinaryState S) × Leads code (s 0) (left_by cut es) last × IsLeftOf code (s 0) es cut (s (length es)) last
+    → (last : OrdinaryState S) × Leads code (s 0) (kept_by cut es) last × IsKeptOf code (s 0) es cut (s (length es)) last
 
 -- the beginnings of an execution are executions
 abbrev pub BeginningsAreExecutions : {S : Type 0} → Code S → Type 0

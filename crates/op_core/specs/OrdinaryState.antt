@@ -11,26 +11,26 @@ set_at f k v j = if nat_eq j k then v else f j
 -- and length don't tell: the words of a class object are its class's static fields
 pub record Object : Type 0 where
   pub class : ℕ
-  pub size : ℕ
+  pub length : ℕ
   pub words : ℕ
 
 -- a monitor is free, or held by a thread that entered it so many times (JLS 17.1)
 pub data Monitor : Type 0 where
   free : Monitor
-  held : ℕ → ℕ → Monitor
+  held : (owner count : ℕ) → Monitor
 
 -- a thread is awake; or it is in the wait set of an object, whose monitor it had entered so many
 -- times; or it was notified and has yet to enter that monitor again (JLS 17.2)
 pub data Waiting : Type 0 where
   awake : Waiting
-  waits : ℕ → ℕ → Waiting
-  notified : ℕ → ℕ → Waiting
+  waits : (object count : ℕ) → Waiting
+  notified : (object count : ℕ) → Waiting
 
 -- a class is unready, being initialized by a thread, ready, or bad, since its initialization
 -- failed (JLS 12.4.2)
 pub data ClassState : Type 0 where
   unready : ClassState
-  claimed : ℕ → ClassState
+  claimed : (owner : ℕ) → ClassState
   ready : ClassState
   bad : ClassState
 
@@ -74,7 +74,7 @@ HasWord objects r i = IsSomeAnd (objects r) (λ o. i < o.words)
 
 -- it is there, of this class and length
 abbrev pub IsOfClass : (ℕ → Option Object) → ℕ → ℕ → ℕ → Type 0
-IsOfClass objects r c n = IsSomeAnd (objects r) (λ o. (o.class ≡ c) × (o.size ≡ n))
+IsOfClass objects r c n = IsSomeAnd (objects r) (λ o. (o.class ≡ c) × (o.length ≡ n))
 
 -- thread t owns the monitor
 abbrev pub IsOwner : ℕ → Monitor → Type 0
@@ -96,12 +96,12 @@ abbrev pub entered : ℕ → Monitor → Monitor
 entered t free = held t 1
 entered t (held owner count) = held owner (suc count)
 
--- left once: free at the last time
-abbrev pub left_once : Monitor → Monitor
-left_once free = free
-left_once (held owner zero) = free
-left_once (held owner (suc zero)) = free
-left_once (held owner (suc (suc count))) = held owner (suc count)
+-- exited once: free at the last time
+abbrev pub exited : Monitor → Monitor
+exited free = free
+exited (held owner zero) = free
+exited (held owner (suc zero)) = free
+exited (held owner (suc (suc count))) = held owner (suc count)
 
 -- in the wait set of the object
 abbrev pub IsWaitingFor : ℕ → Waiting → Type 0

@@ -8,7 +8,7 @@ use Rattle.op_core.specs.declared.Reply.TheVariants.{Class, Value, Made, Done, N
 use Rattle.op_core.specs.declared.Next.TheVariants.{Want}
 use Rattle.op_core.specs.declared.Line.{Line}
 use Rattle.op_core.specs.ThreadCode.{Code}
-use Rattle.op_core.specs.OrdinaryState.{set_at, Object, Monitor, free, held, Waiting, awake, waits, ClassState, unready, claimed, ready, bad, Thread, unused, live, ended, OrdinaryState, IsThere, HasWord, IsOfClass, IsOwner, IsOpenTo, count_of, entered, left_once, IsWaitingFor, IsNotifiedFor, saved_count, notified_of, HasEnded, IsOpenClass}
+use Rattle.op_core.specs.OrdinaryState.{set_at, Object, Monitor, free, held, Waiting, awake, waits, ClassState, unready, claimed, ready, bad, Thread, unused, live, ended, OrdinaryState, IsThere, HasWord, IsOfClass, IsOwner, IsOpenTo, count_of, entered, exited, IsWaitingFor, IsNotifiedFor, saved_count, notified_of, HasEnded, IsOpenClass}
 
 -- a thread number that can be drawn: the main thread has 1
 abbrev pub IsFreeNumber : {S : Type 0} → (ℕ → Thread S) → ℕ → Type 0
@@ -74,7 +74,7 @@ MayAnswer _ _ _ _ = ⊥
 
 -- What a step changes, part by part. What has no row stays; l is the local state that wants the operation.
 abbrev pub objects_after : {S : Type 0} → Code S → S → Op → Reply → (ℕ → Option Object) → ℕ → Option Object
-objects_after code l (New c n) (Made r) f = set_at f r (Some (record { class = c; size = n; words = code.words l c n }))
+objects_after code l (New c n) (Made r) f = set_at f r (Some (record { class = c; length = n; words = code.words l c n }))
 objects_after code l _ _ f = f
 
 abbrev pub words_after : Op → Reply → (ℕ → ℕ → ℕ) → ℕ → ℕ → ℕ
@@ -85,7 +85,7 @@ words_after _ _ f = f
 abbrev pub monitors_after : ℕ → Op → Reply → (ℕ → Waiting) → (ℕ → Monitor) → ℕ → Monitor
 monitors_after t (New c n) (Made r) waiting f = set_at f r free
 monitors_after t (Enter r) Done waiting f = set_at f r (entered t (f r))
-monitors_after t (Exit r) Done waiting f = set_at f r (left_once (f r))
+monitors_after t (Exit r) Done waiting f = set_at f r (exited (f r))
 monitors_after t (Wait r) Done waiting f = set_at f r free
 monitors_after t (Rewake r) Done waiting f = set_at f r (held t (saved_count (waiting t)))
 monitors_after _ _ _ waiting f = f

@@ -6,7 +6,7 @@ use Rattle.op_core.specs.declared.Reply.{Reply}
 use Rattle.op_core.specs.declared.Reply.TheVariants.{Made, Done, NotOwner, Woken, Number, Claimed}
 use Rattle.op_core.specs.declared.Line.{Line}
 use Rattle.op_core.specs.ThreadCode.{Code}
-use Rattle.op_core.specs.OrdinaryState.{Monitor, free, held, Waiting, awake, waits, ClassState, unready, claimed, ready, bad, live, ended, IsOwner, IsWaitingFor, count_of, entered, left_once, saved_count, notified_of}
+use Rattle.op_core.specs.OrdinaryState.{Monitor, free, held, Waiting, awake, waits, ClassState, unready, claimed, ready, bad, live, ended, IsOwner, IsWaitingFor, count_of, entered, exited, saved_count, notified_of}
 use Rattle.op_core.specs.OrdinaryStep.{AnswersInit, MayAnswer}
 use Rattle.ordinary_machine.specs.Machine.{Machine, shared_after, moved, with_word_at, with_monitor_at, with_waiting_at, with_class_at, with_line, with_thread_at, woken_of}
 
@@ -23,7 +23,7 @@ pub enter_shared : {S : Type 0} (code : Code S) (m : Machine S) (l : S) (t r : �
 enter_shared code m l t r Done monitor answered is = ap (with_monitor_at m r) is
 enter_shared code m l t r _ monitor answered is = absurd answered
 
-pub exit_shared : {S : Type 0} (code : Code S) (m : Machine S) (l : S) (t r : ℕ) (reply : Reply) (monitor : Monitor) → MayAnswer m.now t (Exit r) reply → IsOwner t (m.now.monitors r) → monitor ≡ left_once (m.now.monitors r)
+pub exit_shared : {S : Type 0} (code : Code S) (m : Machine S) (l : S) (t r : ℕ) (reply : Reply) (monitor : Monitor) → MayAnswer m.now t (Exit r) reply → IsOwner t (m.now.monitors r) → monitor ≡ exited (m.now.monitors r)
     → with_monitor_at m r monitor ≡ shared_after code m t l (Exit r) reply
 exit_shared code m l t r Done monitor answered owner is = ap (with_monitor_at m r) is
 exit_shared code m l t r NotOwner monitor answered owner is = absurd (answered owner)

@@ -120,7 +120,7 @@ only_done s t (End x) Done plain h = refl
 only_done s t (End x) _ plain h = absurd h
 only_done s t _ _ plain h = absurd plain
 
-one_class : (o : Option Object) (c n d k : ℕ) → IsSomeAnd o (λ x. (x.class ≡ c) × (x.size ≡ n)) → IsSomeAnd o (λ x. (x.class ≡ d) × (x.size ≡ k)) → Class d k ≡ Class c n
+one_class : (o : Option Object) (c n d k : ℕ) → IsSomeAnd o (λ x. (x.class ≡ c) × (x.length ≡ n)) → IsSomeAnd o (λ x. (x.class ≡ d) × (x.length ≡ k)) → Class d k ≡ Class c n
 one_class None c n d k a b = absurd a
 one_class (Some x) c n d k a b = cc
 

@@ -67,7 +67,7 @@ step_below code m l (New c n) (Made r) chosen below = record {
       let size = code.words l c n in
       let other : k ≡ r → ⊥ = λ e. omega (arith, past, e, chosen) in
       let less : m.first + m.taken ≤ k = omega (arith, past) in
-      let made : Option Object = Some (record { class = c; size = n; words = size }) in
+      let made : Option Object = Some (record { class = c; length = n; words = size }) in
       subst IsNone (sym (set_at-other m.now.objects r made k other)) (below.none k less);
 }
 step_below code m l _ _ chosen below = below

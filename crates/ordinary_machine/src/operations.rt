@@ -71,7 +71,7 @@ impl<C: ThreadCode + Drop> Ordinary<C> {
         ensures { (l : C.State) → machine_of C.state self.new ≡ shared_after C.code (machine_of C.state self.old) thread l (Op.Exit reference) reply }
     {
         if self.objects.is_owner(thread, reference) {
-            let monitor = self.objects.monitor(reference).left_once();
+            let monitor = self.objects.monitor(reference).exited();
             self.put_monitor(reference, monitor);
         }
     }
