@@ -3,7 +3,7 @@ use Rattle.std.specs.Prelude.{◌==◌, ℕ, Option, None, Some, List, [], ◌�
 use Rattle.op_core.specs.OrdinaryState.{Object}
 use Rattle.fixed_objects.specs.declared.FixedObject.{FixedObject}
 
--- the object of the thread that executes main: priority 5, no target, no name; it has started thread 1
+-- the object of the thread that executes main: priority 5, no target; it has started thread 1
 abbrev pub main_thread_at : ℕ → ℕ → FixedObject
 main_thread_at r c = record { reference = r; class = c; length = 0; words = 5 ∷ 0 ∷ 0 ∷ []; started = 1 }
 

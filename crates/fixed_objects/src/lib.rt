@@ -28,8 +28,8 @@ pub struct FixedObject {
 }
 
 impl FixedObject {
-    /// The object of the thread that executes `main`: its priority is 5 (`Thread.NORM_PRIORITY`), it has no
-    /// target and no name, and it has started thread 1.
+    /// The object of the thread that executes `main`: its priority is 5 (`Thread.NORM_PRIORITY`), it has started
+    /// thread 1, and it has no target.
     pub fn main_thread(alloc: Global, reference: u32, class: u32) -> Result<Self, AllocError>
         ensures { IfOk result (λ object. object ≡ main_thread_at reference class) }
     {
@@ -51,7 +51,7 @@ pub struct Opening {
     pub objects: Rows<FixedObject>,
     /// The numbers of the classes that need no initialization.
     pub ready: Rows<u32>,
-    /// How many classes the program has. Their numbers are below it.
+    /// How many classes the program has. They have the numbers from 1 to it.
     pub classes: u32,
     /// The first reference that a new object can have.
     pub first: u32,

@@ -1,4 +1,4 @@
--- What the shared words say, bit by bit. Each word is 0 before it is first set.
+-- What the shared words say, bit by bit.
 use Rattle.std.specs.Prelude.{◌≡◌, ℕ, ◌+◌, ◌*◌, ◌/◌, ◌%◌, ◌^◌}
 use Rattle.heap_words.specs.declared.words.WaitWord.{WaitWord}
 use Rattle.heap_words.specs.declared.words.WaitWord.TheVariants.{Awake, Waiting, Notified}

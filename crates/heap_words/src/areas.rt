@@ -3,9 +3,9 @@ ghost use Rattle.heap_words.specs.Areas.{number_in, count_in, place_in, begin_of
 
 use op_core::Limits;
 
-/// The numbers of the control words. The others of their eight stay 0.
+/// The numbers of the control words. The others of their eight have no use.
 pub mod control {
-    /// It stays 0, and is loaded where a started thread is handed out.
+    /// It is loaded where a started thread is handed out. No step changes it.
     pub const SEATS: u32 = 0;
     /// How many numbers of sections were drawn.
     pub const SECTIONS: u32 = 1;
@@ -19,8 +19,8 @@ pub mod control {
     pub const STOP: u32 = 5;
 }
 
-/// A word that threads share, by its area and its number in it. The words of number 0 of sections, threads, waits,
-/// classes and objects stay 0.
+/// A word that threads share, by its area and its number in it. The number 0 of sections, threads, waits, classes
+/// and objects stands for none.
 #[derive(Clone, Copy)]
 pub enum Area {
     /// The control word of this number ([`control`]).

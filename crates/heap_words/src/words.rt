@@ -31,7 +31,7 @@ impl HeapWord {
     }
 }
 
-/// The word at an object's reference, which never changes.
+/// The word at an object's reference.
 #[derive(Clone, Copy)]
 pub struct Header {
     /// The number of the object's class.

@@ -61,7 +61,7 @@ impl MonitorState {
         }
     }
 
-    /// Left once (`monitorexit`, JVMS 6.5): free at the last time. A free monitor stays free.
+    /// Exited once (`monitorexit`, JVMS 6.5): free at the last time. A free monitor stays free.
     pub fn exited(self) -> MonitorState
         ensures { monitor_of result ≡ exited (monitor_of self) }
     {

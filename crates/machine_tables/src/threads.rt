@@ -282,8 +282,7 @@ impl<C: Drop> Threads<C> {
 
 impl<C: ThreadCode + Drop> Threads<C> {
     /// Makes silent steps of a thread where it stands, at most so many, and answers how many: none where it
-    /// has not begun or has ended. None of them ends a frame that was on top at a save, and the count of its
-    /// silent steps has room for them.
+    /// has not begun or has ended. The count of its silent steps has room for them.
     pub fn run_silent(&mut self, thread: u8, most: u64) -> u64
         ensures runs { SeatRuns C.code C.state result (seat_at self.old thread) (seat_at self.new thread) }
         ensures others { seat_at self.new ≡ set_at (seat_at self.old) thread (seat_at self.new thread) }

@@ -18,12 +18,7 @@ fn a_monitor_is_left_as_often_as_entered(rt: HostRuntime) -> Result<(), Fail> {
     let twice = MonitorState::Held(3, 1).entered(3);
     assert!(rt; matches!(twice, Some(MonitorState::Held(3, 2))));
     assert!(rt; MonitorState::Held(3, u64::MAX).entered(3).is_none());
-    assert!(rt;
-        matches!(
-            MonitorState::Held(3, 2).exited(),
-            MonitorState::Held(3, 1)
-        )
-    );
+    assert!(rt; matches!(MonitorState::Held(3, 2).exited(), MonitorState::Held(3, 1)));
     assert!(rt; matches!(MonitorState::Held(3, 1).exited(), MonitorState::Free));
     assert!(rt; MonitorState::Held(3, 2).count() == 2);
     assert!(rt; MonitorState::Free.count() == 0);

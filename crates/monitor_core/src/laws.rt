@@ -9,7 +9,7 @@ pub fn monitor_words_are_packed()
     ensures { MonitorWordsArePacked }
 {}
 
-/// A section is revoked exactly where another thread's section holds the monitor, is live, and has a lower priority.
+/// `decide` answers Revoke exactly where another thread's section holds the monitor, is live, and has a lower priority.
 pub fn revokes_lower_live_sections()
     ensures { RevokesLowerLiveSections }
 {}

@@ -62,7 +62,7 @@ pub enum Why {
     Pinned,
     /// The monitor is held by a section that was revoked and isn't undone yet.
     Revoking,
-    /// The section that held the monitor has ended, or is undone, and is about to leave it.
+    /// The section that held the monitor has ended, or is undone: it is leaving it, or has left it since.
     Leaving,
     /// The word was written in this section, which was revoked and isn't undone yet.
     WordRevoking(u32),

@@ -83,9 +83,9 @@ with_thread_at m t thread silent = record m {
 
 -- one part changed at one number
 abbrev pub with_new_object : {S : Type 0} → Machine S → ℕ → ℕ → ℕ → ℕ → Machine S
-with_new_object m r class size n = record m {
+with_new_object m r class length n = record m {
   now = record m.now {
-    objects = set_at m.now.objects r (Some (record { class = class; length = size; words = n }));
+    objects = set_at m.now.objects r (Some (record { class = class; length = length; words = n }));
     words = set_at m.now.words r (λ _. 0);
     monitors = set_at m.now.monitors r free;
   };

@@ -63,8 +63,8 @@ impl<C: ThreadCode + Drop> Ordinary<C> {
     }
 
     /// Makes silent steps of a thread, at most so many, and answers how many: none where it hasn't begun or has
-    /// ended. Where it answers less than `most`, `advance` tells why. Takes no memory but what the thread's code
-    /// takes.
+    /// ended. Where it answers less than `most`, `advance` makes the next step, or tells what is in its way. Takes no
+    /// memory but what the thread's code takes.
     pub fn run_silent(&mut self, thread: u8, most: u64) -> u64
         ensures runs { RunsSilently C.code (machine_of C.state self.old) thread result (machine_of C.state self.new) }
         ensures most { result ≤ most }

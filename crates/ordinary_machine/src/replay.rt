@@ -32,8 +32,9 @@ impl<C: ThreadCode + Drop> Ordinary<C> {
         Ok(())
     }
 
-    /// The same with nothing kept of a machine whose event is refused: the silent steps are made where their
-    /// threads stand, and no thread is copied. Gives the machine behind the events.
+    /// Makes the steps of the events, one after another, on a machine that is given up where one is refused: so the
+    /// silent steps are made where their threads stand. Gives the machine behind the events, or the place of the first
+    /// event that is refused and why it is.
     pub fn replayed(self, events: &[Event]) -> Result<Self, ReplayRefusal>
         ensures steps { IfOk result (λ last. Replays C.code (machine_of C.state self) events.now (machine_of C.state last)) }
         ensures execution { IfOk result (λ last. IsReplayed C.code (machine_of C.state self).now events.now (machine_of C.state last).now) }

@@ -9,17 +9,21 @@ use Rattle.heap_words.specs.declared.areas.Area.TheVariants.{Control, Section, T
 use Rattle.heap_words.specs.Words.{pack, pack_header, class_word}
 use Rattle.step_port.specs.Words.{Words}
 
--- an object and all its words lie below the first free place
+-- an object, which isn't null, and all its words lie below the first free place
 abbrev pub EndsBelow : ℕ → FixedObject → Type 0
-EndsBelow first o = o.reference + 2 + length o.words ≤ first
+EndsBelow first o = (0 < o.reference) × (o.reference + 2 + length o.words ≤ first)
 
--- the fixed objects lie below the first free place, the heap behind it ends below 2 ^ 32, and the ready
--- classes are classes of the program
+-- the classes of a program have the numbers from 1 to the highest one
+abbrev pub IsClassNumber : ℕ → ℕ → Type 0
+IsClassNumber highest c = (0 < c) × (c ≤ highest)
+
+-- the fixed objects lie below the first free place, which isn't 0, the heap behind it ends below 2 ^ 32,
+-- and the ready classes are classes of the program
 pub record HasPlace (opening : Opening) (limits : Limits) : Type 0 where
   pub first : 0 < opening.first
   pub heap : opening.first + limits.heap ≤ 2 ^ 32
   pub objects : All (EndsBelow opening.first) opening.objects
-  pub ready : All (λ c. c < opening.classes) opening.ready
+  pub ready : All (IsClassNumber opening.classes) opening.ready
 
 -- the areas of the program's table
 abbrev pub areas_of : Opening → Limits → Areas

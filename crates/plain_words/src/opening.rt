@@ -1,7 +1,7 @@
 ghost use Rattle.std.specs.Prelude.{◌≡◌, ◌↔◌, ◌+◌, ◌<◌, ◌≤◌, ℕ, IfOk, IsTrue, length};
 ghost use Rattle.std.specs.List.{All};
 ghost use Rattle.heap_words.specs.declared.areas.Area.{Area};
-ghost use Rattle.plain_words.specs.Opening.{EndsBelow, HasPlace, areas_of, word_behind, opening_words};
+ghost use Rattle.plain_words.specs.Opening.{EndsBelow, IsClassNumber, HasPlace, areas_of, word_behind, opening_words};
 ghost use Rattle.plain_words.specs.Filling.{with_ready, with_front, with_objects};
 ghost use Rattle.plain_words.specs.Table.{words_in};
 
@@ -11,15 +11,15 @@ use heap_words::{Area, Areas, ClassWord, Header, HeapWord, control};
 use op_core::{Limits, NoMemory};
 use std::alloc::Global;
 
-/// Whether a program's table can be made: the fixed objects lie below the first free place, that place and the heap
-/// are at most 2^32 together, and the ready classes are classes of the program.
+/// Whether a program's table can be made: the fixed objects lie below the first free place, which isn't 0, that place
+/// and the heap are at most 2^32 together, and the ready classes are classes of the program.
 pub fn has_place(opening: &Opening, limits: &Limits) -> bool
     ensures { IsTrue result ↔ HasPlace opening.now limits.now }
 {
     opening.first > 0
         && opening.first as u64 + limits.heap as u64 <= 0x1_0000_0000
         && end_below(opening.objects.as_slice(), opening.first)
-        && are_below(opening.ready.as_slice(), opening.classes)
+        && are_numbers(opening.ready.as_slice(), opening.classes)
 }
 
 fn end_below(objects: &[FixedObject], first: u32) -> bool
@@ -32,13 +32,15 @@ fn ends_below(object: &FixedObject, first: u32) -> bool
     ensures { IsTrue result ↔ EndsBelow first object.now }
 {
     let before = object.reference as u64 + 2;
-    before <= first as u64 && object.words.len() as u64 <= first as u64 - before
+    object.reference > 0
+        && before <= first as u64
+        && object.words.len() as u64 <= first as u64 - before
 }
 
-fn are_below(classes: &[u32], count: u32) -> bool
-    ensures { IsTrue result ↔ All (λ c. c < count) classes.now }
+fn are_numbers(classes: &[u32], highest: u32) -> bool
+    ensures { IsTrue result ↔ All (IsClassNumber highest) classes.now }
 {
-    classes.iter().all(|class| *class < count)
+    classes.iter().all(|class| 0 < *class && *class <= highest)
 }
 
 impl PlainWords {
@@ -57,7 +59,7 @@ impl PlainWords {
     }
 
     fn set_ready(&mut self, classes: &[u32])
-        requires { All (λ c. c < self.old.areas.classes) classes.now }
+        requires { All (IsClassNumber self.old.areas.classes) classes.now }
         ensures areas { self.new.areas ≡ self.old.areas }
         ensures words { words_in self.new ≡ with_ready (words_in self.old) classes.now }
     {

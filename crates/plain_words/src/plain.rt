@@ -55,7 +55,8 @@ impl PlainWords {
         }
     }
 
-    pub(crate) fn load(&self, area: Area) -> u64
+    /// The word of this area and number, which must be there.
+    pub fn load(&self, area: Area) -> u64
         requires { IsIn self.now.areas area }
         ensures { result ≡ words_in self.now area }
     {

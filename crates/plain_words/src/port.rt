@@ -1,4 +1,5 @@
-ghost use Rattle.std.specs.Prelude.{◌≡◌, IfOk, IsOk, OnErr};
+ghost use Rattle.std.specs.Prelude.{◌≡◌, ℕ, IfOk, IsOk, OnErr};
+ghost use Rattle.step_port.specs.declared.answer.Answer.{Answer};
 ghost use Rattle.step_port.specs.declared.step.Step.{Step};
 ghost use Rattle.plain_words.specs.Table.{MayStep, Stepped, Handed};
 
@@ -144,10 +145,10 @@ impl StepPort for PlainWords {
         self.store(Area::Control(control::STOP), 1);
     }
 
-    /// Hands a started thread out. It takes no memory and never fails: the word on which this step is made is 0, and
-    /// nobody asks for it.
+    /// Hands a started thread out. It takes no memory and never fails: its step is a load whose word nobody asks for.
     fn split(&mut self, thread: u8, object: u32, priority: u8) -> Result<(), NoMemory>
         ensures ok { IfOk result (λ pass. Handed self.old (Step.Split thread object priority) self.new) }
+        ensures made { IfOk result (λ _. (word : ℕ) × Stepped self.old (Step.Split thread object priority) (Answer.Found word) self.new) }
         ensures err { OnErr result (self.new ≡ self.old) }
         ensures never { IsOk result }
     {

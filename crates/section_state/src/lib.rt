@@ -1,7 +1,7 @@
 //! The states of a section, and the word that says which one it is in.
 //!
 //! A **section** is what a thread does from the entry of a monitor, made while it has no section open, to the exit
-//! that leaves it no monitor. Each has a number of its own, and a word. Another thread of higher priority may
+//! that leaves it no monitor, or until it has been undone. Each has a number of its own, and a word. Another thread of higher priority may
 //! revoke it while it is live: what was done in it is then undone.
 //!
 //! No call here takes memory.
@@ -17,9 +17,9 @@ pub mod laws;
 pub enum State {
     /// It is open, and can be revoked.
     Live,
-    /// It is open for good: something that was done in it can't be taken back.
+    /// It is open and can't be undone any more: something that was done in it can't be taken back.
     Pinned,
-    /// Its monitor was taken away, and what was done in it has yet to be undone.
+    /// It was revoked: its thread has yet to undo what was done in it, and holds its monitors until then.
     Revoking,
     /// All that was done in it is undone.
     Undone,

@@ -1,5 +1,5 @@
 -- The steps on shared words: which word each is made on, and what it does with that word.
-use Rattle.std.specs.Prelude.{ℕ, ◌+◌, ◌<◌, ◌≤◌, ◌^◌}
+use Rattle.std.specs.Prelude.{ℕ, ◌+◌, ◌≤◌, ◌^◌}
 use Rattle.heap_words.specs.declared.areas.Area.{Area}
 use Rattle.heap_words.specs.declared.areas.Area.TheVariants.{Control, Section, Thread, Wait, Class, Object}
 use Rattle.heap_words.specs.Areas.{number_in}
@@ -119,7 +119,10 @@ IsTooFar step = 2 ^ 32 ≤ number_in (place_of step)
 
 -- a step that a thread makes by itself, and that hands nothing out
 abbrev pub IsOwnStep : Step → Type 0
-IsOwnStep step = kind_of step < 28
+IsOwnStep LoadStop = ⊥
+IsOwnStep SetStop = ⊥
+IsOwnStep (Split n r p) = ⊥
+IsOwnStep _ = Unit {0}
 
 -- a step that sets its word, whatever stood there
 abbrev pub IsStoring : Effect → Type 0

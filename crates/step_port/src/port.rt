@@ -38,7 +38,7 @@ pub trait StepPort: Sized {
         requires { allows self.old (Step.RestoreWord at old) }
         ensures { stepped self.old (Step.RestoreWord at old) Answer.Done self.new };
 
-    /// Draws the number of a section: how many were drawn before.
+    /// Draws a number for a section, and answers how many were drawn before: the number is one more.
     fn draw_section(&mut self) -> u64
         requires { allows self.old Step.DrawSection }
         ensures { stepped self.old Step.DrawSection (Answer.Found result) self.new };
@@ -93,7 +93,8 @@ pub trait StepPort: Sized {
         requires { allows self.old (Step.Release object) }
         ensures { stepped self.old (Step.Release object) Answer.Done self.new };
 
-    /// Takes words for a new object: how many were taken before.
+    /// Takes words for a new object, and answers how many were taken before: the object's reference is so far behind
+    /// the first place of the heap.
     fn take_words(&mut self, count: u64) -> u64
         requires { allows self.old (Step.TakeWords count) }
         ensures { stepped self.old (Step.TakeWords count) (Answer.Found result) self.new };
@@ -103,12 +104,12 @@ pub trait StepPort: Sized {
         requires { allows self.old (Step.SetHeader object word) }
         ensures { stepped self.old (Step.SetHeader object word) Answer.Done self.new };
 
-    /// Draws the ticket of a printed line: how many were drawn before.
+    /// Draws the ticket of a printed line, and answers it: how many were drawn before.
     fn ticket(&mut self) -> u64
         requires { allows self.old Step.Ticket }
         ensures { stepped self.old Step.Ticket (Answer.Found result) self.new };
 
-    /// Draws the number of a thread: how many were drawn before.
+    /// Draws a number for a thread, and answers how many were drawn before, main's among them: the number is one more.
     fn draw_thread(&mut self) -> u64
         requires { allows self.old Step.DrawThread }
         ensures { stepped self.old Step.DrawThread (Answer.Found result) self.new };
@@ -173,5 +174,6 @@ pub trait StepPort: Sized {
     fn split(&mut self, thread: u8, object: u32, priority: u8) -> Result<Self::Pass, NoMemory>
         requires { allows self.old (Step.Split thread object priority) }
         ensures ok { IfOk result (λ pass. handed self.old (Step.Split thread object priority) self.new pass) }
+        ensures made { IfOk result (λ _. (word : ℕ) × stepped self.old (Step.Split thread object priority) (Answer.Found word) self.new) }
         ensures err { OnErr result (self.new ≡ self.old) };
 }

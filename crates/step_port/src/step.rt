@@ -12,13 +12,13 @@ pub enum Effect {
     Load,
     /// It is set.
     Store(u64),
-    /// It is set to the second word, where it is the first one.
+    /// A compare-exchange: it is set to the second word, where it is the first one.
     Exchange(u64, u64),
-    /// So much is added to it, and it is read as it stood before.
+    /// A fetch-add: so much is added to it, and it is read as it stood before.
     Add(u64),
 }
 
-/// The two words of which it can be asked whether a thread goes.
+/// The two words of which it can be asked whether a thread was started, or has ended.
 #[derive(Clone, Copy)]
 pub enum ThreadWord {
     /// The start word of this thread object: the number of the thread that it started, or 0.
@@ -73,7 +73,7 @@ pub enum Step {
     StartThread(u32, u8),
     /// Notes that the thread of this number has ended.
     EndThread(u8),
-    /// Asks whether a thread goes.
+    /// Asks whether a thread was started, or has ended.
     LoadThread(ThreadWord),
     /// Sets the wait word of a thread.
     SetWait(u8, u64),
@@ -211,7 +211,7 @@ impl Step {
     }
 }
 
-/// The word of a thread object that has started the thread of this number.
+/// The start word of a thread object that has started the thread of this number.
 pub fn start_word(thread: u8) -> u64
     ensures { result ≡ pack thread 0 }
 {

@@ -25,7 +25,7 @@ pub const LIMITS: Limits = Limits {
 };
 
 /// The object of main's thread at 1, a lock without words at 6, an object with the words 1 and 2 at 8, and at 12 the
-/// object of a thread that isn't started. The first free place is 17. Of the 31 classes 1 and 7 are ready.
+/// object of a thread that isn't started. The first free place is 17. Of the 30 classes 1 and 7 are ready.
 fn opening(alloc: Global) -> Result<Opening, AllocError> {
     let mut objects = Vec::new(alloc);
     objects.push(FixedObject::main_thread(alloc, 1, 7)?)?;
@@ -47,7 +47,7 @@ fn opening(alloc: Global) -> Result<Opening, AllocError> {
     Ok(Opening {
         objects: Rows::from_vec(objects),
         ready,
-        classes: 31,
+        classes: 30,
         first: 17,
         main_thread: 1,
     })

@@ -119,7 +119,7 @@ fn host_threads_stop_and_threads_are_handed_out(rt: HostRuntime) -> Result<(), F
 /// Steps that can't be made: their word isn't there, or the sum is too large.
 const REFUSED: [Step; 8] = [
     Step::LoadSection(4),
-    Step::LoadClass(32),
+    Step::LoadClass(31),
     Step::LoadWord(27),
     Step::LoadMonitor(26),
     Step::LoadMonitor(u32::MAX),
