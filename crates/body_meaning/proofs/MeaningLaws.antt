@@ -16,7 +16,8 @@ use Rattle.assembly_lines.specs.declared.operation.LabelledCase.{LabelledCase}
 use Rattle.assembly_lines.specs.declared.operation.Operands as lines
 use Rattle.assembly_lines.specs.declared.operation.Operands.TheVariants as said
 use Rattle.assembly_lines.specs.declared.operation.Operation.{Operation}
-use Rattle.code_steps.specs.CodeArray.{targets_of, with_target, with_targets, by_offsets, IsAmong}
+use Rattle.instructions.specs.What.{targets_of}
+use Rattle.code_steps.specs.CodeArray.{with_target, with_targets, by_offsets, IsAmong}
 use Rattle.code_write.specs.declared.operands.Operands.{Operands}
 use Rattle.code_write.specs.declared.operands.Operands.TheVariants.{Local, WideLocal, Increment, WideIncrement}
 use Rattle.code_write.specs.declared.operands.Written.{Written}

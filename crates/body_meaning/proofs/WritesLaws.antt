@@ -1,5 +1,5 @@
 -- What operands are written for the ones that a line says.
-use Rattle.std.proofs.Common.{◌≡◌, ℕ, ◌^◌, ◌<◌, ℤ, true, cond, nat_lt, List, [], ◌∷◌, Some, None, FitsSigned, All, refl, sym, ap, subst, ◌∙◌, ◌⊎◌, ltb-true}
+use Rattle.std.proofs.Common.{◌≡◌, ℕ, ◌^◌, ◌<◌, ℤ, cond, nat_lt, List, [], ◌∷◌, Some, None, FitsSigned, All, refl, sym, ap, subst, ◌∙◌, ◌⊎◌, ltb-true}
 use Rattle.std.specs.Int.{Width, w32}
 use Rattle.std.specs.List.{AllByRecursion, AllZip}
 use Rattle.std.proofs.lemmas.Option.{same_Some}

@@ -7,7 +7,8 @@ use Rattle.std.proofs.lemmas.Bool.{eqb-true, ltb-true}
 use Rattle.std.proofs.lemmas.List.Elements.{All-weaker}
 use Rattle.builtin_world.specs.declared.Native.{Native}
 use Rattle.builtin_world.specs.declared.Native.TheVariants.{ObjectInit, ObjectWait, ObjectNotify, ObjectNotifyAll, ObjectEquals, PrintlnEmpty, PrintlnInt, PrintlnLong, PrintlnChar, PrintlnBoolean, PrintlnString, RunnableRun, ThreadInit, ThreadInitTarget, ThreadStart, ThreadRun, ThreadJoin, ThreadSetPriority, ThreadGetPriority, ThreadCurrentThread, ThreadYield, ThrowableInit, ThrowableInitMessage, ThrowableGetMessage}
-use Rattle.builtin_world.specs.Library.{Class, library, final, interface}
+use Rattle.access_flags.specs.declared.TheConstants.{FINAL, INTERFACE}
+use Rattle.builtin_world.specs.Library.{Class, library}
 use Rattle.builtin_world.specs.BuiltinClass.{ClassRow, rows, row_named, row_numbered, number_of}
 use Rattle.builtin_world.specs.Native.{member_of, member_at, method_with, native_at}
 use Rattle.builtin_world.specs.Laws.{NumbersRunFromOne, NamesAreDistinct, NumbersAreDistinct, SupersComeFirst, InterfacesComeFirst, SupersAreOpen, InterfacesAreInterfaces, ThrowablesComeLast, SubclassesKeepWords, MethodsAreDistinct, MethodsAreFew, NativesAreOwn, ConstantsAreNumbers, number_constants, words_of}
@@ -43,26 +44,26 @@ pub supers_are_open : SupersAreOpen
 unfolding rows library
 supers_are_open =
     All-from_test
-    (λ (r : ClassRow). option_map_or (λ s. nat_eq (bit_and s.flags (final + interface)) 0) (row_numbered r.super_number) true)
-    (λ r. IfSome (row_numbered r.super_number) (λ s. bit_and s.flags (final + interface) ≡ 0))
-    (λ r. IfSome-from_test (λ (s : ClassRow). nat_eq (bit_and s.flags (final + interface)) 0) (λ s. bit_and s.flags (final + interface) ≡ 0)
-    (λ s. eqb-true (bit_and s.flags (final + interface)) 0) (row_numbered r.super_number))
+    (λ (r : ClassRow). option_map_or (λ s. nat_eq (bit_and s.flags (FINAL + INTERFACE)) 0) (row_numbered r.super_number) true)
+    (λ r. IfSome (row_numbered r.super_number) (λ s. bit_and s.flags (FINAL + INTERFACE) ≡ 0))
+    (λ r. IfSome-from_test (λ (s : ClassRow). nat_eq (bit_and s.flags (FINAL + INTERFACE)) 0) (λ s. bit_and s.flags (FINAL + INTERFACE) ≡ 0)
+    (λ s. eqb-true (bit_and s.flags (FINAL + INTERFACE)) 0) (row_numbered r.super_number))
     rows refl
 
 pub interfaces_are_interfaces : InterfacesAreInterfaces
 unfolding rows library
 interfaces_are_interfaces =
     All-weaker
-    (λ (r : ClassRow). All (λ i. option_map_or (λ s. nat_eq (bit_and s.flags interface) interface) (row_numbered i) false ≡ true) r.interfaces)
-    (λ r. All (λ i. IsSomeAnd (row_numbered i) (λ s. bit_and s.flags interface ≡ interface)) r.interfaces)
-    (λ r. All-weaker (λ i. option_map_or (λ s. nat_eq (bit_and s.flags interface) interface) (row_numbered i) false ≡ true)
-    (λ i. IsSomeAnd (row_numbered i) (λ s. bit_and s.flags interface ≡ interface))
-    (λ i. IsSomeAnd-from_test (λ (s : ClassRow). nat_eq (bit_and s.flags interface) interface) (λ s. bit_and s.flags interface ≡ interface)
-    (λ s. eqb-true (bit_and s.flags interface) interface) (row_numbered i))
+    (λ (r : ClassRow). All (λ i. option_map_or (λ s. nat_eq (bit_and s.flags INTERFACE) INTERFACE) (row_numbered i) false ≡ true) r.interfaces)
+    (λ r. All (λ i. IsSomeAnd (row_numbered i) (λ s. bit_and s.flags INTERFACE ≡ INTERFACE)) r.interfaces)
+    (λ r. All-weaker (λ i. option_map_or (λ s. nat_eq (bit_and s.flags INTERFACE) INTERFACE) (row_numbered i) false ≡ true)
+    (λ i. IsSomeAnd (row_numbered i) (λ s. bit_and s.flags INTERFACE ≡ INTERFACE))
+    (λ i. IsSomeAnd-from_test (λ (s : ClassRow). nat_eq (bit_and s.flags INTERFACE) INTERFACE) (λ s. bit_and s.flags INTERFACE ≡ INTERFACE)
+    (λ s. eqb-true (bit_and s.flags INTERFACE) INTERFACE) (row_numbered i))
     r.interfaces)
     rows
     (All-from_map_within (λ (r : ClassRow). r.interfaces)
-    (λ r i. option_map_or (λ s. nat_eq (bit_and s.flags interface) interface) (row_numbered i) false) (λ r i. true) rows refl)
+    (λ r i. option_map_or (λ s. nat_eq (bit_and s.flags INTERFACE) INTERFACE) (row_numbered i) false) (λ r i. true) rows refl)
 
 pub throwables_come_last : ThrowablesComeLast
 unfolding rows library

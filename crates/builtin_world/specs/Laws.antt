@@ -3,7 +3,8 @@ use Rattle.std.specs.Prelude.{◌≡◌, ◌<◌, ◌+◌, ◌^◌, ◌==◌, �
 use Rattle.std.specs.List.{range_with_len}
 use Rattle.std.specs.Option.{option_map_or}
 use Rattle.builtin_world.specs.declared.number.TheConstants.{OBJECT, CLASS, STRING, SYSTEM, PRINT_STREAM, RUNNABLE, THREAD, THROWABLE, EXCEPTION, RUNTIME_EXCEPTION, ERROR, INTERRUPTED_EXCEPTION, ARITHMETIC_EXCEPTION, NULL_POINTER_EXCEPTION, INDEX_OUT_OF_BOUNDS_EXCEPTION, ARRAY_INDEX_OUT_OF_BOUNDS_EXCEPTION, NEGATIVE_ARRAY_SIZE_EXCEPTION, ARRAY_STORE_EXCEPTION, CLASS_CAST_EXCEPTION, ILLEGAL_MONITOR_STATE_EXCEPTION, ILLEGAL_ARGUMENT_EXCEPTION, ILLEGAL_THREAD_STATE_EXCEPTION, ILLEGAL_STATE_EXCEPTION, LINKAGE_ERROR, NO_CLASS_DEF_FOUND_ERROR, EXCEPTION_IN_INITIALIZER_ERROR, INCOMPATIBLE_CLASS_CHANGE_ERROR}
-use Rattle.builtin_world.specs.Library.{library, final, interface}
+use Rattle.access_flags.specs.declared.TheConstants.{FINAL, INTERFACE}
+use Rattle.builtin_world.specs.Library.{library}
 use Rattle.builtin_world.specs.BuiltinClass.{rows, row_named, row_numbered, number_of}
 use Rattle.builtin_world.specs.Native.{member_at, member_of, method_with}
 
@@ -27,11 +28,11 @@ InterfacesComeFirst = All (λ r. All (λ i. i < r.number) r.interfaces) rows
 
 -- each superclass is a class that can be extended, and each superinterface an interface
 abbrev pub SupersAreOpen : Type 0
-SupersAreOpen = All (λ r. IfSome (row_numbered r.super_number) (λ s. bit_and s.flags (final + interface) ≡ 0)) rows
+SupersAreOpen = All (λ r. IfSome (row_numbered r.super_number) (λ s. bit_and s.flags (FINAL + INTERFACE) ≡ 0)) rows
 
 abbrev pub InterfacesAreInterfaces : Type 0
 InterfacesAreInterfaces =
-    All (λ r. All (λ i. IsSomeAnd (row_numbered i) (λ s. bit_and s.flags interface ≡ interface)) r.interfaces) rows
+    All (λ r. All (λ i. IsSomeAnd (row_numbered i) (λ s. bit_and s.flags INTERFACE ≡ INTERFACE)) r.interfaces) rows
 
 -- Throwable and the classes below it are the last: a class is one of them where it is Throwable
 -- or its superclass is one of them

@@ -3,24 +3,9 @@
 -- in their internal form (JVMS 4.2.1), descriptors those of JVMS 4.3.
 use Prim.Native.String.{String}
 use Rattle.std.specs.Prelude.{ℕ, ◌+◌, List, [], ◌∷◌, codes}
+use Rattle.access_flags.specs.declared.TheConstants.{PUBLIC, STATIC, FINAL, INTERFACE, ABSTRACT}
 use Rattle.builtin_world.specs.declared.Native.{Native}
 use Rattle.builtin_world.specs.declared.Native.TheVariants.{ObjectInit, ObjectWait, ObjectNotify, ObjectNotifyAll, ObjectEquals, PrintlnEmpty, PrintlnInt, PrintlnLong, PrintlnChar, PrintlnBoolean, PrintlnString, RunnableRun, ThreadInit, ThreadInitTarget, ThreadStart, ThreadRun, ThreadJoin, ThreadSetPriority, ThreadGetPriority, ThreadCurrentThread, ThreadYield, ThrowableInit, ThrowableInitMessage, ThrowableGetMessage}
-
--- the flags of classes, fields and methods (JVMS 4.1, 4.5 and 4.6)
-abbrev pub public : ℕ
-public = 0x0001
-
-abbrev pub static : ℕ
-static = 0x0008
-
-abbrev pub final : ℕ
-final = 0x0010
-
-abbrev pub interface : ℕ
-interface = 0x0200
-
-abbrev pub abstract : ℕ
-abstract = 0x0400
 
 -- a field that a class file can name
 pub record Field : Type 0 where
@@ -57,15 +42,15 @@ object = record {
   name = codes "java/lang/Object";
   super = [];
   interfaces = [];
-  flags = public;
+  flags = PUBLIC;
   words = [];
   fields = [];
   methods =
-      method public "<init>" "()V" ObjectInit
-      ∷ method (public + final) "wait" "()V" ObjectWait
-      ∷ method (public + final) "notify" "()V" ObjectNotify
-      ∷ method (public + final) "notifyAll" "()V" ObjectNotifyAll
-      ∷ method public "equals" "(Ljava/lang/Object;)Z" ObjectEquals
+      method PUBLIC "<init>" "()V" ObjectInit
+      ∷ method (PUBLIC + FINAL) "wait" "()V" ObjectWait
+      ∷ method (PUBLIC + FINAL) "notify" "()V" ObjectNotify
+      ∷ method (PUBLIC + FINAL) "notifyAll" "()V" ObjectNotifyAll
+      ∷ method PUBLIC "equals" "(Ljava/lang/Object;)Z" ObjectEquals
       ∷ [];
 }
 
@@ -76,7 +61,7 @@ bare_class number name fields = record {
   name = codes name;
   super = codes "java/lang/Object";
   interfaces = [];
-  flags = public + final;
+  flags = PUBLIC + FINAL;
   words = [];
   fields = fields;
   methods = [];
@@ -86,7 +71,7 @@ abbrev pub system_out : Field
 system_out = record {
   name = codes "out";
   descriptor = codes "Ljava/io/PrintStream;";
-  flags = public + static + final;
+  flags = PUBLIC + STATIC + FINAL;
 }
 
 abbrev pub print_stream : Class
@@ -95,16 +80,16 @@ print_stream = record {
   name = codes "java/io/PrintStream";
   super = codes "java/lang/Object";
   interfaces = [];
-  flags = public;
+  flags = PUBLIC;
   words = [];
   fields = [];
   methods =
-      method public "println" "()V" PrintlnEmpty
-      ∷ method public "println" "(I)V" PrintlnInt
-      ∷ method public "println" "(J)V" PrintlnLong
-      ∷ method public "println" "(C)V" PrintlnChar
-      ∷ method public "println" "(Z)V" PrintlnBoolean
-      ∷ method public "println" "(Ljava/lang/String;)V" PrintlnString
+      method PUBLIC "println" "()V" PrintlnEmpty
+      ∷ method PUBLIC "println" "(I)V" PrintlnInt
+      ∷ method PUBLIC "println" "(J)V" PrintlnLong
+      ∷ method PUBLIC "println" "(C)V" PrintlnChar
+      ∷ method PUBLIC "println" "(Z)V" PrintlnBoolean
+      ∷ method PUBLIC "println" "(Ljava/lang/String;)V" PrintlnString
       ∷ [];
 }
 
@@ -114,10 +99,10 @@ runnable = record {
   name = codes "java/lang/Runnable";
   super = codes "java/lang/Object";
   interfaces = [];
-  flags = public + interface + abstract;
+  flags = PUBLIC + INTERFACE + ABSTRACT;
   words = [];
   fields = [];
-  methods = method (public + abstract) "run" "()V" RunnableRun ∷ [];
+  methods = method (PUBLIC + ABSTRACT) "run" "()V" RunnableRun ∷ [];
 }
 
 abbrev pub thread : Class
@@ -126,19 +111,19 @@ thread = record {
   name = codes "java/lang/Thread";
   super = codes "java/lang/Object";
   interfaces = codes "java/lang/Runnable" ∷ [];
-  flags = public;
+  flags = PUBLIC;
   words = codes "priority" ∷ codes "start" ∷ codes "target" ∷ [];
   fields = [];
   methods =
-      method public "<init>" "()V" ThreadInit
-      ∷ method public "<init>" "(Ljava/lang/Runnable;)V" ThreadInitTarget
-      ∷ method public "start" "()V" ThreadStart
-      ∷ method public "run" "()V" ThreadRun
-      ∷ method (public + final) "join" "()V" ThreadJoin
-      ∷ method (public + final) "setPriority" "(I)V" ThreadSetPriority
-      ∷ method (public + final) "getPriority" "()I" ThreadGetPriority
-      ∷ method (public + static) "currentThread" "()Ljava/lang/Thread;" ThreadCurrentThread
-      ∷ method (public + static) "yield" "()V" ThreadYield
+      method PUBLIC "<init>" "()V" ThreadInit
+      ∷ method PUBLIC "<init>" "(Ljava/lang/Runnable;)V" ThreadInitTarget
+      ∷ method PUBLIC "start" "()V" ThreadStart
+      ∷ method PUBLIC "run" "()V" ThreadRun
+      ∷ method (PUBLIC + FINAL) "join" "()V" ThreadJoin
+      ∷ method (PUBLIC + FINAL) "setPriority" "(I)V" ThreadSetPriority
+      ∷ method (PUBLIC + FINAL) "getPriority" "()I" ThreadGetPriority
+      ∷ method (PUBLIC + STATIC) "currentThread" "()Ljava/lang/Thread;" ThreadCurrentThread
+      ∷ method (PUBLIC + STATIC) "yield" "()V" ThreadYield
       ∷ [];
 }
 
@@ -149,12 +134,12 @@ throwable number name super methods = record {
   name = codes name;
   super = codes super;
   interfaces = [];
-  flags = public;
+  flags = PUBLIC;
   words = codes "message" ∷ [];
   fields = [];
   methods =
-      method public "<init>" "()V" ThrowableInit
-      ∷ method public "<init>" "(Ljava/lang/String;)V" ThrowableInitMessage
+      method PUBLIC "<init>" "()V" ThrowableInit
+      ∷ method PUBLIC "<init>" "(Ljava/lang/String;)V" ThrowableInitMessage
       ∷ methods;
 }
 
@@ -172,7 +157,7 @@ library =
     ∷ runnable
     ∷ thread
     ∷ throwable 8 "java/lang/Throwable" "java/lang/Object"
-    (method public "getMessage" "()Ljava/lang/String;" ThrowableGetMessage ∷ [])
+    (method PUBLIC "getMessage" "()Ljava/lang/String;" ThrowableGetMessage ∷ [])
     ∷ exception 9 "java/lang/Exception" "java/lang/Throwable"
     ∷ exception 10 "java/lang/RuntimeException" "java/lang/Exception"
     ∷ exception 11 "java/lang/Error" "java/lang/Throwable"

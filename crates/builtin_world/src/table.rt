@@ -1,16 +1,6 @@
 // The table itself: a class stands after its superclass, and its number is one more than its index.
 use crate::{BuiltinClass, BuiltinField, BuiltinMethod, Native, number};
-
-// The access flags of JVMS 4.1, 4.5 and 4.6.
-const PUBLIC: u16 = 0x0001;
-
-const STATIC: u16 = 0x0008;
-
-const FINAL: u16 = 0x0010;
-
-const INTERFACE: u16 = 0x0200;
-
-const ABSTRACT: u16 = 0x0400;
+use access_flags::{ABSTRACT, FINAL, INTERFACE, PUBLIC, STATIC};
 
 macro_rules! method {
     ($flags:expr, $name:literal $descriptor:literal => $native:ident) => {

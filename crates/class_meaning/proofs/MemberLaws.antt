@@ -12,8 +12,12 @@ use Rattle.class_walk.specs.Layout.{u2, u4, table, code_front, code_spelling, Is
 use Rattle.class_walk.specs.Reading as reading
 use Rattle.class_walk.proofs.CodeLaws.{content_some}
 use Rattle.class_read.specs.declared.class_file.CodeAttribute.{CodeAttribute}
+use Rattle.access_flags.specs.declared.TheConstants.{STATIC}
+use Rattle.access_flags.specs.Flags.{has}
 use Rattle.class_read.specs.AttributeRules as rules_of
-use Rattle.class_read.specs.AttributeRules.{has, named, index_in, constant_of, code_attribute, code_in}
+use Rattle.access_flags.specs.declared.TheConstants.{STATIC}
+use Rattle.access_flags.specs.Flags.{has}
+use Rattle.class_read.specs.AttributeRules.{named, index_in, constant_of, code_attribute, code_in}
 use Rattle.class_read.specs.MemberRules.{field_of, method_of}
 use Rattle.class_pool.specs.Pool.{IsUtf8At}
 use Rattle.class_pool.specs.PoolTest.{is_text}
@@ -108,12 +112,12 @@ field_says pool said m at count is = record {
   value = value_is;
 }
   where
-    value_is : SaysValue pool (cond (has said.flags 8) said.value None) (constant_of pool (placed_member at m))
+    value_is : SaysValue pool (cond (has said.flags STATIC) said.value None) (constant_of pool (placed_member at m))
     value_is =
         let found = constant_in pool (placed_attributes (at + 6 + 2) m.attributes) in
-        let static : SaysValue pool (cond (has said.flags 8) said.value None) (cond (has said.flags 8) found None) =
-        static_value pool said.value found (has said.flags 8) (value_found pool said.value m.attributes (at + 6 + 2) count is.value) in
-        subst (λ (flags : ℕ). SaysValue pool (cond (has said.flags 8) said.value None) (cond (has flags 8) found None)) (sym is.flags) static
+        let static : SaysValue pool (cond (has said.flags STATIC) said.value None) (cond (has said.flags STATIC) found None) =
+        static_value pool said.value found (has said.flags STATIC) (value_found pool said.value m.attributes (at + 6 + 2) count is.value) in
+        subst (λ (flags : ℕ). SaysValue pool (cond (has said.flags STATIC) said.value None) (cond (has flags STATIC) found None)) (sym is.flags) static
 
 -- ---- codes
 

@@ -1,11 +1,12 @@
 -- What the lines of a text say of the class file that is read (JVMS SE 8, 4.1, 4.5 and 4.6).
 use Rattle.std.specs.Prelude.{◌≡◌, ℕ, List, Option, Some, None, if◌then◌else◌}
 use Rattle.std.specs.List.{AllZip}
+use Rattle.access_flags.specs.declared.TheConstants.{STATIC}
+use Rattle.access_flags.specs.Flags.{has}
 use Rattle.class_walk.specs.declared.class.Constant.{Constant}
 use Rattle.class_read.specs.declared.class_file.ClassFile.{ClassFile}
 use Rattle.class_read.specs.declared.class_file.CodeAttribute.{CodeAttribute}
 use Rattle.class_read.specs.declared.class_file.Member.{Member}
-use Rattle.class_read.specs.AttributeRules.{has}
 use Rattle.class_pool.specs.Pool.{IsUtf8At, IsClassAt}
 use Rattle.code_decode.specs.declared.code.Code.{Code}
 use Rattle.code_decode.specs.Code.{IsCode}
@@ -28,7 +29,7 @@ SaysValue pool _ _ = ⊥
 
 -- only a static field begins with its value (JVMS 4.7.2)
 abbrev pub value_of : SaidField → Option FieldValue
-value_of said = if has said.flags 8 then said.value else None
+value_of said = if has said.flags STATIC then said.value else None
 
 pub record SaysField (pool : List Constant) (said : SaidField) (m : Member) : Type 0 where
   pub flags : m.flags ≡ said.flags

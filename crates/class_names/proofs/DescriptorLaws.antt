@@ -6,11 +6,11 @@ use Rattle.class_names.specs.declared.kind.Kind.{Kind}
 use Rattle.class_names.specs.declared.kind.Kind.TheVariants.{Array}
 use Rattle.class_names.specs.declared.kind.Descriptor.{Descriptor}
 use Rattle.class_names.specs.declared.kind.Descriptor.TheVariants.{Field, Method}
-use Rattle.class_names.specs.Descriptor.{kind_text, kind_of_dimensions, return_text, IsFieldDescriptor, IsMethodDescriptor, IsDescriptorOf, KindsAt, ParametersAt, IsReturn}
+use Rattle.class_names.specs.Descriptor.{kind_text, kind_of_dimensions, return_text, IsFieldDescriptor, IsMethodDescriptor, IsDescriptorOf, ParametersAt, IsReturn}
 use Rattle.class_names.specs.Reading.{kind_at}
 use Rattle.class_names.proofs.Cases.{first_same, second_same}
 use Rattle.class_names.proofs.KindLaws.{kind_takes, kind_again, no_kind_at_void, no_kind_at_open}
-use Rattle.class_names.proofs.ParameterLaws.{one_list, leaves, no_more}
+use Rattle.class_names.proofs.ParameterLaws.{one_list}
 
 pub field_read : (bytes : List ℕ) (kind : Kind) (rest : List ℕ) → kind_at bytes ≡ Some (kind, rest) → rest ≡ [] → IsFieldDescriptor bytes kind
 field_read bytes kind rest some empty =
@@ -115,10 +115,3 @@ one_descriptor bytes (Method parameters returned) (Method others other) d e =
 pub none_described : (bytes : List ℕ) → ((kind : Kind) → IsFieldDescriptor bytes kind → ⊥) → ((parameters : List Kind) (returned : Option Kind) → IsMethodDescriptor bytes parameters returned → ⊥) → (d : Descriptor) → IsDescriptorOf bytes d → ⊥
 none_described bytes field method (Field kind) d = field kind d
 none_described bytes field method (Method parameters returned) d = method parameters returned d
-
--- the kinds that were read are the parameters
-pub all_kinds : (bytes rest after : List ℕ) (kinds parameters : List Kind) → KindsAt bytes kinds rest → kind_at rest ≡ None → ParametersAt bytes parameters after → kinds ≡ parameters
-all_kinds bytes rest after kinds parameters r none p =
-    let l = leaves kinds parameters rest after r.each p.each (sym r.spelled ∙ p.spelled) in
-    let n = no_more l.more rest after l.others none in
-    sym (l.whole ∙ (ap (λ (ks : List Kind). kinds ++ ks) n.0 ∙ append-nil kinds))

@@ -5,3 +5,5 @@ pub mod ParameterLaws
 pub mod DescriptorLaws
 pub mod TextLaws
 pub mod FormLaws
+pub mod BytesLaws
+pub mod UnitLaws

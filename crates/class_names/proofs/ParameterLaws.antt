@@ -165,7 +165,7 @@ base_full Float = omega arith
 base_full Double = omega arith
 base_full (Class name) = omega arith
 
-kind_full : (kind : Kind) → 0 < length (kind_text kind)
+pub kind_full : (kind : Kind) → 0 < length (kind_text kind)
 kind_full (Base base) = base_full base
 kind_full (Array dimensions base) = omega (arith, base_full base, length-append (replicate dimensions 91) (base_text base))
 

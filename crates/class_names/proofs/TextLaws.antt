@@ -27,7 +27,7 @@ triple_no_double a h =
     and_right (leb 192 a) (leb a 223) (lt-leb a 223 (omega arith))
 
 -- a form that stands at the front is read
-unit_again : (form rest : List ℕ) → IsForm form → unit_at (form ++ rest) ≡ Some (unit_of form, rest)
+pub unit_again : (form rest : List ℕ) → IsForm form → unit_at (form ++ rest) ≡ Some (unit_of form, rest)
 unit_again [] rest h = absurd h
 unit_again (a ∷ []) rest h = rw h refl
 unit_again (a ∷ b ∷ []) rest h =
@@ -40,11 +40,11 @@ unit_again (a ∷ b ∷ c ∷ []) rest h =
 unit_again (a ∷ b ∷ c ∷ d ∷ bs) rest h = absurd h
 
 -- what is read is a form
-record TakesForm (bytes : List ℕ) (x : ℕ × List ℕ) : Type 0 where
-  form : List ℕ
-  good : IsForm form
-  spelled : bytes ≡ form ++ x.1
-  unit : x.0 ≡ unit_of form
+pub record TakesForm (bytes : List ℕ) (x : ℕ × List ℕ) : Type 0 where
+  pub form : List ℕ
+  pub good : IsForm form
+  pub spelled : bytes ≡ form ++ x.1
+  pub unit : x.0 ≡ unit_of form
 
 third_takes : (a b : ℕ) (bs : List ℕ) (x : ℕ × List ℕ) → is_continuation b ≡ true → third_at a b bs ≡ Some x → TakesForm (a ∷ b ∷ bs) x
 third_takes a b [] x h e = absurd cc
@@ -68,7 +68,7 @@ second_takes a (b ∷ bs) x e =
       | inr t ↦ absurd (let no = t.1 in cc)
     ]
 
-unit_takes : (bs : List ℕ) (x : ℕ × List ℕ) → unit_at bs ≡ Some x → TakesForm bs x
+pub unit_takes : (bs : List ℕ) (x : ℕ × List ℕ) → unit_at bs ≡ Some x → TakesForm bs x
 unit_takes [] x e = absurd cc
 unit_takes (a ∷ bs) x e =
     elim (chosen (is_single a) (Some (unit_of (a ∷ []), bs)) (second_at a bs) (Some x) e) [
@@ -76,7 +76,7 @@ unit_takes (a ∷ bs) x e =
       | inr t ↦ second_takes a bs x t.1
     ]
 
-form_full : (form : List ℕ) → IsForm form → 0 < length form
+pub form_full : (form : List ℕ) → IsForm form → 0 < length form
 form_full [] h = absurd h
 form_full (a ∷ bs) h = omega arith
 

@@ -2,7 +2,9 @@ pub mod Names
 pub mod Descriptor
 pub mod Reading
 pub mod Shape
+pub mod Kinds
 pub mod MethodShape
 pub mod ModifiedUtf8
 pub mod ReadingText
+pub mod Units
 pub mod ShortestForms

@@ -4,18 +4,20 @@ ghost use Rattle.std.specs.Prelude.{◌≡◌, ◌≢◌, ◌↔◌, ◌≤◌, 
 ghost use Rattle.class_names.specs.declared.kind.BaseKind.{BaseKind};
 ghost use Rattle.class_names.specs.declared.kind.Kind.{Kind};
 ghost use Rattle.class_names.specs.declared.kind.Descriptor.{Descriptor};
-ghost use Rattle.class_names.specs.Descriptor.{IsFieldDescriptor, IsMethodDescriptor, IsDescriptorOf, size_of, KindsAt, ParametersAt, IsReturn};
-ghost use Rattle.class_names.specs.Reading.{kind_at};
+ghost use Rattle.class_names.specs.Descriptor.{IsFieldDescriptor, IsMethodDescriptor, IsDescriptorOf, size_of, ParametersAt, IsReturn};
+ghost use Rattle.class_names.specs.Kinds.{field_kind, method_kinds};
 ghost use Rattle.class_names.specs.Shape.{kind_of};
-ghost use Rattle.class_names.specs.MethodShape.{IsMethodShape};
+ghost use Rattle.class_names.specs.MethodShape.{kinds_of, IsMethodShape};
 
 use crate::kind::{Descriptor, Kind, NameRefusal, ParameterSize};
+use crate::parameters::Parameters;
 use crate::shape::{KindShape, kind_shape};
 use rows::Rows;
 use std::alloc::{AllocError, Global};
 
-/// The kind of which the bytes are the descriptor.
-fn whole_kind(bytes: &[u8]) -> Option<KindShape<'_>>
+/// The kind of which the bytes are the descriptor (JVMS 4.3.2), or `None` where they are none. Takes no memory.
+pub fn field_shape(bytes: &[u8]) -> Option<KindShape<'_>>
+    ensures value { option_map kind_of result ≡ field_kind bytes.now }
     ensures found { IfSome result (λ shape. IsFieldDescriptor bytes.now (kind_of shape)) }
     ensures none { IfNone result ((kind : Kind) → ¬ IsFieldDescriptor bytes.now kind) }
 {
@@ -28,7 +30,7 @@ fn whole_kind(bytes: &[u8]) -> Option<KindShape<'_>>
 pub fn is_field_descriptor(bytes: &[u8]) -> bool
     ensures { IsTrue result ↔ ((kind : Kind) × IsFieldDescriptor bytes.now kind) }
 {
-    whole_kind(bytes).is_some()
+    field_shape(bytes).is_some()
 }
 
 /// Whether bytes are the field descriptor of an array (JVMS 4.3.2), by which a constant names an array class
@@ -36,7 +38,7 @@ pub fn is_field_descriptor(bytes: &[u8]) -> bool
 pub fn is_array_descriptor(bytes: &[u8]) -> bool
     ensures { IsTrue result ↔ ((dimensions : ℕ) × (base : BaseKind) × IsFieldDescriptor bytes.now (Kind.Array dimensions base)) }
 {
-    match whole_kind(bytes) {
+    match field_shape(bytes) {
         Some(shape) => shape.dimensions > 0,
         None => false,
     }
@@ -82,20 +84,25 @@ fn returned_shape(bytes: &[u8]) -> Option<Option<KindShape<'_>>>
     if bytes == b"V".as_slice() {
         return Some(None);
     }
-    let shape = whole_kind(bytes)?;
+    let shape = field_shape(bytes)?;
     Some(Some(shape))
 }
 
-/// A method descriptor as it stands: the size of its parameters, the bytes from the first parameter on, and
-/// the result.
-#[derive(Clone, Copy)]
-pub(crate) struct MethodShape<'a> {
-    size: ParameterSize,
-    parameters: &'a [u8],
-    returned: Option<KindShape<'a>>,
+/// A method descriptor as it stands (JVMS 4.3.3).
+#[derive(Drop)]
+pub struct MethodShape<'a> {
+    /// How much the parameters are.
+    pub size: ParameterSize,
+    /// The kinds of the parameters in order.
+    pub parameters: Parameters<'a>,
+    /// The kind of the result, or `None` where it is void.
+    pub returned: Option<KindShape<'a>>,
 }
 
-fn method_shape(bytes: &[u8]) -> Option<MethodShape<'_>>
+/// The parameters and the result of which the bytes are the method descriptor (JVMS 4.3.3), or `None` where they are
+/// none. Takes no memory.
+pub fn method_shape(bytes: &[u8]) -> Option<MethodShape<'_>>
+    ensures value { option_map kinds_of result ≡ method_kinds bytes.now }
     ensures found { IfSome result (IsMethodShape bytes.now) }
     ensures none { IfNone result ((parameters : List Kind) (returned : Option Kind) → ¬ IsMethodDescriptor bytes.now parameters returned) }
 {
@@ -104,7 +111,7 @@ fn method_shape(bytes: &[u8]) -> Option<MethodShape<'_>>
     let returned = returned_shape(rest)?;
     Some(MethodShape {
         size,
-        parameters: text,
+        parameters: Parameters::new(text),
         returned,
     })
 }
@@ -131,15 +138,13 @@ pub fn is_method_descriptor(bytes: &[u8]) -> bool
     method_shape(bytes).is_some()
 }
 
-/// The kinds that stand one after the other at the front.
-fn kinds(alloc: Global, bytes: &[u8]) -> Result<Rows<Kind>, AllocError>
-    ensures { IfOk result (λ kinds. (rest : List ℕ) × KindsAt bytes.now kinds rest × (kind_at rest ≡ None)) }
+/// The kinds with memory of their own.
+fn kinds(alloc: Global, parameters: Parameters<'_>) -> Result<Rows<Kind>, AllocError>
+    ensures { IfOk result (λ kinds. kinds ≡ parameters.entry) }
 {
     let mut kinds = Rows::new(alloc);
-    let mut rest = bytes;
-    while let Some((shape, after)) = kind_shape(rest) {
+    for shape in parameters {
         kinds.push(shape.kind(alloc)?)?;
-        rest = after;
     }
     Ok(kinds)
 }
@@ -156,8 +161,7 @@ fn returned_kind(alloc: Global, shape: Option<KindShape<'_>>) -> Result<Option<K
 impl MethodShape<'_> {
     /// The descriptor with memory of its own.
     fn descriptor(self, alloc: Global) -> Result<Descriptor, AllocError>
-        ensures { IfOk result (λ d. (kinds : List Kind) (after : List ℕ) → ParametersAt self.entry.parameters.now kinds after
-            → d ≡ Descriptor.Method kinds (option_map kind_of self.entry.returned)) }
+        ensures { IfOk result (λ d. d ≡ Descriptor.Method self.entry.parameters (option_map kind_of self.entry.returned)) }
     {
         let parameters = kinds(alloc, self.parameters)?;
         let returned = returned_kind(alloc, self.returned)?;
@@ -179,7 +183,7 @@ pub fn descriptor_of(alloc: Global, bytes: &[u8]) -> Result<Descriptor, NameRefu
     if let Some(shape) = method_shape(bytes) {
         return Ok(shape.descriptor(alloc)?);
     }
-    match whole_kind(bytes) {
+    match field_shape(bytes) {
         Some(shape) => Ok(Descriptor::Field(shape.kind(alloc)?)),
         None => Err(NameRefusal::Bad),
     }

@@ -11,9 +11,9 @@ use crate::names::is_spelled_class_name;
 use rows::Bytes;
 use std::alloc::{AllocError, Global};
 
-/// A kind that is no array. The name of a class is lent.
+/// A kind that is no array (JVMS 4.3.2). The name of a class is lent.
 #[derive(Clone, Copy)]
-pub(crate) enum BaseShape<'a> {
+pub enum BaseShape<'a> {
     Int,
     Byte,
     Char,
@@ -25,10 +25,12 @@ pub(crate) enum BaseShape<'a> {
     Class(&'a [u8]),
 }
 
-/// A kind. Without a dimension it is no array.
+/// A kind as it stands in a descriptor (JVMS 4.3.2). Without a dimension it is no array.
 #[derive(Clone, Copy)]
-pub(crate) struct KindShape<'a> {
+pub struct KindShape<'a> {
+    /// How many `[` stand before it, 0 to 255.
     pub dimensions: u8,
+    /// The kind of the innermost elements.
     pub base: BaseShape<'a>,
 }
 
@@ -61,7 +63,7 @@ impl KindShape<'_> {
         }
     }
 
-    /// The kind with memory of its own.
+    /// The kind with memory of its own. It fails for want of memory alone.
     pub fn kind(self, alloc: Global) -> Result<Kind, AllocError>
         ensures { IfOk result (λ kind. kind ≡ kind_of self.entry) }
     {
@@ -126,9 +128,10 @@ fn leading_brackets(bytes: &[u8]) -> usize
     bytes.iter().take_while(|byte| **byte == b'[').count()
 }
 
-/// The kind at the front, and what stands behind it: up to 255 `[`, and a kind that is no array.
+/// The kind at the front, and what stands behind it: up to 255 `[`, and a kind that is no array. `None` where no
+/// kind stands there (JVMS 4.3.2).
 #[tactic(auto, unfolding(crate::specs::Reading::kind_at))]
-pub(crate) fn kind_shape(bytes: &[u8]) -> Option<(KindShape<'_>, &[u8])>
+pub fn kind_shape(bytes: &[u8]) -> Option<(KindShape<'_>, &[u8])>
     ensures { MatchOption result (kind_at bytes.now ≡ None) (λ x. kind_at bytes.now ≡ Some (kind_of x.0, x.1.now)) }
 {
     let dimensions = leading_brackets(bytes);

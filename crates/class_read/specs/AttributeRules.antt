@@ -1,7 +1,9 @@
 -- The attributes that are read: ConstantValue, Code and StackMapTable (JVMS 4.7.2 to 4.7.4).
-use Rattle.std.specs.Prelude.{◌≡◌, ℕ, ◌+◌, ◌*◌, ◌<◌, ◌==◌, ◌||◌, Bool, true, false, List, [], ◌∷◌, Option, Some, None, slice_get, length, take, find, is_some, not, codes, IsTrue, bit_and, option_map, if◌then◌else◌}
+use Rattle.std.specs.Prelude.{◌≡◌, ℕ, ◌+◌, ◌*◌, ◌<◌, ◌||◌, Bool, true, false, List, [], ◌∷◌, Option, Some, None, slice_get, length, take, find, is_some, codes, IsTrue, option_map, if◌then◌else◌}
 use Rattle.std.specs.Option.{option_and_then, option_map_or}
 use Rattle.std.specs.Str.{bytes_eq}
+use Rattle.access_flags.specs.declared.TheConstants.{STATIC}
+use Rattle.access_flags.specs.Flags.{has}
 use Rattle.class_walk.specs.declared.class.Constant.{Constant}
 use Rattle.class_walk.specs.declared.class.Constant.TheVariants.{Integer, Float, Long, Double, Str}
 use Rattle.class_walk.specs.declared.class.RawAttribute.{RawAttribute}
@@ -15,10 +17,6 @@ use Rattle.class_pool.specs.Pool.{IsUtf8At}
 use Rattle.class_pool.specs.PoolTest.{is_text}
 use Rattle.class_pool.specs.PoolRules.{IsText}
 use Rattle.rules.specs.Rules.{Rules, must, ◌then◌, each, when}
-
--- whether a flag is set (JVMS 4.1, 4.5, 4.6)
-abbrev pub has : ℕ → ℕ → Bool
-has flags flag = not (bit_and flags flag == 0)
 
 abbrev pub is_named : List Constant → List ℕ → RawAttribute → Bool
 is_named pool name a = is_text name (slice_get pool a.name)
@@ -56,7 +54,7 @@ IsConstantAt pool descriptor index =
 -- the content of a ConstantValue of this field (JVMS 4.7.2); that of a field that isn't static is ignored
 pub record IsConstantValue (pool : List Constant) (field : RawMember) (content : List ℕ) : Type 0 where
   pub size : length content ≡ 2
-  pub kind : IsTrue (has field.flags 8) → IsConstantAt pool field.descriptor (index_in content)
+  pub kind : IsTrue (has field.flags STATIC) → IsConstantAt pool field.descriptor (index_in content)
 
 -- an attribute of a field, where a ConstantValue stands before it or doesn't
 abbrev pub field_attribute_rules : List Constant → RawMember → Bool → RawAttribute → Rules ReadRefusal
@@ -98,7 +96,7 @@ method_attributes_rules pool method =
 -- the constant that a field begins with: that of a static field alone (JVMS 4.7.2)
 abbrev pub constant_of : List Constant → RawMember → Option ℕ
 constant_of pool field =
-    if has field.flags 8
+    if has field.flags STATIC
     then option_map (λ (a : RawAttribute). index_in a.content) (named pool (codes "ConstantValue") field.attributes)
     else None
 

@@ -1,5 +1,7 @@
 -- What JVMS 4.1 wants of a class file, in the order in which it is looked at.
 use Rattle.std.specs.Prelude.{◌≡◌, ℕ, ◌⊎◌, ◌||◌, ◌&&◌, Bool, List, not, codes, IsTrue}
+use Rattle.access_flags.specs.declared.TheConstants.{ABSTRACT, FINAL, INTERFACE}
+use Rattle.access_flags.specs.Flags.{has}
 use Rattle.class_walk.specs.declared.class.Constant.{Constant}
 use Rattle.class_walk.specs.declared.class.RawAttribute.{RawAttribute}
 use Rattle.class_walk.specs.declared.class.RawClass.{RawClass}
@@ -9,7 +11,7 @@ use Rattle.class_pool.specs.declared.refusal.ReadRefusal.{ReadRefusal}
 use Rattle.class_pool.specs.declared.refusal.ReadRefusal.TheVariants.{PoolIndex, Flags}
 use Rattle.class_pool.specs.Pool.{IsClassAt}
 use Rattle.class_pool.specs.PoolRules.{pool_rules}
-use Rattle.class_read.specs.AttributeRules.{has, name_rules}
+use Rattle.class_read.specs.AttributeRules.{name_rules}
 use Rattle.class_read.specs.MemberRules.{field_rules, method_rules}
 use Rattle.rules.specs.Rules.{Rules, must, ◌then◌, each}
 
@@ -23,7 +25,7 @@ IsSuperclass pool c = IsNamedClass pool c.super_class ⊎ ((c.super_class ≡ 0)
 
 -- An interface is abstract and not final, and no class is final and abstract (JVMS 4.1).
 abbrev pub are_class_flags : ℕ → Bool
-are_class_flags flags = (not (has flags 512) || (has flags 1024 && not (has flags 16))) && not (has flags 16 && has flags 1024)
+are_class_flags flags = (not (has flags INTERFACE) || (has flags ABSTRACT && not (has flags FINAL))) && not (has flags FINAL && has flags ABSTRACT)
 
 abbrev pub interface_rules : List Constant → ℕ → ℕ → Rules ReadRefusal
 interface_rules pool i index = must (IsNamedClass pool index) (PoolIndex index)
@@ -50,7 +52,7 @@ methods_rules pool methods = each (method_rules pool methods) methods
 -- the fields, the methods, and the attributes of the class
 abbrev pub member_rules : List Constant → RawClass → Rules ReadRefusal
 member_rules pool c =
-    fields_rules pool (has c.flags 512) c.fields
+    fields_rules pool (has c.flags INTERFACE) c.fields
     then methods_rules pool c.methods
     then class_attributes_rules pool c.attributes
 

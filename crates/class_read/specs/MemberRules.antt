@@ -1,5 +1,7 @@
 -- What JVMS 4.5 and 4.6 want of fields and methods.
 use Rattle.std.specs.Prelude.{◌≡◌, ℕ, ◌+◌, ◌≤◌, ◌||◌, ◌&&◌, Bool, false, nat_le, List, Option, Some, None, is_some, not, codes, slice_get, IsTrue, if◌then◌else◌}
+use Rattle.access_flags.specs.declared.TheConstants.{ABSTRACT, FINAL, NATIVE, PRIVATE, PROTECTED, PUBLIC, STATIC, SYNCHRONIZED, VOLATILE}
+use Rattle.access_flags.specs.Flags.{has}
 use Rattle.class_walk.specs.declared.class.Constant.{Constant}
 use Rattle.class_walk.specs.declared.class.RawMember.{RawMember}
 use Rattle.class_names.specs.Names.{IsMemberName, IsMethodName}
@@ -12,7 +14,7 @@ use Rattle.class_pool.specs.declared.refusal.ReadRefusal.TheVariants as refusals
 use Rattle.class_pool.specs.Pool.{IsUtf8At}
 use Rattle.class_pool.specs.PoolRules.{IsText, IsFieldType}
 use Rattle.class_read.specs.Repeats.{IsRepeated}
-use Rattle.class_read.specs.AttributeRules.{has, named, AllEndBelow, field_attributes_rules, method_attributes_rules, constant_of, code_of_method}
+use Rattle.class_read.specs.AttributeRules.{named, AllEndBelow, field_attributes_rules, method_attributes_rules, constant_of, code_of_method}
 use Rattle.rules.specs.Rules.{Rules, must, ◌then◌}
 
 -- the text at an index is such a one
@@ -29,7 +31,7 @@ text_rules IsRight pool index =
 
 -- the words that the receiver of a method takes: a static method has none (JVMS 4.3.3)
 abbrev pub receiver_words : ℕ → ℕ
-receiver_words flags = if has flags 8 then 0 else 1
+receiver_words flags = if has flags STATIC then 0 else 1
 
 -- the descriptor of a method with these flags, whose parameters and receiver take at most 255 words (JVMS 4.3.3)
 abbrev pub IsTypeOfMethod : ℕ → List ℕ → Type 0
@@ -43,26 +45,26 @@ may_take flags (Some size) = nat_le (receiver_words flags + size.words) 255
 
 -- more than one of public, private and protected
 abbrev pub has_two_accesses : ℕ → Bool
-has_two_accesses flags = (has flags 1 && has flags 2) || ((has flags 1 && has flags 4) || (has flags 2 && has flags 4))
+has_two_accesses flags = (has flags PUBLIC && has flags PRIVATE) || ((has flags PUBLIC && has flags PROTECTED) || (has flags PRIVATE && has flags PROTECTED))
 
 -- public, static and final
 abbrev pub is_constant : ℕ → Bool
-is_constant flags = has flags 1 && (has flags 8 && has flags 16)
+is_constant flags = has flags PUBLIC && (has flags STATIC && has flags FINAL)
 
 -- the flags of a field of an interface or of another class (JVMS 4.5); no field is final and volatile
 abbrev pub are_field_flags : Bool → ℕ → Bool
-are_field_flags interface flags = not (has_two_accesses flags) && (not (has flags 16 && has flags 64) && (not interface || is_constant flags))
+are_field_flags interface flags = not (has_two_accesses flags) && (not (has flags FINAL && has flags VOLATILE) && (not interface || is_constant flags))
 
 -- private, static, final, synchronized or native: none of them goes with abstract (JVMS 4.6)
 abbrev pub is_unlike_abstract : ℕ → Bool
-is_unlike_abstract flags = has flags 2 || (has flags 8 || (has flags 16 || (has flags 32 || has flags 256)))
+is_unlike_abstract flags = has flags PRIVATE || (has flags STATIC || (has flags FINAL || (has flags SYNCHRONIZED || has flags NATIVE)))
 
 abbrev pub are_method_flags : ℕ → Bool
-are_method_flags flags = not (has_two_accesses flags) && not (has flags 1024 && is_unlike_abstract flags)
+are_method_flags flags = not (has_two_accesses flags) && not (has flags ABSTRACT && is_unlike_abstract flags)
 
 -- an abstract or a native method has no code, and each other one has (JVMS 4.7.3)
 abbrev pub wants_code : ℕ → Bool
-wants_code flags = not (has flags 1024 || has flags 256)
+wants_code flags = not (has flags ABSTRACT || has flags NATIVE)
 
 -- a field, but for whether it repeats another
 abbrev pub lone_field_rules : List Constant → Bool → RawMember → Rules ReadRefusal

@@ -1,5 +1,7 @@
 -- What a class is that JVMS chapter 4 allows, part by part, whatever is looked at first.
 use Rattle.std.specs.Prelude.{◌≡◌, ℕ, Bool, false, List, Some, slice_get, is_some, codes, IsTrue}
+use Rattle.access_flags.specs.declared.TheConstants.{INTERFACE}
+use Rattle.access_flags.specs.Flags.{has}
 use Rattle.class_walk.specs.declared.class.Constant.{Constant}
 use Rattle.class_walk.specs.declared.class.Constant.TheVariants.{Utf8}
 use Rattle.class_walk.specs.declared.class.RawAttribute.{RawAttribute}
@@ -10,7 +12,7 @@ use Rattle.class_walk.specs.Reading.{code_of}
 use Rattle.class_names.specs.Names.{IsMemberName, IsMethodName}
 use Rattle.class_names.specs.ModifiedUtf8.{IsModifiedUtf8}
 use Rattle.class_pool.specs.PoolRules.{IsText, IsUsedRightly, RefersRightly, IsFieldType}
-use Rattle.class_read.specs.AttributeRules.{has, is_named, named, is_earlier, IsConstantValue}
+use Rattle.class_read.specs.AttributeRules.{is_named, named, is_earlier, IsConstantValue}
 use Rattle.class_read.specs.MemberRules.{IsTextAt, IsTypeOfMethod, are_field_flags, are_method_flags, wants_code}
 use Rattle.class_read.specs.Repeats.{IsRepeated}
 use Rattle.class_read.specs.ClassRules.{IsNamedClass, IsSuperclass, are_class_flags}
@@ -68,7 +70,7 @@ pub record IsSound (c : RawClass) : Type 0 where
   pub super_class : IsSuperclass c.pool c
   pub interfaces : Each (λ i index. IsNamedClass c.pool index) c.interfaces
   pub flags : IsTrue (are_class_flags c.flags)
-  pub fields : Each (λ i m. IsSoundField c.pool (has c.flags 512) m) c.fields
+  pub fields : Each (λ i m. IsSoundField c.pool (has c.flags INTERFACE) m) c.fields
   pub methods : Each (λ i m. IsSoundMethod c.pool m) c.methods
   pub distinct_fields : IsDistinct c.pool c.fields
   pub distinct_methods : IsDistinct c.pool c.methods

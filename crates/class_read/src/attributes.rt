@@ -8,7 +8,7 @@ ghost use Rattle.rules.specs.Rules.{each};
 ghost use Rattle.class_pool.specs.Answers.{Gives, KeepsExactly, GivesExactly};
 
 use crate::class_file::CodeAttribute;
-use crate::flags::{STATIC, has};
+use access_flags::{STATIC, has};
 use class_pool::{ReadRefusal, is_text_at, is_utf8_at};
 use class_walk::{Constant, ContentRefusal, RawAttribute, RawCode, RawMember, code_content};
 use rows::{Bytes, Rows};

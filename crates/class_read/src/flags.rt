@@ -1,36 +1,13 @@
-//! Access flags (JVMS 4.1, 4.5, 4.6).
+//! Which access flags go together (JVMS 4.1, 4.5, 4.6).
 
 ghost use Rattle.std.specs.Prelude.{◌≡◌};
-ghost use Rattle.class_read.specs.AttributeRules.{has};
 ghost use Rattle.class_read.specs.ClassRules.{are_class_flags};
 ghost use Rattle.class_read.specs.MemberRules.{has_two_accesses, are_field_flags, is_unlike_abstract, are_method_flags, wants_code};
 
-const PUBLIC: u16 = 0x0001;
-
-const PRIVATE: u16 = 0x0002;
-
-const PROTECTED: u16 = 0x0004;
-
-pub const STATIC: u16 = 0x0008;
-
-const FINAL: u16 = 0x0010;
-
-const SYNCHRONIZED: u16 = 0x0020;
-
-const VOLATILE: u16 = 0x0040;
-
-const NATIVE: u16 = 0x0100;
-
-pub const INTERFACE: u16 = 0x0200;
-
-const ABSTRACT: u16 = 0x0400;
-
-/// Whether a flag is set.
-pub fn has(flags: u16, flag: u16) -> bool
-    ensures { result ≡ has flags flag }
-{
-    flags & flag != 0
-}
+use access_flags::{
+    ABSTRACT, FINAL, INTERFACE, NATIVE, PRIVATE, PROTECTED, PUBLIC, STATIC, SYNCHRONIZED, VOLATILE,
+    has,
+};
 
 fn has_two_accesses(flags: u16) -> bool
     ensures { result ≡ has_two_accesses flags }

@@ -12,7 +12,8 @@ ghost use Rattle.class_pool.specs.TextUses.{IsUseAt};
 
 use crate::attributes::{field_constant, method_code};
 use crate::class_file::{CodeAttribute, Member};
-use crate::flags::{STATIC, are_field_flags, are_method_flags, has, wants_code};
+use crate::flags::{are_field_flags, are_method_flags, wants_code};
+use access_flags::{STATIC, has};
 use class_names::ParameterSize;
 use class_pool::{Pool, ReadRefusal, TextUse};
 use class_walk::RawMember;

@@ -12,10 +12,10 @@ ghost use Rattle.class_pool.specs.Answers.{Gives, KeepsExactly};
 
 use crate::attributes::check_name;
 use crate::class_file::{ClassFile, Member};
-use crate::flags::{INTERFACE, has};
 use crate::header::check_header;
 use crate::members::{fields, methods};
 use crate::repeats::first_repeat;
+use access_flags::{INTERFACE, has};
 use class_pool::{Pool, ReadRefusal, check_pool};
 use class_walk::{Constant, RawAttribute, RawClass, RawMember, WalkFault, WalkRefusal, walk};
 use rows::Rows;

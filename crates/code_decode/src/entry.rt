@@ -4,16 +4,14 @@ ghost use Rattle.std.specs.Prelude.{◌≡◌};
 ghost use Rattle.class_read.specs.MemberRules.{receiver_words};
 ghost use Rattle.code_decode.specs.Entry.{HasMethodType, IsEntryCount};
 
+use access_flags::{STATIC, has};
 use class_read::{Member, Pool};
-
-/// The flag of a static method (JVMS 4.6).
-const STATIC: u16 = 0x0008;
 
 /// How many values the receiver of a method is: one, or none where the method is static.
 fn receiver_count(flags: u16) -> u16
     ensures { result ≡ receiver_words flags }
 {
-    if flags & STATIC == 0 { 1 } else { 0 }
+    if has(flags, STATIC) { 0 } else { 1 }
 }
 
 /// How many values a method begins with: its receiver, where it has one, and its parameters.

@@ -12,7 +12,7 @@ pub length-entry_locals : (widths : List ℕ) (first : ℕ) → length (entry_lo
 length-entry_locals [] first = refl
 length-entry_locals (width ∷ widths) first = ap suc (length-entry_locals widths (first + width))
 
-length-changed : (locals : List VType) (change : LocalsChange) → length (changed locals change) ≡ count_after (length locals) change
+pub length-changed : (locals : List VType) (change : LocalsChange) → length (changed locals change) ≡ count_after (length locals) change
 length-changed locals Same = refl
 length-changed locals (Append added) = length-append locals added
 length-changed locals (Chop removed) = omega (arith, length-take (length locals - removed) locals)

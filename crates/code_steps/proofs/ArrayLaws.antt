@@ -9,7 +9,8 @@ use Rattle.instructions.specs.Steps.{offsets_of}
 use Rattle.code_steps.specs.declared.fault.StepFault.{StepFault}
 use Rattle.code_steps.specs.declared.fault.StepRefusal.{StepRefusal}
 use Rattle.code_steps.specs.declared.fault.StepRefusal.TheVariants as refusals
-use Rattle.code_steps.specs.CodeArray.{AreLaidOut, by_offsets, targets_of, IsCodeArray}
+use Rattle.instructions.specs.What.{targets_of}
+use Rattle.code_steps.specs.CodeArray.{AreLaidOut, by_offsets, IsCodeArray}
 use Rattle.code_steps.specs.FirstFault.{IsSized, IsLengthFault, IsInstructionFault, IsTargetFault, IsFirstFault, IsFaultOf, LeadsRightly, Lays}
 use Rattle.code_steps.specs.Reading.{Fails}
 use Rattle.code_steps.specs.Targets.{steps_of}

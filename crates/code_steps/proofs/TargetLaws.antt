@@ -9,7 +9,8 @@ use Rattle.instructions.specs.declared.what.What.{What}
 use Rattle.instructions.specs.declared.what.What.TheVariants.{Plain, Int, Long, Constant as Loaded, LongConstant, Local, Increment, Branch, TableSwitch, LookupSwitch, Field, Call, InterfaceCall, Class, NewArray}
 use Rattle.code_steps.specs.declared.fault.StepFault.{StepFault}
 use Rattle.code_steps.specs.declared.fault.StepFault.TheVariants as faults
-use Rattle.code_steps.specs.CodeArray.{targets_of, with_target, with_targets, by_offsets}
+use Rattle.instructions.specs.What.{targets_of}
+use Rattle.code_steps.specs.CodeArray.{with_target, with_targets, by_offsets}
 use Rattle.class_walk.specs.Reading.{◌>>=◌}
 use Rattle.code_steps.specs.Targets.{target_of, all_of, case_of, what_of, placed, step_of, steps_of}
 use Rattle.class_walk.proofs.Fields.{bind_ok, ok_is}

@@ -9,6 +9,7 @@ use Rattle.instructions.specs.declared.what.What.{What}
 use Rattle.instructions.specs.declared.what.What.TheVariants.{Plain, Int, Long, Constant as Loaded, LongConstant, Local, Increment, Branch, TableSwitch, LookupSwitch, Field, Call, InterfaceCall, Class, NewArray}
 use Rattle.instructions.specs.Table.{Instruction, row_numbered}
 use Rattle.instructions.specs.Steps.{number_at}
+use Rattle.instructions.specs.What.{targets_of}
 use Rattle.code_steps.specs.Operands.{IsOperands}
 
 -- an instruction stands where it says: the number of a row of the table, and operands of its form
@@ -25,13 +26,6 @@ pub record IsInstruction (pool : List Constant) (code : List ℕ) (i : Instr ℤ
 abbrev pub AreLaidOut : List Constant → List ℕ → ℕ → List (Instr ℤ) → ℕ → Type 0
 AreLaidOut pool code from [] to = from ≡ to
 AreLaidOut pool code from (i ∷ others) to = (i.at ≡ from) × IsInstruction pool code i × AreLaidOut pool code i.next others to
-
--- the targets of an instruction
-abbrev pub targets_of : {T : Type 0} → What T → List T
-targets_of (Branch test target) = target ∷ []
-targets_of (TableSwitch default low targets) = default ∷ targets
-targets_of (LookupSwitch default cases) = default ∷ map (λ c. c.target) cases
-targets_of _ = []
 
 abbrev pub with_target : {A B : Type 0} → (A → B) → Case A → Case B
 with_target f c = record { key = c.key; target = f c.target }

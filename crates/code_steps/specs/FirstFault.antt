@@ -8,7 +8,8 @@ use Rattle.code_steps.specs.declared.fault.StepFault.{StepFault}
 use Rattle.code_steps.specs.declared.fault.StepFault.TheVariants.{Length, Target}
 use Rattle.code_steps.specs.declared.fault.StepRefusal.{StepRefusal}
 use Rattle.code_steps.specs.declared.fault.StepRefusal.TheVariants as refusals
-use Rattle.code_steps.specs.CodeArray.{AreLaidOut, targets_of}
+use Rattle.instructions.specs.What.{targets_of}
+use Rattle.code_steps.specs.CodeArray.{AreLaidOut}
 use Rattle.code_steps.specs.Reading.{ReadsInstruction}
 
 pub record IsSized (code : List ℕ) : Type 0 where

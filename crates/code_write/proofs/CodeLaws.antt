@@ -18,7 +18,8 @@ use Rattle.instructions.specs.declared.what.Target.{Target}
 use Rattle.instructions.specs.declared.what.What.{What}
 use Rattle.instructions.specs.declared.what.What.TheVariants as whats
 use Rattle.instructions.specs.Table.{Instruction, row, row_numbered, table}
-use Rattle.code_steps.specs.CodeArray.{IsInstruction, AreLaidOut, by_offsets, targets_of, with_target, IsAmong, IsCodeArray}
+use Rattle.instructions.specs.What.{targets_of}
+use Rattle.code_steps.specs.CodeArray.{IsInstruction, AreLaidOut, by_offsets, with_target, IsAmong, IsCodeArray}
 use Rattle.code_steps.proofs.LayoutLaws.{number_small}
 use Rattle.code_steps.specs.Operands.{HasOne, HasTwo, Any, near_target, far_target, IsTarget, IsKey, IsCase, AreItems, padding_of, IsTableSwitch, IsLookupSwitch, Rise, AreWideOf, AreWide, IsElementCode, IsOperands}
 use Rattle.code_write.specs.declared.operands.Operands.{Operands}

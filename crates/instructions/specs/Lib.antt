@@ -1,3 +1,4 @@
 pub mod Table
 pub mod Numbering
 pub mod Steps
+pub mod What

@@ -10,6 +10,7 @@ mod numbering;
 mod operation;
 mod steps;
 mod table;
+mod targets;
 mod what;
 
 pub use form::{Form, Row};
@@ -20,4 +21,5 @@ pub use operation::{
 };
 pub use steps::Steps;
 pub use table::{row, row_named};
+pub use targets::Targets;
 pub use what::{Case, Instr, Target, What};

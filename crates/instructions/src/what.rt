@@ -1,5 +1,8 @@
 //! Instructions with their operands.
 
+ghost use Rattle.std.specs.Prelude.{◌≡◌};
+ghost use Rattle.instructions.specs.What.{falls_through, operand_of};
+
 use crate::operation::{Call, ClassUse, FieldAccess, LocalAccess, Plain, PrimitiveType, Test};
 use rows::Rows;
 
@@ -57,6 +60,36 @@ pub enum What<T> {
     Class(ClassUse, u16),
     /// An array of numbers or booleans.
     NewArray(PrimitiveType),
+}
+
+impl<T> What<T> {
+    /// Whether the next instruction may follow: not behind a goto, a switch, a return or an athrow.
+    pub fn falls_through(&self) -> bool
+        ensures { result ≡ falls_through self.now }
+    {
+        !matches!(
+            self,
+            What::Plain(Plain::Return(_) | Plain::Throw)
+                | What::Branch(Test::Always, _)
+                | What::TableSwitch { .. }
+                | What::LookupSwitch { .. }
+        )
+    }
+
+    /// The index of the constant pool that it has, if it has one.
+    pub fn operand(&self) -> Option<u16>
+        ensures { result ≡ operand_of self.now }
+    {
+        match self {
+            What::Constant(index)
+            | What::LongConstant(index)
+            | What::Field(_, index)
+            | What::Call(_, index)
+            | What::InterfaceCall(index)
+            | What::Class(_, index) => Some(*index),
+            _ => None,
+        }
+    }
 }
 
 /// An instruction where it stands.

@@ -1,6 +1,7 @@
 use class_names::{
-    BaseKind, Descriptor, Kind, NameRefusal, descriptor_of, is_array_descriptor,
-    is_field_descriptor, is_method_descriptor, parameter_size,
+    BaseKind, BaseShape, Descriptor, Kind, KindShape, NameRefusal, Parameters, descriptor_of,
+    field_shape, is_array_descriptor, is_field_descriptor, is_method_descriptor, method_shape,
+    parameter_size,
 };
 use std::alloc::{AllocError, Global};
 use std::test::Fail;
@@ -85,6 +86,8 @@ fn is_said(bytes: &[u8], what: &str) -> bool {
     is_array_descriptor(bytes) == array
         && is_field_descriptor(bytes) == (array || what == "field")
         && is_method_descriptor(bytes) == (what == "method")
+        && field_shape(bytes).is_some() == (array || what == "field")
+        && method_shape(bytes).is_some() == (what == "method")
 }
 
 fn is_so(alloc: Global, bytes: &[u8], what: &str, size: Option<(u8, u8)>) -> bool {
@@ -216,6 +219,55 @@ fn is_method(alloc: Global, (text, parameters, kind): Method) -> bool {
 fn method_descriptors_have_kinds(rt: HostRuntime) {
     for method in METHODS {
         assert!(rt; is_method(rt.alloc(), method));
+    }
+}
+
+fn shape_name<'a>(base: BaseShape<'a>) -> &'a [u8] {
+    match base {
+        BaseShape::Int => b"int",
+        BaseShape::Byte => b"byte",
+        BaseShape::Char => b"char",
+        BaseShape::Short => b"short",
+        BaseShape::Boolean => b"boolean",
+        BaseShape::Long => b"long",
+        BaseShape::Float => b"float",
+        BaseShape::Double => b"double",
+        BaseShape::Class(name) => name,
+    }
+}
+
+fn is_shape(shape: KindShape<'_>, (dimensions, name): Wanted) -> bool {
+    shape.dimensions == dimensions && shape_name(shape.base) == name
+}
+
+fn are_shapes(mut parameters: Parameters<'_>, wanted: &[Wanted]) -> bool {
+    for wanted in wanted {
+        let Some(shape) = parameters.next() else {
+            return false;
+        };
+        if !is_shape(shape, *wanted) {
+            return false;
+        }
+    }
+    parameters.next().is_none()
+}
+
+fn is_method_shape((text, parameters, kind): Method) -> bool {
+    let Some(shape) = method_shape(text) else {
+        return false;
+    };
+    let returned = match (shape.returned, kind) {
+        (Some(returned), Some(wanted)) => is_shape(returned, wanted),
+        (None, None) => true,
+        _ => false,
+    };
+    returned && are_shapes(shape.parameters, parameters)
+}
+
+#[test]
+fn method_descriptors_are_read_without_memory(rt: HostRuntime) {
+    for method in METHODS {
+        assert!(rt; is_method_shape(method));
     }
 }
 

@@ -3,4 +3,4 @@ use Rattle.assembly_lines.proofs.WordLaws.{plain_units}
 use Rattle.assembly_lines.proofs.laws.plain_words_have_their_characters.Goals as goal
 
 pub returns : goal.returns
-returns c = record { formed = λ word plain. encoded_formed word (plain_units word plain); characters = λ word plain. units_again word (plain_units word plain) }
+returns c = record { formed = λ word plain. encoded_formed word (plain_units word plain); characters = units_again }

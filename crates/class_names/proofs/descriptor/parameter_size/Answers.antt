@@ -8,4 +8,5 @@ use Rattle.class_names.proofs.descriptor.parameter_size.Goals as goal
 pub returns-in-Some-clause-only : goal.returns-in-Some-clause-only
 returns-in-Some-clause-only c parameters returned d =
     let s = c.in-Some.ensures.found in
-    ap (λ (n : ParameterSize). Some n) (s.size ∙ ap size_of (one_method c.args.bytes.now s.kinds parameters (option_map kind_of c.in-Some.shape.returned) returned s.descriptor d).0)
+    let shape = c.in-Some.shape in
+    ap (λ (n : ParameterSize). Some n) (s.size ∙ ap size_of (one_method c.args.bytes.now shape.parameters parameters (option_map kind_of shape.returned) returned s.descriptor d).0)

@@ -1,7 +1,7 @@
 use Rattle.class_names.specs.Shape.{kind_of}
 use Rattle.class_names.proofs.DescriptorLaws.{field_read, field_none, field_longer}
 use Rattle.class_names.proofs.Cases.{empty_is, full_is}
-use Rattle.class_names.proofs.descriptor.whole_kind.Goals as goal
+use Rattle.class_names.proofs.descriptor.field_shape.Goals as goal
 
 pub returns-in_err-shape-clause-none : goal.returns-in_err-shape-clause-none
 returns-in_err-shape-clause-none c = rw c.from_residual.ensures (λ kind d. field_none c.args.bytes.now kind c.in_err-shape.ensures d)
