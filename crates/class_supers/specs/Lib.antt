@@ -1,0 +1,5 @@
+pub mod Answers
+pub mod Numbers
+pub mod Headers
+pub mod Above
+pub mod Hierarchy

@@ -1,0 +1,14 @@
+pub mod Units
+pub mod Classes
+pub mod Supers
+pub mod Members
+pub mod Descriptors
+pub mod Arrays
+pub mod Strings
+pub mod Names
+pub mod Layout
+pub mod FixedObjects
+pub mod Methods
+pub mod Operands
+pub mod Readers
+pub mod LinkRules

@@ -1,0 +1,3 @@
+pub mod LinkKind
+pub mod Subtypes
+pub mod Types
