@@ -1,0 +1,2 @@
+pub mod TinyMethods
+pub mod TinyProgram

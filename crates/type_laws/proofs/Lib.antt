@@ -1,0 +1,13 @@
+pub mod Chains
+pub mod Walked
+pub mod Verdicts
+pub mod SameTypes
+pub mod Sizes
+pub mod Kept
+pub mod Padded
+pub mod Rooms
+pub mod Flows
+pub mod Environments
+pub mod Below
+pub mod Insides
+pub mod Reflexive

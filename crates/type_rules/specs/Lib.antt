@@ -1,0 +1,10 @@
+pub mod VerifyKind
+pub mod Assignable
+pub mod Environment
+pub mod Wants
+pub mod FrameAfter
+pub mod TypeFaults
+pub mod TypeSafe
+pub mod MapFrames
+pub mod Environments
+pub mod VerifyRules
