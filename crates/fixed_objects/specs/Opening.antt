@@ -1,5 +1,5 @@
 -- The state at the start of a program.
-use Rattle.std.specs.Prelude.{◌==◌, ◌<◌, ℕ, List, [], if◌then◌else◌}
+use Rattle.std.specs.Prelude.{◌≡◌, ◌==◌, ◌<◌, ◌⊎◌, ℕ, List, [], if◌then◌else◌}
 use Rattle.std.specs.List.{All, list_any}
 use Rattle.std.specs.Option.{option_map}
 use Rattle.op_core.specs.OrdinaryState.{set_at, free, awake, ClassState, unready, ready, unused, live, OrdinaryState, OnlyObjectsHaveWords}
@@ -33,6 +33,16 @@ opening_state opening l = record {
   threads = set_at (λ _. unused) 1 (live l);
   lines = [];
 }
+
+-- main's Thread is a fixed object that has started thread 1, and no other one has started a thread
+pub record StartsMain (opening : Opening) : Type 0 where
+  pub main : fixed_start (fixed_at opening.objects opening.main_thread) ≡ 1
+  pub others : All (λ o. o.reference ≡ opening.main_thread ⊎ (o.started ≡ 0)) opening.objects
+
+-- then each thread that an object has started is there, at its first state
+abbrev pub StartedThreadsHaveBegun : Type 0 → Type 0
+StartedThreadsHaveBegun S = (opening : Opening) (l : S) (r : ℕ) → StartsMain opening → 0 < (opening_state opening l).starts r
+    → (r ≡ opening.main_thread) × ((opening_state opening l).threads ((opening_state opening l).starts r) ≡ live l)
 
 -- at the start, only objects have words
 abbrev pub OnlyFixedObjectsHaveWords : Type 0 → Type 0

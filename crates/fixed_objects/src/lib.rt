@@ -55,7 +55,8 @@ pub struct Opening {
     pub classes: u32,
     /// The first reference that a new object can have.
     pub first: u32,
-    /// The reference of the object of the thread that executes `main`.
+    /// The reference of the object of the thread that executes `main`: the one fixed object that has started a
+    /// thread, number 1 (`StartsMain`).
     pub main_thread: u32,
 }
 

@@ -1,9 +1,10 @@
 -- What the machine's tables mean, as functions of references, class numbers and thread numbers.
-use Rattle.std.specs.Prelude.{◌≡◌, ◌+◌, Bool, true, false, ◌≤◌, IsNone, ℕ, ◌&&◌, Option, None, Some, List, nat_eq, nat_lt, length, slice_get, unwrap_or, if◌then◌else◌}
+use Rattle.std.specs.Prelude.{◌≡◌, ◌+◌, ◌<◌, Bool, true, false, ◌≤◌, IsNone, ℕ, ◌&&◌, Option, None, Some, List, nat_eq, nat_lt, length, slice_get, unwrap_or, if◌then◌else◌}
 use Rattle.std.specs.Option.{option_map}
 use Rattle.std.specs.HashMap.{get}
 use Rattle.op_core.specs.declared.Reply.{Reply}
-use Rattle.op_core.specs.ThreadCode.{Code, quiet_steps}
+use Rattle.op_core.specs.declared.Next.TheVariants.{Silent}
+use Rattle.op_core.specs.ThreadCode.{Code, leaves_any, quiet_steps}
 use Rattle.op_core.specs.Replies.{FitsNext}
 use Rattle.op_core.specs.OrdinaryState.{Object, Monitor, free, held, Waiting, awake, waits, notified, ClassState, unready, claimed, ready, bad, Thread, unused, live, ended}
 use Rattle.machine_tables.specs.declared.objects.MonitorState.{MonitorState}
@@ -108,6 +109,24 @@ abbrev pub SeatRuns : {C S : Type 0} → Code S → (C → S) → ℕ → Option
 SeatRuns code state n (Some x) (Some y) = RunsOn code state n x y
 SeatRuns code state n None None = n ≡ 0
 SeatRuns _ _ _ _ _ = ⊥
+
+-- the silent step that comes next would make a 1,025th frame
+abbrev pub StandingOverflows : {C S : Type 0} → Code S → (C → S) → Standing C → Type 0
+StandingOverflows code state (Live from) = (code.next (state from) ≡ Silent) × (1024 < code.frames (code.silent (state from)))
+StandingOverflows code state (Ended x) = ⊥
+
+abbrev pub SeatOverflows : {C S : Type 0} → Code S → (C → S) → Option (Seat C) → Type 0
+SeatOverflows code state None = ⊥
+SeatOverflows code state (Some x) = StandingOverflows code state x.standing
+
+-- where a silent step comes next, it ends a frame that was on top at a save
+abbrev pub StandingLeaves : {C S : Type 0} → Code S → (C → S) → (C → List S) → Standing C → Type 0
+StandingLeaves code state saved (Live from) = code.next (state from) ≡ Silent → leaves_any code (saved from) (state from) ≡ true
+StandingLeaves code state saved (Ended x) = Unit {0}
+
+abbrev pub SeatLeaves : {C S : Type 0} → Code S → (C → S) → (C → List S) → Option (Seat C) → Type 0
+SeatLeaves code state saved None = Unit {0}
+SeatLeaves code state saved (Some x) = StandingLeaves code state saved x.standing
 
 -- a thread wants an operation that the reply fits, and goes on with it
 abbrev pub StandingAwaits : {C S : Type 0} → Code S → (C → S) → Standing C → Reply → Type 0

@@ -1,11 +1,12 @@
 //! One place of the table of threads, changed where it is.
 
-ghost use Rattle.std.specs.Prelude.{◌≡◌, ◌≤◌};
+ghost use Rattle.std.specs.Prelude.{◌≡◌, ◌≤◌, Ok, Err, true, false};
+ghost use Rattle.op_core.specs.declared.CodeStop.{CodeStop};
 ghost use Rattle.std.specs.Option.{option_map};
-ghost use Rattle.machine_tables.specs.Tables.{waiting_at, standing_at, placed_at, SeatRuns, StandingRuns, AwaitsReply, StandingAwaits, SeatReplies, StandingReplies};
+ghost use Rattle.machine_tables.specs.Tables.{waiting_at, standing_at, placed_at, SeatRuns, StandingRuns, SeatOverflows, StandingOverflows, SeatLeaves, StandingLeaves, AwaitsReply, StandingAwaits, SeatReplies, StandingReplies};
 
 use crate::{Seat, Standing, WaitState};
-use op_core::{Reply, ThreadCode};
+use op_core::{CodeStop, Next, Reply, ThreadCode};
 use std::mem;
 
 pub(crate) fn wait_at<C>(place: &mut Option<Seat<C>>, waiting: WaitState)
@@ -61,6 +62,43 @@ pub(crate) fn run_at<C: ThreadCode>(place: &mut Option<Seat<C>>, most: u64) -> u
         }
         None => 0,
     }
+}
+
+fn silent_from<C: ThreadCode>(standing: &mut Standing<C>) -> Result<bool, CodeStop>
+    ensures made { result ≡ Ok true → StandingRuns C.code C.state 1 standing.old standing.new }
+    ensures left { result ≡ Ok false → StandingLeaves C.code C.state C.saved standing.old }
+    ensures frames { result ≡ Err CodeStop.Frames → StandingOverflows C.code C.state standing.old }
+    ensures kept { (result ≡ Ok true → ⊥) → standing.new ≡ standing.old }
+{
+    let Standing::Live(code) = standing else {
+        return Ok(false);
+    };
+    match code.next() {
+        Next::Silent if !code.leaves() => {
+            code.silent()?;
+            Ok(true)
+        }
+        _ => Ok(false),
+    }
+}
+
+pub(crate) fn silent_at<C: ThreadCode>(place: &mut Option<Seat<C>>) -> Result<bool, CodeStop>
+    ensures made { result ≡ Ok true → SeatRuns C.code C.state 1 place.old place.new }
+    ensures left { result ≡ Ok false → SeatLeaves C.code C.state C.saved place.old }
+    ensures frames { result ≡ Err CodeStop.Frames → SeatOverflows C.code C.state place.old }
+    ensures kept { (result ≡ Ok true → ⊥) → place.new ≡ place.old }
+{
+    let Some(seat) = place else {
+        return Ok(false);
+    };
+    if seat.silent == u64::MAX {
+        return Err(CodeStop::NoMemory);
+    }
+    let made = silent_from(&mut seat.standing)?;
+    if made {
+        seat.silent += 1;
+    }
+    Ok(made)
 }
 
 fn reply_from<C: ThreadCode>(standing: &mut Standing<C>, reply: Reply)

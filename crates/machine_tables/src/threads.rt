@@ -1,11 +1,12 @@
-ghost use Rattle.std.specs.Prelude.{ℕ, ◌≡◌, ◌<◌, OnOk, OnErr, Some, None, IsSome, IsNone, ◌↔◌, ◌≤◌, IsTrue, MatchOption, ◌+◌, length, vec_len};
+ghost use Rattle.std.specs.Prelude.{ℕ, ◌≡◌, ◌<◌, Ok, Err, true, false, OnOk, OnErr, Some, None, IsSome, IsNone, ◌↔◌, ◌≤◌, IsTrue, MatchOption, ◌+◌, length, vec_len};
 ghost use Rattle.std.specs.Option.{option_copied, option_map};
 ghost use Rattle.op_core.specs.OrdinaryState.{set_at, IsNotifiedFor, IsWaitingFor, saved_count, notified_of};
-ghost use Rattle.machine_tables.specs.Tables.{seat_at, SeatRuns, AwaitsReply, SeatReplies, waiting_of, waiting_in, has_ended, IsFreeSeat};
+ghost use Rattle.machine_tables.specs.Tables.{seat_at, SeatRuns, SeatOverflows, SeatLeaves, AwaitsReply, SeatReplies, waiting_of, waiting_in, has_ended, IsFreeSeat};
 ghost use Rattle.op_core.specs.OrdinaryStep.{IsFirstWaiting};
+ghost use Rattle.op_core.specs.declared.CodeStop.{CodeStop};
 
-use crate::places::{replace_at, reply_at, run_at, stand_at, wait_at};
-use op_core::{NoMemory, Reply, ThreadCode};
+use crate::places::{replace_at, reply_at, run_at, silent_at, stand_at, wait_at};
+use op_core::{CodeStop, NoMemory, Reply, ThreadCode};
 use std::alloc::Global;
 
 /// Where a thread that has begun stands.
@@ -291,6 +292,23 @@ impl<C: ThreadCode + Drop> Threads<C> {
         match self.place_of(thread) {
             Some(place) => run_at(&mut self.seats[place], most),
             None => 0,
+        }
+    }
+
+    /// Makes the silent step of a thread where it stands, and says that it did. It does not exactly where the thread
+    /// isn't silent next, and where the step ends a frame that was on top at a save. `Frames` comes exactly where the step
+    /// would make a 1,025th frame, and `NoMemory` also where its count of silent steps has no room. Where no step
+    /// was made, nothing changes.
+    pub fn silent(&mut self, thread: u8) -> Result<bool, CodeStop>
+        ensures made { result ≡ Ok true → SeatRuns C.code C.state 1 (seat_at self.old thread) (seat_at self.new thread) }
+        ensures left { result ≡ Ok false → SeatLeaves C.code C.state C.saved (seat_at self.old thread) }
+        ensures others { result ≡ Ok true → seat_at self.new ≡ set_at (seat_at self.old) thread (seat_at self.new thread) }
+        ensures frames { result ≡ Err CodeStop.Frames → SeatOverflows C.code C.state (seat_at self.old thread) }
+        ensures kept { (result ≡ Ok true → ⊥) → seat_at self.new ≡ seat_at self.old }
+    {
+        match self.place_of(thread) {
+            Some(place) => silent_at(&mut self.seats[place]),
+            None => Ok(false),
         }
     }
 

@@ -1,5 +1,5 @@
 use op_core::Rows;
-use schedules::{OrderItem, Remaining, Schedule, TurnEnd, next_number, pick};
+use schedules::{LiveThreads, OrderItem, Remaining, Schedule, TurnEnd, next_number, pick};
 use std::alloc::Global;
 use std::test::Fail;
 
@@ -51,27 +51,35 @@ fn schedule(alloc: Global) -> Result<Schedule, Fail> {
     })
 }
 
-/// The thread of the first item that gives a turn, with the items before it dropped.
-fn due(left: &mut Remaining) -> Option<u8> {
-    for _ in ORDER {
-        let item = left.first()?;
-        if item.has_turns() && item.thread() != 6 {
-            return Some(item.thread());
-        }
-        left.drop_first();
+/// The threads of these numbers are live.
+#[derive(Drop)]
+pub(crate) struct Live<'a> {
+    pub(crate) threads: &'a [u8],
+}
+
+impl<'a> LiveThreads for Live<'a> {
+    ghost use Rattle.std.specs.Prelude.{◌==◌};
+    ghost use Rattle.std.specs.List.{list_any};
+
+    ghost live = { λ those thread. list_any (λ number. thread == number) those.threads.now };
+
+    fn is_live(&self, thread: u8) -> bool {
+        self.threads.iter().any(|number| thread == *number)
     }
-    None
 }
 
 #[test]
 fn an_order_gives_turns_item_by_item(rt: HostRuntime) -> Result<(), Fail> {
     let schedule = schedule(rt.alloc())?;
     let mut left = Remaining::new(&schedule);
+    let live = Live {
+        threads: &[1, 2, 3, 4, 5],
+    };
     for (thread, end) in TURNS {
-        assert!(rt; due(&mut left) == Some(thread));
+        assert!(rt; left.due(&live) == Some(thread));
         left.end_turn(end);
     }
-    assert!(rt; due(&mut left).is_none());
+    assert!(rt; left.due(&live).is_none());
     assert!(rt; left.draw() == Some(7806831264735756412));
     assert!(rt; left.draw() == Some(9396908728118811419));
     Ok(())

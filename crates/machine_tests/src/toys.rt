@@ -1,5 +1,6 @@
 //! Programs of threads that print what they read, run along schedules.
 
+use crate::scheduling::Live;
 use crate::setting::{ample, opening};
 use op_core::{Limits, Line, NoMemory, Op, Rows};
 use ordinary_machine::{Advance, Ordinary};
@@ -180,20 +181,14 @@ const LIMITS: Limits = Limits {
     sections: 1000,
 };
 
-fn is_live(machine: &Ordinary<Toy>, thread: u8) -> bool {
-    machine.has_begun(thread) && !machine.has_ended(thread)
-}
-
-/// The thread of the item that is due.
-fn due(machine: &Ordinary<Toy>, left: &mut Remaining) -> Option<u8> {
-    for _ in 0..9 {
-        let item = left.first()?;
-        if item.has_turns() && is_live(machine, item.thread()) {
-            return Some(item.thread());
+fn live(alloc: Global, machine: &Ordinary<Toy>) -> Result<Vec<u8>, AllocError> {
+    let mut threads = Vec::new(alloc);
+    for thread in 1..5 {
+        if machine.has_begun(thread) && !machine.has_ended(thread) {
+            threads.push(thread)?;
         }
-        left.drop_first();
     }
-    None
+    Ok(threads)
 }
 
 fn enabled(alloc: Global, machine: &Ordinary<Toy>) -> Result<Vec<u8>, AllocError> {
@@ -212,7 +207,11 @@ fn turn(
     machine: &mut Ordinary<Toy>,
     left: &mut Remaining,
 ) -> Result<bool, NoMemory> {
-    let thread = match due(machine, left) {
+    let live = live(alloc, machine)?;
+    let live = Live {
+        threads: live.as_slice(),
+    };
+    let thread = match left.due(&live) {
         Some(thread) => thread,
         None => match pick(enabled(alloc, machine)?.as_slice(), left.draw()) {
             Some(thread) => thread,
@@ -255,9 +254,7 @@ fn threads_print_what_they_read(rt: HostRuntime) -> Result<(), Fail> {
             turn(alloc, &mut machine, &mut left).ok();
         }
         assert!(rt; printed(&machine, run.lines));
-        for thread in 1..5 {
-            assert!(rt; is_live(&machine, thread) == run.left.contains(&thread));
-        }
+        assert!(rt; live(alloc, &machine)?.as_slice() == run.left);
     }
     Ok(())
 }

@@ -9,11 +9,11 @@ use Rattle.op_core.specs.declared.Reply.{Reply}
 use Rattle.op_core.specs.declared.Reply.TheVariants.{Done, Number}
 use Rattle.op_core.specs.declared.Event.{Event}
 use Rattle.op_core.specs.ThreadCode.{Code, quiet_step, quiet_steps}
-use Rattle.op_core.specs.OrdinaryState.{set_at, Thread, unused, live, ended, OrdinaryState, OnlyObjectsHaveWords}
+use Rattle.op_core.specs.OrdinaryState.{set_at, Thread, unused, live, ended, OrdinaryState, View, view_of, OnlyObjectsHaveWords}
 use Rattle.op_core.specs.OrdinaryStep.{MayAnswer, threads_after, after}
 use Rattle.op_core.specs.Execution.{Comes, Leads}
 use Rattle.op_core.specs.InPlaceList.{Entry, silent, event, put_back, give_back, go_back, unseen, with_thread, owned_by, IsSilentAt, IsEventAt, IsGoBackAt, FitFrom, IsAllThere, IsSound, IsGrounded}
-use Rattle.op_core.specs.CleanCut.{IsStepOf, View, view_of, view_after, view_from, Agrees, AgreeFrom, IsCleanCut, kept_from}
+use Rattle.op_core.specs.CleanCut.{IsStepOf, view_after, view_from, Agrees, AgreeFrom, IsCleanCut, kept_from}
 use Rattle.op_core.specs.Laws.{IsSameKind, CutsLeadOn, CutsLeaveExecutions}
 use Rattle.op_core.proofs.PointwiseLemmas.{set_at-hit, set_at-other, set_at-at, same_or_other}
 use Rattle.op_core.proofs.GroundedLemmas.{Traced, Traced-start, Traced-quiet, Traced-comes, Traced-sound}
@@ -509,9 +509,7 @@ followed_first : {S : Type 0} (code : Code S) (s : ℕ → OrdinaryState S) (all
 followed_first code s all cut no_words = record {
   tied = record {
     objects = λ r o h. h;
-    words = refl;
-    monitors = refl;
-    waits = refl;
+    seen = refl;
     waiting = refl;
     classes = refl;
     starts = refl;
@@ -531,8 +529,8 @@ cuts_lead code s es cut no_words grounded fit clean =
       o.leads,
       record {
         objects = o.followed.tied.objects;
-        words = o.followed.tied.words;
-        monitors = o.followed.tied.monitors;
+        words = ap (λ v. v.words) o.followed.tied.seen;
+        monitors = ap (λ v. v.monitors) o.followed.tied.seen;
         waiting = o.followed.tied.waiting;
         classes = o.followed.tied.classes;
         starts = o.followed.tied.starts;

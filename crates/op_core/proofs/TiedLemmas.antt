@@ -8,10 +8,10 @@ use Rattle.op_core.specs.declared.Op.TheVariants.{ClassOf, Read, Write, New, Ent
 use Rattle.op_core.specs.declared.Reply.{Reply}
 use Rattle.op_core.specs.declared.Reply.TheVariants.{Class, Value, Made, Done, NotOwner, Woken, Number, Already, Claimed}
 use Rattle.op_core.specs.ThreadCode.{Code}
-use Rattle.op_core.specs.OrdinaryState.{set_at, Object, Monitor, Waiting, ClassState, Thread, unused, live, ended, OrdinaryState, IsOwner, IsOpenTo, IsNotifiedFor, IsOpenClass, waits, count_of, IsOfClass, HasEnded, OnlyObjectsHaveWords}
+use Rattle.op_core.specs.OrdinaryState.{set_at, Object, Monitor, ClassState, Thread, unused, live, ended, OrdinaryState, View, view_of, IsOwner, IsOpenTo, IsNotifiedFor, IsOpenClass, awake, waits, notified_of, count_of, IsOfClass, HasEnded, OnlyObjectsHaveWords}
 use Rattle.op_core.specs.OrdinaryStep.{IsFreeNumber, IsFreeReference, IsFirstWaiting, AnswersInit, CanStep, MayAnswer, objects_after, words_after, monitors_after, waiting_after, classes_after, starts_after, threads_after, lines_after, after}
 use Rattle.op_core.specs.InPlaceList.{IsAllThere, with_thread, with_word, with_monitor}
-use Rattle.op_core.specs.CleanCut.{CanBeCut, View, written_after, view_after, Agrees}
+use Rattle.op_core.specs.CleanCut.{CanBeCut, written_after, view_after, Agrees}
 use Rattle.op_core.specs.Laws.{IsSameKind}
 use Rattle.op_core.proofs.PointwiseLemmas.{set_at-at, set_at-both, set_at-same}
 use Rattle.std.proofs.Math.Path.{fun_ext}
@@ -19,9 +19,7 @@ use Rattle.std.proofs.Math.Path.{fun_ext}
 -- s is the state of the list, b the ordinary state, and the view what the events left so far make
 pub record Tied {S : Type 0} (s b : OrdinaryState S) (view : View) : Type 0 where
   pub objects : (r : ℕ) (o : Object) → b.objects r ≡ Some o → s.objects r ≡ Some o
-  pub words : b.words ≡ view.words
-  pub monitors : b.monitors ≡ view.monitors
-  pub waits : view.waiting ≡ b.waiting
+  pub seen : view_of b ≡ view
   pub waiting : b.waiting ≡ s.waiting
   pub classes : b.classes ≡ s.classes
   pub starts : b.starts ≡ s.starts
@@ -81,14 +79,14 @@ Tied-can s b view tied t (Read r i) reply there agrees answered can = there
 Tied-can s b view tied t (Write r i v) reply there agrees answered can = there
 Tied-can s b view tied t (New c n) reply there agrees answered can = tt
 Tied-can s b view tied t (Enter r) Done there agrees answered can =
-    (there, subst (IsOpenTo t) (agrees ∙ ap (λ f. f r) (sym tied.monitors)) can.1)
+    (there, subst (IsOpenTo t) (agrees ∙ ap (λ v. v.monitors r) (sym tied.seen)) can.1)
 Tied-can s b view tied t (Enter r) _ there agrees answered can = absurd answered
 Tied-can s b view tied t (Exit r) reply there agrees answered can = there
 Tied-can s b view tied t (Wait r) reply there agrees answered can = there
 Tied-can s b view tied t (Rewake r) Done there agrees answered can = (
   there,
   subst (λ f. IsNotifiedFor r (f t)) (sym tied.waiting) can.1,
-  ap (λ f. f r) tied.monitors ∙ sym agrees ∙ can.2,
+  ap (λ v. v.monitors r) tied.seen ∙ sym agrees ∙ can.2,
 )
 Tied-can s b view tied t (Rewake r) _ there agrees answered can = absurd answered
 Tied-can s b view tied t (Notify r) reply there agrees answered can = there
@@ -112,14 +110,14 @@ Tied-can s b view tied t (InitDone c ok) reply there agrees answered can = tt
 Tied-can s b view tied t (End x) reply there agrees answered can = tt
 
 owner : {S : Type 0} (s b : OrdinaryState S) (view : View) → Tied s b view → (t r : ℕ) → s.monitors r ≡ view.monitors r → IsOwner t (s.monitors r) → IsOwner t (b.monitors r)
-owner s b view tied t r agrees h = subst (IsOwner t) (agrees ∙ ap (λ f. f r) (sym tied.monitors)) h
+owner s b view tied t r agrees h = subst (IsOwner t) (agrees ∙ ap (λ v. v.monitors r) (sym tied.seen)) h
 
 not_owner : {S : Type 0} (s b : OrdinaryState S) (view : View) → Tied s b view → (t r : ℕ) → (IsOwner t (view.monitors r) → ⊥) → IsOwner t (b.monitors r) → ⊥
-not_owner s b view tied t r h = subst (λ f. IsOwner t (f r) → ⊥) (sym tied.monitors) h
+not_owner s b view tied t r h = subst (λ v. IsOwner t (v.monitors r) → ⊥) (sym tied.seen) h
 
 pub Tied-answer : {S : Type 0} (s b : OrdinaryState S) (view : View) → Tied s b view → (t : ℕ) (op : Op) (reply : Reply) → IsAllThere b.objects op → Agrees s view t op reply → MayAnswer s t op reply → MayAnswer b t op reply
 Tied-answer s b view tied t (ClassOf r) (Class c n) there agrees answered = of_class s b view tied r c n answered (b.objects r) refl there
-Tied-answer s b view tied t (Read r i) (Value v) there agrees answered = agrees ∙ ap (λ f. f r i) (sym tied.words)
+Tied-answer s b view tied t (Read r i) (Value v) there agrees answered = agrees ∙ ap (λ v. v.words r i) (sym tied.seen)
 Tied-answer s b view tied t (Write r i v) Done there agrees answered = tt
 Tied-answer s b view tied t (New c n) (Made r) there agrees answered = free_reference s b view tied r answered
 Tied-answer s b view tied t (Enter r) Done there agrees answered = tt
@@ -148,21 +146,29 @@ objects_after-within code l (New c n) (Made q) f g within r o =
     set_at-both (λ x y. x ≡ Some o → y ≡ Some o) f g q made made r (λ _ h. h) (λ _ h. within r o h)
 objects_after-within code l _ _ f g within r o = within r o
 
-words_after-same : {S : Type 0} (s : OrdinaryState S) (t : ℕ) (op : Op) (reply : Reply) (f : ℕ → ℕ → ℕ) → ((r i : ℕ) → IsNone (s.objects r) → f r i ≡ 0) → MayAnswer s t op reply → words_after op reply f ≡ written_after op reply f
-words_after-same s t (New c n) (Made r) f none answered =
-    set_at-same f r (λ _. 0) (fun_ext (λ i. none r i answered.2))
-words_after-same s t (New c n) _ f none answered = absurd answered
-words_after-same s t _ _ f none answered = refl
+words_after-same : {S : Type 0} (b : OrdinaryState S) (t : ℕ) (op : Op) (reply : Reply) → OnlyObjectsHaveWords b → MayAnswer b t op reply → words_after op reply b.words ≡ written_after op reply b.words
+words_after-same b t (New c n) (Made r) none answered =
+    set_at-same b.words r (λ _. 0) (fun_ext (λ i. none r i answered.2))
+words_after-same b t (New c n) _ none answered = absurd answered
+words_after-same b t _ _ none answered = refl
 
-waiting_after-same : {S : Type 0} (s : OrdinaryState S) (view : View) (t : ℕ) (op : Op) (reply : Reply) (m : ℕ → Monitor) (f : ℕ → Waiting) → m ≡ view.monitors → Agrees s view t op reply → waiting_after t op reply m f ≡ waiting_after t op reply s.monitors f
-waiting_after-same s view t (Wait r) Done m f e agrees =
-    ap (λ x. set_at f t (waits r (count_of x))) (ap (λ g. g r) e ∙ sym agrees)
-waiting_after-same s view t (Rewake r) Done m f e agrees = refl
-waiting_after-same s view t (Rewake r) _ m f e agrees = refl
-waiting_after-same s view t (Wait r) _ m f e agrees = refl
-waiting_after-same s view t (Notify r) (Woken zero) m f e agrees = refl
-waiting_after-same s view t (Notify r) (Woken (suc n)) m f e agrees = refl
-waiting_after-same s view t _ _ m f e agrees = refl
+-- what the ordinary state shows is what a left event makes of the view
+seen_after : {S : Type 0} (code : Code S) (b : OrdinaryState S) (t : ℕ) (l : S) (op : Op) (reply : Reply) → OnlyObjectsHaveWords b → MayAnswer b t op reply → view_of (after code b t l op reply) ≡ view_after t op reply (view_of b)
+seen_after code b t l op reply none answered =
+    let seen : (ℕ → ℕ → ℕ) → View = λ words. record { words = words; monitors = monitors_after t op reply (view_of b); waiting = waiting_after t op reply (view_of b) } in
+    ap seen (words_after-same b t op reply none answered)
+
+-- who waits is the same in two states that show the operation the same monitor
+waiting_after-same : {S : Type 0} (s b : OrdinaryState S) (view : View) (t : ℕ) (op : Op) (reply : Reply) → view_of b ≡ view → b.waiting ≡ s.waiting → Agrees s view t op reply → waiting_after t op reply (view_of b) ≡ waiting_after t op reply (view_of s)
+waiting_after-same s b view t (Wait r) Done seen same agrees =
+    ap (λ m. set_at b.waiting t (waits r (count_of m))) (ap (λ v. v.monitors r) seen ∙ sym agrees)
+    ∙ ap (λ w. set_at w t (waits r (count_of (s.monitors r)))) same
+waiting_after-same s b view t (Wait r) _ seen same agrees = same
+waiting_after-same s b view t (Rewake r) Done seen same agrees = ap (λ w. set_at w t awake) same
+waiting_after-same s b view t (Rewake r) _ seen same agrees = same
+waiting_after-same s b view t (Notify r) (Woken zero) seen same agrees = same
+waiting_after-same s b view t (Notify r) (Woken (suc n)) seen same agrees = ap (λ w. set_at w (suc n) (notified_of (w (suc n)))) same
+waiting_after-same s b view t _ _ seen same agrees = same
 
 threads_after-kinds : {S : Type 0} (code : Code S) (t : ℕ) (l : S) (op : Op) (reply : Reply) (f g : ℕ → Thread S) → ((u : ℕ) → IsSameKind (f u) (g u)) → (u : ℕ) → IsSameKind (threads_after code t l op reply f u) (threads_after code t l op reply g u)
 threads_after-kinds code t l (End x) Done f g kinds u = set_at-both IsSameKind f g t (ended x) (ended x) u (λ _. refl) (λ _. kinds u)
@@ -190,10 +196,8 @@ after-no_words code b t l _ _ there none r i h = none r i h
 pub Tied-kept : {S : Type 0} (code : Code S) (s b : OrdinaryState S) (view : View) → Tied s b view → (t : ℕ) (l : S) (op : Op) (reply : Reply) → IsAllThere b.objects op → Agrees s view t op reply → MayAnswer b t op reply → Tied (after code s t l op reply) (after code b t l op reply) (view_after t op reply view)
 Tied-kept code s b view tied t l op reply there agrees answered = record {
   objects = objects_after-within code l op reply b.objects s.objects tied.objects;
-  words = words_after-same b t op reply b.words tied.no_words answered ∙ ap (written_after op reply) tied.words;
-  monitors = ap (λ w. monitors_after t op reply w b.monitors) (sym tied.waits) ∙ ap (monitors_after t op reply view.waiting) tied.monitors;
-  waits = ap (λ m. waiting_after t op reply m view.waiting) (sym tied.monitors) ∙ ap (waiting_after t op reply b.monitors) tied.waits;
-  waiting = waiting_after-same s view t op reply b.monitors b.waiting tied.monitors agrees ∙ ap (waiting_after t op reply s.monitors) tied.waiting;
+  seen = seen_after code b t l op reply tied.no_words answered ∙ ap (view_after t op reply) tied.seen;
+  waiting = waiting_after-same s b view t op reply tied.seen tied.waiting agrees;
   classes = ap (classes_after t op reply) tied.classes;
   starts = ap (starts_after op reply) tied.starts;
   lines = ap (lines_after op reply) tied.lines;
@@ -211,11 +215,11 @@ objects_after-cut code s b view tied t l (New c n) (Made q) answered r o h =
     (λ _. tied.objects r o h)
 objects_after-cut code s b view tied t l _ _ answered r o h = tied.objects r o h
 
-waiting_after-cut : {S : Type 0} (s : OrdinaryState S) (t : ℕ) (op : Op) (reply : Reply) (m : ℕ → Monitor) (f : ℕ → Waiting) → CanBeCut op reply → waiting_after t op reply m f ≡ f
-waiting_after-cut s t (Wait r) Done m f can = absurd can
-waiting_after-cut s t (Rewake r) reply m f can = absurd can
-waiting_after-cut s t (Notify r) (Woken n) m f can = absurd can
-waiting_after-cut s t _ _ m f can = refl
+waiting_after-cut : (t : ℕ) (op : Op) (reply : Reply) (view : View) → CanBeCut op reply → waiting_after t op reply view ≡ view.waiting
+waiting_after-cut t (Wait r) Done view can = absurd can
+waiting_after-cut t (Rewake r) reply view can = absurd can
+waiting_after-cut t (Notify r) (Woken n) view can = absurd can
+waiting_after-cut t _ _ view can = refl
 
 classes_after-cut : (t : ℕ) (op : Op) (reply : Reply) (f : ℕ → ClassState) → CanBeCut op reply → classes_after t op reply f ≡ f
 classes_after-cut t (Init c) Claimed f can = absurd can
@@ -246,10 +250,8 @@ set_at-kinds f g t l m kinds stands u = set_at-at (IsSameKind (f u)) g t (live m
 pub Tied-cut : {S : Type 0} (code : Code S) (s b : OrdinaryState S) (view : View) → Tied s b view → (t : ℕ) (l : S) (op : Op) (reply : Reply) → s.threads t ≡ live l → CanBeCut op reply → MayAnswer s t op reply → Tied (after code s t l op reply) b view
 Tied-cut code s b view tied t l op reply stands can answered = record {
   objects = objects_after-cut code s b view tied t l op reply answered;
-  words = tied.words;
-  monitors = tied.monitors;
-  waits = tied.waits;
-  waiting = tied.waiting ∙ sym (waiting_after-cut s t op reply s.monitors s.waiting can);
+  seen = tied.seen;
+  waiting = tied.waiting ∙ sym (waiting_after-cut t op reply (view_of s) can);
   classes = tied.classes ∙ sym (classes_after-cut t op reply s.classes can);
   starts = tied.starts ∙ sym (starts_after-cut op reply s.starts can);
   lines = tied.lines ∙ sym (lines_after-cut op reply s.lines can);
@@ -262,9 +264,7 @@ Tied-cut code s b view tied t l op reply stands can answered = record {
 pub Tied-moved : {S : Type 0} (s b : OrdinaryState S) (view : View) → Tied s b view → (t : ℕ) (l m : S) → s.threads t ≡ live l → Tied (with_thread s t (live m)) b view
 Tied-moved s b view tied t l m stands = record {
   objects = tied.objects;
-  words = tied.words;
-  monitors = tied.monitors;
-  waits = tied.waits;
+  seen = tied.seen;
   waiting = tied.waiting;
   classes = tied.classes;
   starts = tied.starts;
@@ -277,9 +277,7 @@ Tied-moved s b view tied t l m stands = record {
 pub Tied-word : {S : Type 0} (s b : OrdinaryState S) (view : View) → Tied s b view → (r i v : ℕ) → Tied (with_word s r i v) b view
 Tied-word s b view tied r i v = record {
   objects = tied.objects;
-  words = tied.words;
-  monitors = tied.monitors;
-  waits = tied.waits;
+  seen = tied.seen;
   waiting = tied.waiting;
   classes = tied.classes;
   starts = tied.starts;
@@ -291,9 +289,7 @@ Tied-word s b view tied r i v = record {
 pub Tied-monitor : {S : Type 0} (s b : OrdinaryState S) (view : View) → Tied s b view → (r : ℕ) (monitor : Monitor) → Tied (with_monitor s r monitor) b view
 Tied-monitor s b view tied r monitor = record {
   objects = tied.objects;
-  words = tied.words;
-  monitors = tied.monitors;
-  waits = tied.waits;
+  seen = tied.seen;
   waiting = tied.waiting;
   classes = tied.classes;
   starts = tied.starts;

@@ -8,7 +8,7 @@ use Rattle.op_core.specs.declared.Reply.TheVariants.{Class, Value, Made, Done, N
 use Rattle.op_core.specs.declared.Next.TheVariants.{Want}
 use Rattle.op_core.specs.declared.Line.{Line}
 use Rattle.op_core.specs.ThreadCode.{Code}
-use Rattle.op_core.specs.OrdinaryState.{set_at, Object, Monitor, free, held, Waiting, awake, waits, ClassState, unready, claimed, ready, bad, Thread, unused, live, ended, OrdinaryState, IsThere, HasWord, IsOfClass, IsOwner, IsOpenTo, count_of, entered, exited, IsWaitingFor, IsNotifiedFor, saved_count, notified_of, HasEnded, IsOpenClass}
+use Rattle.op_core.specs.OrdinaryState.{set_at, Object, Monitor, free, held, Waiting, awake, waits, ClassState, unready, claimed, ready, bad, Thread, unused, live, ended, OrdinaryState, View, view_of, IsThere, HasWord, IsOfClass, IsOwner, IsOpenTo, count_of, entered, exited, IsWaitingFor, IsNotifiedFor, saved_count, notified_of, HasEnded, IsOpenClass}
 
 -- a thread number that can be drawn: the main thread has 1
 abbrev pub IsFreeNumber : {S : Type 0} → (ℕ → Thread S) → ℕ → Type 0
@@ -82,19 +82,19 @@ words_after (New c n) (Made r) f = set_at f r (λ _. 0)
 words_after (Write r i v) Done f = set_at f r (set_at (f r) i v)
 words_after _ _ f = f
 
-abbrev pub monitors_after : ℕ → Op → Reply → (ℕ → Waiting) → (ℕ → Monitor) → ℕ → Monitor
-monitors_after t (New c n) (Made r) waiting f = set_at f r free
-monitors_after t (Enter r) Done waiting f = set_at f r (entered t (f r))
-monitors_after t (Exit r) Done waiting f = set_at f r (exited (f r))
-monitors_after t (Wait r) Done waiting f = set_at f r free
-monitors_after t (Rewake r) Done waiting f = set_at f r (held t (saved_count (waiting t)))
-monitors_after _ _ _ waiting f = f
+abbrev pub monitors_after : ℕ → Op → Reply → View → ℕ → Monitor
+monitors_after t (New c n) (Made r) view = set_at view.monitors r free
+monitors_after t (Enter r) Done view = set_at view.monitors r (entered t (view.monitors r))
+monitors_after t (Exit r) Done view = set_at view.monitors r (exited (view.monitors r))
+monitors_after t (Wait r) Done view = set_at view.monitors r free
+monitors_after t (Rewake r) Done view = set_at view.monitors r (held t (saved_count (view.waiting t)))
+monitors_after _ _ _ view = view.monitors
 
-abbrev pub waiting_after : ℕ → Op → Reply → (ℕ → Monitor) → (ℕ → Waiting) → ℕ → Waiting
-waiting_after t (Wait r) Done monitors f = set_at f t (waits r (count_of (monitors r)))
-waiting_after t (Rewake r) Done monitors f = set_at f t awake
-waiting_after t (Notify r) (Woken (suc n)) monitors f = set_at f (suc n) (notified_of (f (suc n)))
-waiting_after _ _ _ monitors f = f
+abbrev pub waiting_after : ℕ → Op → Reply → View → ℕ → Waiting
+waiting_after t (Wait r) Done view = set_at view.waiting t (waits r (count_of (view.monitors r)))
+waiting_after t (Rewake r) Done view = set_at view.waiting t awake
+waiting_after t (Notify r) (Woken (suc n)) view = set_at view.waiting (suc n) (notified_of (view.waiting (suc n)))
+waiting_after _ _ _ view = view.waiting
 
 abbrev pub classes_after : ℕ → Op → Reply → (ℕ → ClassState) → ℕ → ClassState
 classes_after t (Init c) Claimed f = set_at f c (claimed t)
@@ -120,8 +120,8 @@ abbrev pub after : {S : Type 0} → Code S → OrdinaryState S → ℕ → S →
 after code s t l op reply = record {
   objects = objects_after code l op reply s.objects;
   words = words_after op reply s.words;
-  monitors = monitors_after t op reply s.waiting s.monitors;
-  waiting = waiting_after t op reply s.monitors s.waiting;
+  monitors = monitors_after t op reply (view_of s);
+  waiting = waiting_after t op reply (view_of s);
   classes = classes_after t op reply s.classes;
   starts = starts_after op reply s.starts;
   threads = threads_after code t l op reply s.threads;

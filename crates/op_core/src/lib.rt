@@ -213,7 +213,7 @@ pub enum Next {
     Silent,
     /// It wants this operation, and goes on with its reply.
     Want(Op),
-    /// Nothing: the thread has ended.
+    /// Nothing: its code is at the end.
     Ended,
 }
 

@@ -1,6 +1,6 @@
 ghost use Rattle.std.specs.Prelude.{◌≡◌, ◌≢◌, false, [], ◌∷◌, ◌<◌, ◌≤◌, Some, drop, OnOk, OnErr, IfOk, IfSome};
 ghost use Rattle.std.specs.Option.{option_map};
-ghost use Rattle.op_core.specs.ThreadCode.{leaves_any, quiet_step, quiet_steps};
+ghost use Rattle.op_core.specs.ThreadCode.{leaves_any, quiet_step, quiet_steps, LeavesNoSave};
 ghost use Rattle.op_core.specs.Replies.{FitsNext};
 
 use crate::{CodeStop, Next, NoMemory, Reply};
@@ -45,6 +45,7 @@ pub trait ThreadCode: Sized {
     /// more to make.
     fn run_silent(&mut self, most: u64) -> u64
         ensures steps { quiet_steps code result (state self.old) ≡ Some (state self.new) }
+        ensures stays { LeavesNoSave code (saved self.old) result (state self.old) }
         ensures saved { saved self.new ≡ saved self.old }
         ensures most { result ≤ most }
     {

@@ -120,14 +120,14 @@ word_changed f g r i v has changes =
       starts = is_kept started_in f g r (Some y) (changes x is) (sym (ap started_in is));
     }
 
-pub object_added : (f g : ℕ → Option HeapObject) (r class size n : ℕ) → IsNone (objects_in f r)
-    → g ≡ set_at f r (Some (record { class = class; length = size; words = replicate n 0; monitor = Free; started = 0 }))
-    → Parts g (set_at (objects_in f) r (Some (record { class = class; length = size; words = n }))) (set_at (words_in f) r (λ _. 0)) (set_at (monitors_in f) r free) (starts_in f)
-object_added f g r class size n is_none is =
-    let y : HeapObject = record { class = class; length = size; words = replicate n 0; monitor = Free; started = 0 } in
+pub object_added : (f g : ℕ → Option HeapObject) (r class length n : ℕ) → IsNone (objects_in f r)
+    → g ≡ set_at f r (Some (record { class = class; length = length; words = replicate n 0; monitor = Free; started = 0 }))
+    → Parts g (set_at (objects_in f) r (Some (record { class = class; length = length; words = n }))) (set_at (words_in f) r (λ _. 0)) (set_at (monitors_in f) r free) (starts_in f)
+object_added f g r class length n is_none is =
+    let y : HeapObject = record { class = class; length = length; words = replicate n 0; monitor = Free; started = 0 } in
     let none = absent header_of (f r) is_none in
     record {
-      objects = is_set (option_map header_of) f g r (Some y) (Some (record { class = class; length = size; words = n })) is (ap (λ k. Some (record { class = class; length = size; words = k })) (length-replicate {A = ℕ} n 0));
+      objects = is_set (option_map header_of) f g r (Some y) (Some (record { class = class; length = length; words = n })) is (ap (λ k. Some (record { class = class; length = length; words = k })) (length-replicate {A = ℕ} n 0));
       words = is_set word_in f g r (Some y) (λ _. 0) is (zero_words n);
       monitors = is_set monitor_in f g r (Some y) free is refl;
       starts = is_kept started_in f g r (Some y) is (sym (ap started_in none));

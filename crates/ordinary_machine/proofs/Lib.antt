@@ -7,6 +7,7 @@ pub mod RunLemmas
 pub mod OutcomeLemmas
 pub mod EnabledLemmas
 pub mod SilentLemmas
+pub mod JoinLemmas
 pub mod MakeLemmas
 pub mod StuckLemmas
 pub mod ReferenceLemmas

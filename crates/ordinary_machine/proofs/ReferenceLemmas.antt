@@ -64,10 +64,10 @@ step_below : {S : Type 0} (code : Code S) (m : Machine S) (l : S) (op : Op) (rep
 step_below code m l (New c n) (Made r) chosen below = record {
   above = below.above;
   none = λ k past.
-      let size = code.words l c n in
+      let count = code.words l c n in
       let other : k ≡ r → ⊥ = λ e. omega (arith, past, e, chosen) in
       let less : m.first + m.taken ≤ k = omega (arith, past) in
-      let made : Option Object = Some (record { class = c; length = n; words = size }) in
+      let made : Option Object = Some (record { class = c; length = n; words = count }) in
       subst IsNone (sym (set_at-other m.now.objects r made k other)) (below.none k less);
 }
 step_below code m l _ _ chosen below = below

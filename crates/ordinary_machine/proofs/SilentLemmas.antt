@@ -1,6 +1,5 @@
 -- Silent steps that a thread makes where it stands.
-use Rattle.std.proofs.Common.{◌≡◌, ℕ, zero, suc, ◌+◌, ◌≤◌, Option, Some, None, List, [], ◌∷◌, ◌++◌, refl, sym, ◌∙◌, ap, subst, arith}
-use Rattle.op_core.specs.declared.Next.TheVariants.{Silent}
+use Rattle.std.proofs.Common.{◌≡◌, ℕ, zero, suc, ◌+◌, Option, Some, None, List, [], ◌∷◌, ◌++◌, refl, sym, ◌∙◌, ap, subst, arith}
 use Rattle.std.specs.Option.{option_and_then}
 use Rattle.op_core.specs.declared.Limits.{Limits}
 use Rattle.op_core.specs.ThreadCode.{Code, quiet_step, quiet_steps}
@@ -10,10 +9,10 @@ use Rattle.machine_tables.specs.declared.threads.Standing.{Standing}
 use Rattle.machine_tables.specs.declared.threads.Standing.TheVariants.{Live, Ended}
 use Rattle.machine_tables.specs.declared.threads.Seat.{Seat}
 use Rattle.machine_tables.specs.declared.threads.Threads.{Threads}
-use Rattle.machine_tables.specs.Tables.{seat_at, waiting_of, standing_of, thread_in, waiting_state_in, silent_in, threads_in, waiting_in, silents_in, StandingRuns, SeatRuns}
+use Rattle.machine_tables.specs.Tables.{seat_at, waiting_of, standing_of, thread_in, waiting_state_in, silent_in, threads_in, waiting_in, silents_in, StandingRuns, SeatRuns, StandingOverflows, SeatOverflows}
 use Rattle.ordinary_machine.specs.declared.ordinary.Ordinary.{Ordinary}
-use Rattle.ordinary_machine.specs.Machine.{Machine, machine_of, with_thread_at, HasBegun, RunsTo, RunsSilently}
-use Rattle.ordinary_machine.specs.Advance.{IsSilentTo, Advances}
+use Rattle.ordinary_machine.specs.Machine.{Machine, machine_of, with_thread_at, RunsTo, RunsSilently}
+use Rattle.ordinary_machine.specs.Advance.{IsSilentTo, IsOutOfFrames, Advances}
 use Rattle.ordinary_machine.specs.declared.advance.Advance.TheVariants as advance
 use Rattle.ordinary_machine.specs.Laws.{Call, Runs, silent_calls, RunsAreAdvances}
 use Rattle.ordinary_machine.proofs.ChangeLemmas.{ThreadParts, Becomes, becomes_changed, is_kept}
@@ -97,20 +96,25 @@ silent_once {S} code m new t n is runs = of (subst (λ k. RunsSilently code m t 
     of : RunsTo code m t 1 new → IsSilentTo code m t new
     of h = record { from = h.from; behind = h.behind; begun = h.begun; quiet = h.quiet; leads = h.leads ∙ ap (with_thread_at m t (live h.behind)) (omega arith) }
 
--- and where none was made, the thread is silent still
-pub not_run : {S : Type 0} (code : Code S) (m new : Machine S) (t n : ℕ) → n ≤ 1 → (n ≡ 1 → ⊥) → RunsSilently code m t n new → new ≡ m
-not_run code m new t zero most other runs = runs
-not_run code m new t (suc zero) most other runs = absurd (other refl)
-not_run code m new t (suc (suc n)) most other runs = absurd (omega (arith, most))
+-- where the seat's step would make one frame too many, so would the thread's
+pub overflows : {C S : Type 0} (code : Code S) (state : C → S) (m : Ordinary C) (t : ℕ) → SeatOverflows code state (seat_at m.threads t) → IsOutOfFrames code (machine_of state m) t
+overflows {C} {S} code state m t full = of (seat_at m.threads t) refl full
+  where
+    standing : (x : Standing C) → thread_in state (seat_at m.threads t) ≡ standing_of state x → StandingOverflows code state x → IsOutOfFrames code (machine_of state m) t
+    standing (Live from) stood full = record { place = state from; begun = stood; silent = full.0; many = full.1 }
+    standing (Ended x) stood full = absurd full
 
-pub begun_still : {S : Type 0} (m new : Machine S) (t : ℕ) (l : S) → new ≡ m → m.now.threads t ≡ live l → HasBegun (new.now.threads t)
-begun_still {S} m new t l same begun = subst HasBegun (sym (ap (λ (x : Machine S). x.now.threads t) same ∙ begun)) tt
+    of : (x : Option (Seat C)) → seat_at m.threads t ≡ x → SeatOverflows code state x → IsOutOfFrames code (machine_of state m) t
+    of None is full = absurd full
+    of (Some x) is full = standing x.standing (ap (thread_in state) is) full
 
-pub silent_still : {S : Type 0} (code : Code S) (m new : Machine S) (t : ℕ) (from : S) → new ≡ m → m.now.threads t ≡ live from → code.next from ≡ Silent
-    → (l : S) → new.now.threads t ≡ live l → code.next l ≡ Silent
-silent_still {S} code m new t from same begun silent l stands =
-    let both : live from ≡ live l = sym begun ∙ ap (λ (x : Machine S). x.now.threads t) (sym same) ∙ stands in
-    let place : l ≡ from = cc in ap code.next place ∙ silent
+-- seats that are as they were are a machine that is as it was
+pub seats_same : {C S : Type 0} (state : C → S) (m : Ordinary C) (threads : Threads C) → seat_at threads ≡ seat_at m.threads → machine_of state (record m { threads = threads }) ≡ machine_of state m
+seats_same state m threads same = with_threads state m threads (record {
+  threads = ap (threads_in state) same;
+  waiting = ap waiting_in same;
+  silents = ap silents_in same;
+})
 
 -- A run of silent steps is one answer Silent after another.
 runs_on : {S : Type 0} (code : Code S) (m middle last : Machine S) (calls : List Call) (call : Call) → Runs code m calls middle → Advances code middle call.thread call.limits call.answer last

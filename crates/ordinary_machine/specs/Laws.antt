@@ -93,6 +93,12 @@ silent_calls t limits (suc n) = silent_calls t limits n ++ record { thread = t; 
 abbrev pub RunsAreAdvances : {S : Type 0} → Code S → Type 0
 RunsAreAdvances {S} code = (m new : Machine S) (t n : ℕ) (limits : Limits) → RunsSilently code m t n new → Runs code m (silent_calls t limits n) new
 
+-- calls go on behind calls, and their events stand behind the earlier ones'; silent calls have none
+pub record CallsGoOn {S : Type 0} (code : Code S) : Type 0 where
+  pub calls : (m middle last : Machine S) (before behind : List Call) → Runs code m before middle → Runs code middle behind last → Runs code m (before ++ behind) last
+  pub events : (before behind : List Call) → events_of (before ++ behind) ≡ events_of before ++ events_of behind
+  pub silent : (t n : ℕ) (limits : Limits) → events_of (silent_calls t limits n) ≡ []
+
 -- each execution from the machine's state is replayed, to its last state
 abbrev pub ExecutionsAreReplayed : {S : Type 0} → Code S → Type 0
 ExecutionsAreReplayed {S} code = (m : Machine S) (es : List Event) (last : OrdinaryState S) → Leads code m.now es last

@@ -8,7 +8,7 @@ use Rattle.op_core.specs.declared.Reply.TheVariants.{Made, Number, Woken}
 use Rattle.op_core.specs.declared.Next.TheVariants.{Want}
 use Rattle.op_core.specs.ThreadCode.{Code, quiet_steps}
 use Rattle.op_core.specs.Replies.{FitsNext}
-use Rattle.op_core.specs.OrdinaryState.{set_at, free, Monitor, Waiting, ClassState, Thread, unused, live, ended, OrdinaryState}
+use Rattle.op_core.specs.OrdinaryState.{view_of, set_at, free, Monitor, Waiting, ClassState, Thread, unused, live, ended, OrdinaryState}
 use Rattle.op_core.specs.OrdinaryStep.{objects_after, words_after, monitors_after, waiting_after, classes_after, starts_after, lines_after, after}
 use Rattle.ordinary_machine.specs.declared.ordinary.Ordinary.{Ordinary}
 use Rattle.machine_tables.specs.Tables.{object_at, objects_in, words_in, monitors_in, starts_in, classes_in, seat_at, threads_in, waiting_in, silents_in}
@@ -56,8 +56,8 @@ shared_after code m t l op reply = record m {
   now = record m.now {
     objects = objects_after code l op reply m.now.objects;
     words = words_after op reply m.now.words;
-    monitors = monitors_after t op reply m.now.waiting m.now.monitors;
-    waiting = waiting_after t op reply m.now.monitors m.now.waiting;
+    monitors = monitors_after t op reply (view_of m.now);
+    waiting = waiting_after t op reply (view_of m.now);
     classes = classes_after t op reply m.now.classes;
     starts = starts_after op reply m.now.starts;
     lines = lines_after op reply m.now.lines;

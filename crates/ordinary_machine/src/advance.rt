@@ -7,7 +7,9 @@ ghost use Rattle.ordinary_machine.specs.Advance.{IsOutOfNumbers, OpMeets, IsChos
 
 use crate::Ordinary;
 use machine_tables::{ClassProgress, Standing};
-use op_core::{Event, Limit, Limits, Next, NoMemory, Op, Reply, ThreadCode, after_silent_steps};
+use op_core::{
+    CodeStop, Event, Limit, Limits, Next, NoMemory, Op, Reply, ThreadCode, after_silent_steps,
+};
 
 /// What a thread did, or why it did nothing.
 #[derive(Clone, Copy)]
@@ -214,9 +216,9 @@ impl<C: ThreadCode + Drop> Ordinary<C> {
         Ok(())
     }
 
-    // The same on a copy, which tells why no step was made where it stands, and makes one that ends a frame
-    // that was on top at a save.
-    fn try_silent(&mut self, thread: u8, limits: &Limits) -> Result<Advance, NoMemory>
+    // Makes the silent step of a thread on a copy of its code, without the saves: so it may end a frame that was on
+    // top at one.
+    fn leave_silently(&mut self, thread: u8, limits: &Limits) -> Result<Advance, NoMemory>
         requires begun { HasBegun ((machine_of C.state self.old).now.threads thread) }
         requires silent { (l : C.State) → (machine_of C.state self.old).now.threads thread ≡ live l → C.code.next l ≡ Next.Silent }
         ensures ok { IfOk result (λ advance. Advances C.code (machine_of C.state self.old) thread limits.now advance (machine_of C.state self.new)) }
@@ -231,6 +233,21 @@ impl<C: ThreadCode + Drop> Ordinary<C> {
                 Ok(Advance::Silent)
             }
             None => Ok(Advance::Spent(Limit::Frames)),
+        }
+    }
+
+    // What comes of the silent step of a thread.
+    fn try_silent(&mut self, thread: u8, limits: &Limits) -> Result<Advance, NoMemory>
+        requires begun { HasBegun ((machine_of C.state self.old).now.threads thread) }
+        requires silent { (l : C.State) → (machine_of C.state self.old).now.threads thread ≡ live l → C.code.next l ≡ Next.Silent }
+        ensures ok { IfOk result (λ advance. Advances C.code (machine_of C.state self.old) thread limits.now advance (machine_of C.state self.new)) }
+        ensures err { OnErr result (machine_of C.state self.new ≡ machine_of C.state self.old) }
+    {
+        match self.make_silent(thread) {
+            Ok(true) => Ok(Advance::Silent),
+            Ok(false) => self.leave_silently(thread, limits),
+            Err(CodeStop::Frames) => Ok(Advance::Spent(Limit::Frames)),
+            Err(CodeStop::NoMemory) => Err(NoMemory),
         }
     }
 
@@ -288,13 +305,7 @@ impl<C: ThreadCode + Drop> Ordinary<C> {
             return Ok(Advance::Ended);
         };
         match code.next() {
-            Next::Silent => {
-                if self.run_silent(thread, 1) == 1 {
-                    Ok(Advance::Silent)
-                } else {
-                    self.try_silent(thread, limits)
-                }
-            }
+            Next::Silent => self.try_silent(thread, limits),
             Next::Want(op) => self.try_operation(thread, op, limits),
             Next::Ended => Ok(Advance::Halts),
         }

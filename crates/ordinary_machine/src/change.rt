@@ -1,12 +1,14 @@
-ghost use Rattle.std.specs.Prelude.{◌≡◌, ◌≤◌, OnOk, OnErr, IsNone, IfOk, IfSome, IfNone, ◌+◌};
+ghost use Rattle.std.specs.Prelude.{◌≡◌, ◌≤◌, Ok, Err, true, OnOk, OnErr, IsNone, IfOk, IfSome, IfNone, ◌+◌};
+ghost use Rattle.op_core.specs.declared.CodeStop.{CodeStop};
 ghost use Rattle.op_core.specs.OrdinaryStep.{IsFreeNumber};
 ghost use Rattle.op_core.specs.OrdinaryState.{IsThere, HasWord, live};
 ghost use Rattle.machine_tables.specs.Tables.{monitor_of, waiting_of, class_state_of, standing_of};
 ghost use Rattle.ordinary_machine.specs.Machine.{machine_of, with_new_object, with_word_at, with_monitor_at, with_started_at, with_waiting_at, with_class_at, with_line, with_thread_at, HasBegun, Awaits, RunsSilently};
+ghost use Rattle.ordinary_machine.specs.Advance.{IsSilentTo, IsOutOfFrames};
 
 use crate::Ordinary;
 use machine_tables::{ClassProgress, HeapObject, MonitorState, Seat, Standing, WaitState, Words};
-use op_core::{Line, NoMemory, Reply, ThreadCode};
+use op_core::{CodeStop, Line, NoMemory, Reply, ThreadCode};
 
 impl<C: ThreadCode + Drop> Ordinary<C> {
     pub(crate) fn put_monitor(&mut self, reference: u32, monitor: MonitorState)
@@ -70,6 +72,16 @@ impl<C: ThreadCode + Drop> Ordinary<C> {
         ensures most { result ≤ most }
     {
         self.threads.run_silent(thread, most)
+    }
+
+    // Makes the silent step of a thread where it stands, and says that it did: not where the step ends a frame that
+    // was on top at a save.
+    pub(crate) fn make_silent(&mut self, thread: u8) -> Result<bool, CodeStop>
+        ensures made { result ≡ Ok true → IsSilentTo C.code (machine_of C.state self.old) thread (machine_of C.state self.new) }
+        ensures frames { result ≡ Err CodeStop.Frames → IsOutOfFrames C.code (machine_of C.state self.old) thread }
+        ensures kept { (result ≡ Ok true → ⊥) → machine_of C.state self.new ≡ machine_of C.state self.old }
+    {
+        self.threads.silent(thread)
     }
 
     pub(crate) fn put_class(&mut self, class: u32, progress: ClassProgress) -> Result<(), NoMemory>

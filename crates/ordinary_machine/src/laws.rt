@@ -1,7 +1,7 @@
 //! Laws of the machine for all thread codes, each as the contract of a function with no parameters and
 //! an empty body, for the crates above to cite.
 
-ghost use Rattle.ordinary_machine.specs.Laws.{EventsHaveOneOutcome, ReplaysAreExecutions, AdvancesHaveOneAnswer, AdvancesAreExecutions, RunsAreAdvances, ExecutionsAreReplayed, StandstillsAreStuck, ReferencesAreLeft};
+ghost use Rattle.ordinary_machine.specs.Laws.{EventsHaveOneOutcome, ReplaysAreExecutions, AdvancesHaveOneAnswer, AdvancesAreExecutions, RunsAreAdvances, ExecutionsAreReplayed, StandstillsAreStuck, ReferencesAreLeft, CallsGoOn};
 
 use op_core::ThreadCode;
 
@@ -29,6 +29,12 @@ pub fn advances_are_executions<C: ThreadCode>()
 /// A run of n silent steps is n answers Silent of `advance`.
 pub fn runs_are_advances<C: ThreadCode>()
     ensures { RunsAreAdvances C.code }
+{}
+
+/// Calls of `advance` go on behind calls, and the events that they answer stand behind the earlier ones'.
+/// Silent answers have no events.
+pub fn calls_go_on<C: ThreadCode>()
+    ensures { CallsGoOn C.code }
 {}
 
 /// Each execution from a machine's state is replayed, to its last state.

@@ -14,4 +14,4 @@ mod remaining;
 
 pub use order::{OrderItem, Schedule, TurnEnd};
 pub use picking::{next_number, pick, place_among};
-pub use remaining::Remaining;
+pub use remaining::{LiveThreads, Remaining};

@@ -1,8 +1,21 @@
 ghost use Rattle.std.specs.Prelude.{◌≡◌, slice_get, drop};
-ghost use Rattle.schedules.specs.Schedule.{order_of, order_after, drawn};
+ghost use Rattle.std.specs.Option.{option_map};
+ghost use Rattle.schedules.specs.Schedule.{order_of, order_after, drawn, thread_of, rest_due};
 
 use crate::{OrderItem, Schedule, TurnEnd, next_number};
 use std::marker::Model;
+
+/// What tells which threads are live: they have begun and have not ended.
+pub trait LiveThreads {
+    ghost use Rattle.std.specs.Prelude.{ℕ, Bool};
+
+    /// The thread of a number is live.
+    ghost live: { Self → ℕ → Bool };
+
+    /// Whether the thread is live.
+    fn is_live(&self, thread: u8) -> bool
+        ensures { result ≡ live self.now thread };
+}
 
 /// What is left of a schedule while a run follows it. Contracts see it as the items that are left, the
 /// first one with the turns that it has still to give, and the last number that was drawn.
@@ -58,6 +71,22 @@ impl<'a> Remaining<'a> {
         ensures { self.new ≡ record self.old { order = drop 1 self.old.order } }
     {
         self.replace_first(None);
+    }
+
+    /// Drops the items that end without a turn of theirs, those without turns and those of threads that aren't live.
+    /// Gives the thread of the first item behind them, which gets the next turn, or `None` where the order is
+    /// through.
+    pub fn due<T: LiveThreads>(&mut self, threads: &T) -> Option<u8>
+        ensures rest { self.new ≡ rest_due (T.live threads.now) self.old }
+        ensures thread { result ≡ option_map thread_of (slice_get self.new.order 0) }
+    {
+        while let Some(item) = self.first() {
+            if item.has_turns() && threads.is_live(item.thread()) {
+                return Some(item.thread());
+            }
+            self.drop_first();
+        }
+        None
     }
 
     /// Takes off what a turn of the first item uses up, given what the turn came to. Nothing changes where

@@ -1,5 +1,5 @@
 -- Toy programs go in order, are grounded and keep start words.
-use Rattle.std.proofs.Common.{◌≡◌, inl, inr, ℕ, ◌<◌, Bool, true, false, List, Option, Some, None, refl, sym, ◌∙◌, ap, subst}
+use Rattle.std.proofs.Common.{◌≡◌, inl, inr, ℕ, ◌<◌, Bool, true, false, List, Option, Some, None, refl, sym, ◌∙◌, ap, subst, arith}
 use Rattle.std.specs.Prelude.{◌⊎◌, ◌^◌, slice_get}
 use Rattle.std.specs.Int.{w32, cast_signed}
 use Rattle.op_core.specs.declared.Op.{Op}
@@ -124,13 +124,11 @@ no_end (Some (WaitOn r)) p over = cc
 abbrev Bounds : ℕ → Op → Type 0
 Bounds classes (Init c) = c < classes
 Bounds classes (InitDone c ok) = c < classes
-Bounds classes (New c n) = n < 2 ^ 40
 Bounds classes _ = Unit {0}
 
 bounds_of : (classes : ℕ) (op : Op) → IsOrderlyOp classes op → Bounds classes op
 bounds_of classes (Init c) h = h
 bounds_of classes (InitDone c ok) h = h
-bounds_of classes (New c n) h = h
 bounds_of classes _ h = tt
 
 module _ (scripts : List ToyScript) (classes first : ℕ) (orderly : EachDone (IsOrderlyOp classes) scripts) where
@@ -182,7 +180,7 @@ module _ (scripts : List ToyScript) (classes first : ℕ) (orderly : EachDone (I
     ends = λ l can. no_end (slice_get l.steps l.place.step) l.place;
     inits = λ l c. bounds l (Init c);
     settles = λ l c ok. bounds l (InitDone c ok);
-    small = λ l c n. bounds l (New c n);
+    small = λ l c n can wanted within. omega (arith, within.1);
     children = λ l r can. ap (λ x. started x r) (executes l can).program;
   }
 

@@ -1,7 +1,7 @@
 -- Toy programs that meet the premises of the laws on thread codes.
 use Rattle.std.specs.Prelude.{◌≡◌, ℕ, ◌<◌, ◌^◌, Bool, Some, List, slice_get}
 use Rattle.op_core.specs.declared.Op.{Op}
-use Rattle.op_core.specs.declared.Op.TheVariants.{New, Wait, Rewake, Init, InitDone, End}
+use Rattle.op_core.specs.declared.Op.TheVariants.{Wait, Rewake, Init, InitDone, End}
 use Rattle.op_core.specs.OrdinaryState.{OrdinaryState, live, IsThere}
 use Rattle.op_core.specs.InPlaceList.{IsAllThere, IsInRange, IsGrounded}
 use Rattle.op_core.specs.Orderly.{IsOrderly, KeepsStartWord, StartWordsAreKept}
@@ -25,14 +25,13 @@ EachDone Fact scripts = (r i : ℕ) (op : Op) → slice_get (steps_of scripts r)
 abbrev pub EachWaitedOn : (ℕ → Type 0) → List ToyScript → Type 0
 EachWaitedOn Fact scripts = (r i q : ℕ) → slice_get (steps_of scripts r) i ≡ Some (WaitOn q) → Fact q
 
--- no half of a wait and no end; a class below the number; an object of few words
+-- no half of a wait and no end; a class below the number
 abbrev pub IsOrderlyOp : ℕ → Op → Type 0
 IsOrderlyOp classes (Wait r) = ⊥
 IsOrderlyOp classes (Rewake r) = ⊥
 IsOrderlyOp classes (End x) = ⊥
 IsOrderlyOp classes (Init c) = c < classes
 IsOrderlyOp classes (InitDone c ok) = c < classes
-IsOrderlyOp classes (New c n) = n < 2 ^ 40
 IsOrderlyOp classes _ = Unit {0}
 
 -- a thread of scripts that do such operations alone goes in order
