@@ -14,6 +14,10 @@ GivesBack m n joined first second = (x y : ℕ) → x < m → y < n
 abbrev pub IsWhole : (ℕ → ℕ → ℕ) → (ℕ → ℕ) → (ℕ → ℕ) → Type 0
 IsWhole joined first second = (word : ℕ) → joined (first word) (second word) ≡ word
 
+-- so is each word below this bound, which has no other bits set
+abbrev pub IsWholeBelow : ℕ → (ℕ → ℕ → ℕ) → (ℕ → ℕ) → (ℕ → ℕ) → Type 0
+IsWholeBelow bound joined first second = (word : ℕ) → word < bound → joined (first word) (second word) ≡ word
+
 abbrev pub HeapWordsArePacked : Type 0
 HeapWordsArePacked = GivesBack (2 ^ 32) (2 ^ 32) pack value_of tag_of × IsWhole pack value_of tag_of
 
@@ -21,10 +25,10 @@ abbrev pub HeadersArePacked : Type 0
 HeadersArePacked = GivesBack (2 ^ 32) (2 ^ 32) pack_header header_class header_length × IsWhole pack_header header_class header_length
 
 abbrev pub WaitWordsArePacked : Type 0
-WaitWordsArePacked = GivesBack (2 ^ 32) 4 wait_word wait_object wait_state
+WaitWordsArePacked = GivesBack (2 ^ 32) 4 wait_word wait_object wait_state × IsWholeBelow (2 ^ 34) wait_word wait_object wait_state
 
 abbrev pub ClassWordsArePacked : Type 0
-ClassWordsArePacked = GivesBack (2 ^ 8) (2 ^ 8) class_word class_state class_thread
+ClassWordsArePacked = GivesBack (2 ^ 8) (2 ^ 8) class_word class_state class_thread × IsWholeBelow (2 ^ 16) class_word class_state class_thread
 
 -- each word that is there stands in the table
 abbrev pub PlacesAreBelow : Type 0

@@ -15,13 +15,13 @@ pub fn headers_are_packed()
     ensures { HeadersArePacked }
 {}
 
-/// The parts of a packed wait word are what was packed.
+/// The parts of a packed wait word are what was packed, and a word with nothing above them is packed of its parts.
 #[tactic(auto, unfolding(crate::specs::Words::wait_word, crate::specs::Words::wait_object, crate::specs::Words::wait_state))]
 pub fn wait_words_are_packed()
     ensures { WaitWordsArePacked }
 {}
 
-/// The parts of a packed class word are what was packed.
+/// The same of class words.
 #[tactic(auto, unfolding(crate::specs::Words::class_word, crate::specs::Words::class_state, crate::specs::Words::class_thread))]
 pub fn class_words_are_packed()
     ensures { ClassWordsArePacked }

@@ -11,6 +11,10 @@ abbrev pub MonitorWordsArePacked : Type 0
 MonitorWordsArePacked = (section depth : ℕ) → section < 2 ^ 32 → depth < 2 ^ 16
     → (monitor_section (monitor_word section depth) ≡ section) × (monitor_depth (monitor_word section depth) ≡ depth)
 
+-- a word below 2 ^ 48 is packed of its parts
+abbrev pub MonitorWordsAreTheirParts : Type 0
+MonitorWordsAreTheirParts = (word : ℕ) → word < 2 ^ 48 → monitor_word (monitor_section word) (monitor_depth word) ≡ word
+
 -- another thread's section holds the monitor, is live, and has a lower priority
 pub record CanBeRevoked (monitor section own priority : ℕ) : Type 0 where
   pub is_held : monitor ≡ 0 → ⊥

@@ -1,8 +1,8 @@
-ghost use Rattle.std.specs.Prelude.{◌≡◌, ◌↔◌, ◌+◌, ◌<◌, ◌≤◌, ℕ, IfOk, IsTrue, length};
-ghost use Rattle.std.specs.List.{All};
+ghost use Rattle.std.specs.Prelude.{◌≡◌, ◌↔◌, ◌+◌, ◌<◌, ◌≤◌, ◌^◌, ℕ, IfOk, IsTrue, length};
+ghost use Rattle.std.specs.List.{All, AllPairs};
 ghost use Rattle.heap_words.specs.declared.areas.Area.{Area};
-ghost use Rattle.plain_words.specs.Opening.{EndsBelow, IsClassNumber, HasPlace, areas_of, word_behind, opening_words};
-ghost use Rattle.plain_words.specs.Filling.{with_ready, with_front, with_objects};
+ghost use Rattle.plain_words.specs.Opening.{EndsBelow, LiesBehind, KeepsStartWord, IsClassNumber, ArePlaced, HasPlace, areas_of, word_behind, opening_words};
+ghost use Rattle.plain_words.specs.Filling.{with_ready, with_object, with_objects};
 ghost use Rattle.plain_words.specs.Table.{words_in};
 
 use crate::PlainWords;
@@ -11,15 +11,22 @@ use heap_words::{Area, Areas, ClassWord, Header, HeapWord, control};
 use op_core::{Limits, NoMemory};
 use std::alloc::Global;
 
-/// Whether a program's table can be made: the fixed objects lie below the first free place, which isn't 0, that place
-/// and the heap are at most 2^32 together, and the ready classes are classes of the program.
+/// Whether a program's table can be made: the fixed objects lie one behind another below the first free place, which
+/// isn't 0; that place and the heap are at most 2^32 together; a fixed object that has started a thread has a word 1,
+/// which is 0; and the ready classes are classes of the program.
 pub fn has_place(opening: &Opening, limits: &Limits) -> bool
     ensures { IsTrue result ↔ HasPlace opening.now limits.now }
 {
     opening.first > 0
         && opening.first as u64 + limits.heap as u64 <= 0x1_0000_0000
-        && end_below(opening.objects.as_slice(), opening.first)
+        && are_placed(opening.objects.as_slice(), opening.first)
         && are_numbers(opening.ready.as_slice(), opening.classes)
+}
+
+fn are_placed(objects: &[FixedObject], first: u32) -> bool
+    ensures { IsTrue result ↔ ArePlaced first objects.now }
+{
+    end_below(objects, first) && lie_apart(objects) && keep_start_words(objects)
 }
 
 fn end_below(objects: &[FixedObject], first: u32) -> bool
@@ -35,6 +42,32 @@ fn ends_below(object: &FixedObject, first: u32) -> bool
     object.reference > 0
         && before <= first as u64
         && object.words.len() as u64 <= first as u64 - before
+}
+
+fn lie_apart(objects: &[FixedObject]) -> bool
+    requires { All (EndsBelow (2 ^ 32)) objects.now }
+    ensures { IsTrue result ↔ AllPairs LiesBehind objects.now }
+{
+    let mut free = 0;
+    for object in objects {
+        if (object.reference as u64) < free {
+            return false;
+        }
+        free = object.reference as u64 + 2 + object.words.len() as u64;
+    }
+    true
+}
+
+fn keep_start_words(objects: &[FixedObject]) -> bool
+    ensures { IsTrue result ↔ All KeepsStartWord objects.now }
+{
+    objects.iter().all(|object| keeps_start_word(object))
+}
+
+fn keeps_start_word(object: &FixedObject) -> bool
+    ensures { IsTrue result ↔ KeepsStartWord object.now }
+{
+    object.started == 0 || matches!(object.words.as_slice().get(1), Some(0))
 }
 
 fn are_numbers(classes: &[u32], highest: u32) -> bool
@@ -81,7 +114,7 @@ impl PlainWords {
     fn set_object(&mut self, object: &FixedObject)
         requires { EndsBelow (self.old.areas.objects + 1) object.now }
         ensures areas { self.new.areas ≡ self.old.areas }
-        ensures words { words_in self.new ≡ with_front (words_in self.old) object.now (length object.now.words) }
+        ensures words { words_in self.new ≡ with_object (words_in self.old) object.now }
     {
         let _highest = self.areas.objects;
         let reference = object.reference;

@@ -1,6 +1,6 @@
 ghost use Rattle.std.specs.Prelude.{◌≡◌, ◌<◌};
-ghost use Rattle.step_port.specs.Steps.{IsOwnStep, IsStore};
-ghost use Rattle.step_port.specs.Words.{exchanged};
+ghost use Rattle.step_port.specs.Steps.{effect_of, IsOwnStep, IsStore};
+ghost use Rattle.step_port.specs.Words.{exchanged, CanAnswer};
 ghost use Rattle.step_port.specs.declared.answer.Answer.{Answer};
 
 use crate::{Answer, Step, StepPort};
@@ -10,7 +10,8 @@ use crate::{Answer, Step, StepPort};
 pub fn make_step<P: StepPort>(port: &mut P, step: Step) -> Answer
     requires own { IsOwnStep step }
     requires allowed { P.allows port.old step }
-    ensures { P.stepped port.old step result port.new }
+    ensures made { P.stepped port.old step result port.new }
+    ensures kind { CanAnswer (effect_of step) result }
 {
     match step {
         Step::LoadWord(at) => Answer::Found(port.load_word(at)),

@@ -1,0 +1,456 @@
+-- Each next step of a thread, with each answer, is a row.
+use Rattle.std.proofs.Common.{◌≡◌, ℕ, ◌+◌, ◌<◌, ◌&&◌, ◌||◌, not, Bool, true, false, List, [], ◌∷◌, nat_eq, refl, sym, ap, subst, arith}
+use Rattle.std.specs.Prelude.{nat_lt, nat_le, if◌then◌else◌}
+use Rattle.std.proofs.lemmas.Grind.{common_steps}
+use Rattle.std.proofs.lemmas.Bool.Decides.{nat_tests}
+use Rattle.op_core.specs.declared.Limit.TheVariants.{Turns}
+use Rattle.op_core.specs.declared.Op.{Op}
+use Rattle.op_core.specs.declared.Op.TheVariants.{ClassOf, Read, Write, New, Enter, Exit, Wait, Rewake, Print, Start, Join, Init, InitDone, End}
+use Rattle.op_core.specs.declared.Next.{Next}
+use Rattle.op_core.specs.declared.Next.TheVariants.{Silent, Want, Ended}
+use Rattle.op_core.specs.ThreadCode.{Code, leaves_any}
+use Rattle.heap_words.specs.declared.words.ClassWord.{ClassWord}
+use Rattle.heap_words.specs.Words.{tag_of, class_state, class_thread, class_word_of}
+use Rattle.section_state.specs.declared.State.TheVariants.{Live, Pinned, Revoking, Undone, Committed}
+use Rattle.section_state.specs.SectionWord.{priority_of}
+use Rattle.write_log.specs.declared.Noted.{Noted}
+use Rattle.monitor_core.specs.declared.Contend.{Contend}
+use Rattle.monitor_core.specs.declared.Contend.TheVariants.{Free, Own, Busy}
+use Rattle.monitor_core.specs.Monitors.{monitor_depth, is_own}
+use Rattle.monitor_core.specs.Contention.{is_in, contend_with}
+use Rattle.step_port.specs.declared.answer.Answer.{Answer}
+use Rattle.step_port.specs.declared.answer.Answer.TheVariants.{Found, Lost}
+use Rattle.step_port.specs.declared.step.Effect.{Effect}
+use Rattle.step_port.specs.declared.step.Effect.TheVariants.{Load, Store, Exchange, Add}
+use Rattle.step_port.specs.declared.step.ThreadWord.{ThreadWord}
+use Rattle.step_port.specs.declared.step.Step.{Step}
+use Rattle.step_port.specs.declared.step.Step.TheVariants.{LoadWord, SwapWord, DrawSection, OpenSection, LoadSection, Pin, Revoke, Commit, LoadMonitor, TakeMonitor, SetDepth, Release, TakeWords, SetHeader, Ticket, DrawThread, StartThread, EndThread, LoadThread, SetWait, LoadWait, LoadClass, ClaimClass, SettleClass, Split}
+use Rattle.step_port.specs.Steps.{effect_of, place_of}
+use Rattle.step_port.specs.Words.{answer_to}
+use Rattle.thread_automaton.specs.declared.Bounds.{Bounds}
+use Rattle.thread_automaton.specs.declared.Move.{Move}
+use Rattle.thread_automaton.specs.declared.Move.TheVariants.{Over, Quiet, Stop, Make}
+use Rattle.thread_automaton.specs.declared.Stage.{Stage}
+use Rattle.thread_automaton.specs.declared.Stage.TheVariants.{Begin, Checked, Fixed, Undoing, Full}
+use Rattle.thread_automaton.specs.ThreadState.{ThreadState, is_open, own_word}
+use Rattle.thread_automaton.specs.NextMove.{own_pin, pinned_then, word_place, words_asked, first_step, undo_step, silent_move, move_of}
+use Rattle.thread_automaton.specs.Changes.{Change, goes, sees_pinned, knows}
+use Rattle.thread_automaton.specs.Checks.{behind_pin, is_safe, own_seen, met, holder_seen, tag_seen, section_loaded}
+use Rattle.thread_automaton.specs.Monitors.{monitor_wanted, is_only, without, left_with, let_go, entering, exiting}
+use Rattle.thread_automaton.specs.Answers.{is_waiting_for, is_notified_for, class_loaded, change_of}
+use Rattle.automaton_rows.specs.Fits.{is_unsafe_tag, is_own_section, IsTagStep, IsEntryStep, IsOwnPin, FixedFits, IsUndoing, StageFits}
+use Rattle.automaton_rows.specs.Rows.{Lasts, IsAccess, word_wanted, IsEntry, Row, is_lost, own_pinned, own_revoked, own_stands, pins, restores, gives_monitor_back, is_undone, class_found, word_read, word_seen, word_written, is_unsafe, tag_stays, tag_undone, tag_live, tag_waits, tag_pinned, has_room, heap_full, object_made, free_first, section_numbered, sections_full, section_opened, free_more, monitor_taken, own_again, own_full, entered_again, held_by_other, holder_lower, holder_busy, holder_revoked, is_notified, not_notified, not_owner, exits_inner, exits_last, exits_one, left_once, section_committed, monitor_left, section_left, wait_begins, wait_noted, wait_made, notify_begins, waiter_found, waiter_passed, none_waits, waiter_woken, line_printed, start_begins, was_started, thread_numbered, threads_full, is_started, handed_out, never_started, join_begins, is_alive, has_ended, thread_ended, is_ready, is_bad, is_unready, is_claimed, is_others, class_claimed, class_settled}
+use Rattle.automaton_rows.specs.Laws.{CanAnswer, WordsAnswer, AnswersHaveRows}
+
+-- ---- tests
+
+by_if : {A : Type 0} (P : A → Type 0) (t : Bool) (x y : A) → (t ≡ true → P x) → (t ≡ false → P y) → P (if t then x else y)
+by_if P true x y when other = when refl
+by_if P false x y when other = other refl
+
+same_number : (n : ℕ) → nat_eq n n ≡ true
+same_number n = grind (arith, common_steps, nat_tests)
+
+first_true : (a c : Bool) → (a && c) ≡ true → a ≡ true
+first_true true c both = refl
+first_true false c both = both
+
+second_true : (a c : Bool) → (a && c) ≡ true → c ≡ true
+second_true true c both = both
+second_true false c both = cc
+
+none_true : (a c d : Bool) → not (a || c || d) ≡ true → c ≡ false
+none_true true c d none = cc
+none_true false true d none = cc
+none_true false false d none = refl
+
+-- ---- answers
+
+-- what there is to show of each answer to a step of this effect
+abbrev ForAnswers : Effect → (Answer → Type 0) → Type 0
+ForAnswers Load P = (w : ℕ) → P (Found w)
+ForAnswers (Store v) P = P Answer.Done
+ForAnswers (Exchange old new) P = P Answer.Done × ((w : ℕ) → P (Lost w))
+ForAnswers (Add k) P = (w : ℕ) → P (Found w)
+
+for_answer : (effect : Effect) (P : Answer → Type 0) → ForAnswers effect P → (a : Answer) → CanAnswer effect a → P a
+for_answer Load P found (Found w) can = found w
+for_answer Load P found Answer.Done can = absurd can
+for_answer Load P found (Lost w) can = absurd can
+for_answer (Store v) P done (Found w) can = absurd can
+for_answer (Store v) P done Answer.Done can = done
+for_answer (Store v) P done (Lost w) can = absurd can
+for_answer (Exchange old new) P each (Found w) can = absurd can
+for_answer (Exchange old new) P each Answer.Done can = each.0
+for_answer (Exchange old new) P each (Lost w) can = each.1 w
+for_answer (Add k) P found (Found w) can = found w
+for_answer (Add k) P found Answer.Done can = absurd can
+for_answer (Add k) P found (Lost w) can = absurd can
+
+effect_answers : (effect : Effect) (n : ℕ) → CanAnswer effect (answer_to effect n)
+effect_answers Load n = tt
+effect_answers (Store v) n = tt
+effect_answers (Exchange old new) n = by_if (CanAnswer (Exchange old new)) (nat_eq n old) Answer.Done (Lost n) (λ same. tt) (λ other. tt)
+effect_answers (Add k) n = tt
+
+pub words_can_answer : WordsAnswer
+words_can_answer w step = effect_answers (effect_of step) (w (place_of step))
+
+-- ---- moves
+
+abbrev made : Step → Move → Step
+made step (Make other) = other
+made step Over = step
+made step Quiet = step
+made step (Stop limit) = step
+
+module _ {S : Type 0} (code : Code S) (b : Bounds) (th : ThreadState S) where
+  abbrev At : Next → Step → Answer → Type 0
+  At next step a = Row code b th next step a (change_of code b th next step a)
+
+  -- each answer to the step makes a row
+  abbrev Rows : Next → Step → Type 0
+  Rows next step = ForAnswers (effect_of step) (At next step)
+
+  -- ---- the own section
+
+  own_seen_row : (next : Next) (w : ℕ) → th.stage ≡ Begin → is_open th ≡ true → Row code b th next (LoadSection th.section) (Found w) (own_seen w)
+  own_seen_row next w begins unpinned =
+      by_if (Row code b th next (LoadSection th.section) (Found w)) (is_in Pinned w) _ _
+      (λ pinned. own_pinned begins unpinned pinned)
+      (λ stands. by_if (Row code b th next (LoadSection th.section) (Found w)) (is_in Revoking w) _ _
+      (λ revoked. own_revoked begins unpinned revoked)
+      (λ goes_on. own_stands begins unpinned stands goes_on))
+
+  own_check_rows : (next : Next) → th.stage ≡ Begin → is_open th ≡ true → Rows next (LoadSection th.section)
+  own_check_rows next begins unpinned =
+      λ w. subst (λ g. Row code b th next (LoadSection th.section) (Found w) (section_loaded th next g th.section w)) (sym begins) (own_seen_row next w begins unpinned)
+
+  pin_rows : (next : Next) → Lasts code th next → is_open th ≡ true → Rows next (own_pin th)
+  pin_rows next lasts unpinned =
+      (subst (λ t. Row code b th next (own_pin th) Answer.Done (if t then sees_pinned (behind_pin th next) else knows th.section)) (sym (same_number th.section)) (pins unpinned lasts), λ v. is_lost)
+
+  own_pin_rows : (next : Next) (s w : ℕ) → Lasts code th next → IsOwnPin th s w → Rows next (Pin s w)
+  own_pin_rows next s w lasts fits =
+      subst (λ x. Rows next (Pin x w)) (sym fits.1) (subst (λ x. Rows next (Pin th.section x)) (sym fits.2) (pin_rows next lasts fits.0))
+
+  -- a step behind the pin
+  pinned_rows : (next : Next) (step : Step) → Lasts code th next → (is_open th ≡ false → Rows next step) → Rows next (pinned_then th step)
+  pinned_rows next step lasts rows = by_if (Rows next) (is_open th) (own_pin th) step (λ unpinned. pin_rows next lasts unpinned) rows
+
+  -- ---- undoing
+
+  undo_rows : (next : Next) (w : ℕ) (log : List Noted) (held : List ℕ) → th.log ≡ log → th.held ≡ held
+      → th.stage ≡ Undoing w → IsUndoing th w → Rows next (undo_step th.section w log held)
+  undo_rows next w (x ∷ log) held logs holds at undoing =
+      restores at undoing logs
+  undo_rows next w [] (r ∷ held) logs holds at undoing =
+      subst (λ g. Row code b th next (Release r) Answer.Done (let_go th next g r)) (sym at) (gives_monitor_back at undoing logs holds)
+  undo_rows next w [] [] logs holds at undoing =
+      is_undone at undoing logs holds
+
+  -- ---- words of objects
+
+  unsafe_row : (next : Next) (w : ℕ) (change : Change) → IsAccess next → (is_safe th w ≡ true → Row code b th next (LoadWord (word_wanted next)) (Found w) change)
+      → Row code b th next (LoadWord (word_wanted next)) (Found w) (if is_safe th w then change else goes (Fixed (LoadSection (tag_of w))))
+  unsafe_row next w change accesses safe =
+      by_if (Row code b th next (LoadWord (word_wanted next)) (Found w)) (is_safe th w) _ _ safe (λ unsafe. is_unsafe accesses unsafe)
+
+  tag_seen_row : (next : Next) (s w : ℕ) → IsAccess next → is_unsafe_tag th s ≡ true → Row code b th next (LoadSection s) (Found w) (tag_seen s w)
+  tag_seen_row next s w accesses unsafe =
+      by_if (Row code b th next (LoadSection s) (Found w)) (is_in Pinned w || is_in Committed w) _ _
+      (λ stays. tag_stays accesses unsafe stays)
+      (λ goes_on. by_if (Row code b th next (LoadSection s) (Found w)) (is_in Undone w) _ _
+      (λ undone. tag_undone accesses unsafe undone)
+      (λ stands. by_if (Row code b th next (LoadSection s) (Found w)) (is_in Live w) _ _
+      (λ live. tag_live accesses unsafe live)
+      (λ revoking. tag_waits accesses unsafe goes_on stands revoking)))
+
+  tag_rows : (next : Next) (step : Step) → IsAccess next
+      → ((s w : ℕ) → section_loaded th next (Fixed (LoadSection s)) s w ≡ tag_seen s w)
+      → th.stage ≡ Fixed step → IsTagStep th step → Rows next step
+  tag_rows next (LoadSection s) accesses looks fixed unsafe =
+      λ w. subst (λ g. Row code b th next (LoadSection s) (Found w) (section_loaded th next g s w)) (sym fixed)
+      (subst (Row code b th next (LoadSection s) (Found w)) (sym (looks s w)) (tag_seen_row next s w accesses unsafe))
+  tag_rows next (Pin s w) accesses looks fixed fits = (
+    subst (λ t. Row code b th next (Pin s w) Answer.Done (if t then sees_pinned (behind_pin th next) else knows s))
+        (sym (none_true (nat_eq s 0) (nat_eq s th.section) (nat_eq s th.known) fits.0)) (tag_pinned accesses fits.0 fits.1),
+    λ v. is_lost,
+  )
+  tag_rows next step accesses looks fixed fits = absurd fits
+
+  -- ---- monitors that are entered
+
+  entering_row : (next : Next) (m : ℕ) → IsEntry next → Row code b th next (LoadMonitor (monitor_wanted next)) (Found m) (entering th next (monitor_wanted next) m)
+  entering_row next m enters =
+      by_if (Row code b th next (LoadMonitor (monitor_wanted next)) (Found m)) (nat_eq m 0) _ _
+      (λ free. by_if (Row code b th next (LoadMonitor (monitor_wanted next)) (Found m)) (nat_eq th.section 0) _ _
+      (λ none. free_first enters free none)
+      (λ some. free_more enters free some))
+      (λ held. by_if (Row code b th next (LoadMonitor (monitor_wanted next)) (Found m)) (is_own m th.section) _ _
+      (λ own. by_if (Row code b th next (LoadMonitor (monitor_wanted next)) (Found m)) (nat_eq (monitor_depth m) 65535) _ _
+      (λ full. own_full enters held own full)
+      (λ room. own_again enters held own room))
+      (λ other. held_by_other enters held other))
+
+  -- a section that holds a monitor is neither free nor the own one
+  abbrev contends : Contend → Bool
+  contends Free = false
+  contends Own = false
+  contends Contend.Revoke = true
+  contends (Busy why) = true
+
+  met_row : (next : Next) (s w : ℕ) → IsEntry next → is_own_section th s ≡ false → (c : Contend) → contend_with w th.priority ≡ c → contends c ≡ true
+      → Row code b th next (LoadSection s) (Found w) (met s w c)
+  met_row next s w enters other Contend.Revoke is does = holder_lower enters other is
+  met_row next s w enters other (Busy why) is does = holder_busy enters other is
+  met_row next s w enters other Free is does = cc
+  met_row next s w enters other Own is does = cc
+
+  always_contends : (w : ℕ) → contends (contend_with w th.priority) ≡ true
+  always_contends w =
+      by_if (λ c. contends c ≡ true) (is_in Live w) _ _
+      (λ _. by_if (λ c. contends c ≡ true) (nat_lt (priority_of w) th.priority) _ _ (λ _. refl) (λ _. refl))
+      (λ _. by_if (λ c. contends c ≡ true) (is_in Pinned w) _ _ (λ _. refl)
+      (λ _. by_if (λ c. contends c ≡ true) (is_in Revoking w) _ _ (λ _. refl) (λ _. refl)))
+
+  entry_rows : (next : Next) (step : Step) → IsEntry next
+      → ((s w : ℕ) → section_loaded th next (Fixed (LoadSection s)) s w ≡ holder_seen th s w)
+      → th.stage ≡ Fixed step → IsEntryStep th next step → Rows next step
+  entry_rows next DrawSection enters looks fixed none =
+      λ n. by_if (Row code b th next DrawSection (Found n)) (nat_lt n b.limits.sections) _ _
+      (λ room. section_numbered enters none room)
+      (λ full. sections_full enters none full)
+  entry_rows next (OpenSection s w) enters looks fixed fits =
+      subst (λ x. Rows next (OpenSection s x)) (sym fits.2)
+      ((section_opened enters fits.0 fits.1))
+  entry_rows next (TakeMonitor r new) enters looks fixed fits =
+      subst (λ x. Rows next (TakeMonitor x new)) (sym fits.1)
+      (subst (λ x. Rows next (TakeMonitor (monitor_wanted next) x)) (sym fits.2)
+      ((monitor_taken enters fits.0, λ v. is_lost)))
+  entry_rows next (SetDepth r new) enters looks fixed fits =
+      subst (λ x. Rows next (SetDepth x new)) (sym fits.0)
+      (subst (λ x. Rows next (SetDepth (monitor_wanted next) x)) (sym fits.1.1)
+      ((entered_again fits.1.0 enters)))
+  entry_rows next (LoadSection s) enters looks fixed other =
+      λ w. subst (λ g. Row code b th next (LoadSection s) (Found w) (section_loaded th next g s w)) (sym fixed)
+      (subst (Row code b th next (LoadSection s) (Found w)) (sym (looks s w))
+      (met_row next s w enters other (contend_with w th.priority) refl (always_contends w)))
+  entry_rows next (Revoke s w) enters looks fixed fits =
+      (holder_revoked enters fits.0 fits.1, λ v. is_lost)
+  entry_rows next step enters looks fixed fits = absurd fits
+
+  -- ---- monitors that are left
+
+  exiting_row : (r m : ℕ) → is_own m th.section ≡ true → Row code b th (Want (Exit r)) (LoadMonitor r) (Found m) (exiting th r m)
+  exiting_row r m own =
+      by_if (Row code b th (Want (Exit r)) (LoadMonitor r) (Found m)) (nat_lt 1 (monitor_depth m)) _ _
+      (λ deep. exits_inner own deep)
+      (λ last. by_if (Row code b th (Want (Exit r)) (LoadMonitor r) (Found m)) (is_only r th.held) _ _
+      (λ only. exits_last own last only)
+      (λ more. exits_one own last more))
+
+  left_row : (r : ℕ) (held : List ℕ) → th.stage ≡ Fixed (Release r) → without r th.held ≡ held
+      → Row code b th (Want (Exit r)) (Release r) Answer.Done (left_with held)
+  left_row r [] fixed is = section_left fixed is
+  left_row r (q ∷ held) fixed is = monitor_left fixed is
+
+  -- ---- the first step of an attempt
+
+  class_row : (c w : ℕ) → Row code b th (Want (Init c)) (LoadClass c) (Found w) (class_loaded th (Want (Init c)) w)
+  class_row c w =
+      let P = Row code b th (Want (Init c)) (LoadClass c) (Found w) in
+      by_if P (nat_eq (class_state w) 2) _ _ (λ ready. is_ready ready)
+      (λ unready. by_if P (nat_eq (class_state w) 3) _ _ (λ bad. is_bad bad)
+      (λ good. by_if P (nat_eq (class_state w) 0) _ _ (λ fresh. is_unready fresh)
+      (λ begun. by_if P (nat_eq (class_thread w) th.number) _ _
+      (λ own. is_claimed unready good begun own)
+      (λ other. is_others unready good begun other))))
+
+  first_rows : (op : Op) → Rows (Want op) (first_step code th op)
+  first_rows (ClassOf r) = λ w. class_found
+  first_rows (Read r i) =
+      λ w. unsafe_row (Want (Read r i)) w _ tt (λ safe. word_read safe)
+  first_rows (Write r i v) =
+      λ w. unsafe_row (Want (Write r i v)) w _ tt (λ safe. word_seen safe)
+  first_rows (New c n) =
+      λ taken. by_if (Row code b th (Want (New c n)) (TakeWords (words_asked code th.local c n)) (Found taken)) (nat_le (taken + words_asked code th.local c n) b.limits.heap) _ _
+      (λ room. has_room room)
+      (λ full. heap_full full)
+  first_rows (Enter r) = λ m. entering_row (Want (Enter r)) m tt
+  first_rows (Exit r) =
+      λ m. by_if (Row code b th (Want (Exit r)) (LoadMonitor r) (Found m)) (is_own m th.section) _ _
+      (λ own. exiting_row r m own) (λ other. not_owner refl other)
+  first_rows (Wait r) =
+      λ m. by_if (Row code b th (Want (Wait r)) (LoadMonitor r) (Found m)) (is_own m th.section) _ _
+      (λ own. wait_begins own) (λ other. not_owner refl other)
+  first_rows (Rewake r) =
+      λ w. by_if (Row code b th (Want (Rewake r)) (LoadWait th.number) (Found w)) (is_notified_for r w) _ _
+      (λ notified. is_notified notified) (λ waits. not_notified waits)
+  first_rows (Op.Notify r) =
+      λ m. by_if (Row code b th (Want (Op.Notify r)) (LoadMonitor r) (Found m)) (is_own m th.section) _ _
+      (λ own. notify_begins own) (λ other. not_owner refl other)
+  first_rows (Print x) = pinned_rows (Want (Print x)) Ticket tt (λ shut n. line_printed shut)
+  first_rows (Start r p) =
+      λ w. by_if (Row code b th (Want (Start r p)) (LoadThread (ThreadWord.Start r)) (Found w)) (nat_eq w 0) _ _
+      (λ none. start_begins none) (λ some. was_started some)
+  first_rows (Join r) =
+      λ w. by_if (Row code b th (Want (Join r)) (LoadThread (ThreadWord.Start r)) (Found w)) (nat_eq w 0) _ _
+      (λ none. never_started none) (λ some. join_begins some)
+  first_rows (Init c) = λ w. class_row c w
+  first_rows (InitDone c ok) =
+      let step = SettleClass c (class_word_of (if ok then ClassWord.Ready else ClassWord.Bad)) in
+      pinned_rows (Want (InitDone c ok)) step tt (λ shut. class_settled shut)
+  first_rows (End x) = pinned_rows (Want (End x)) (EndThread th.number) tt (λ shut. thread_ended shut)
+
+  -- ---- steps that are fixed
+
+  write_rows : (r i v : ℕ) (step : Step) → th.stage ≡ Fixed step → FixedFits th (Want (Write r i v)) step → Rows (Want (Write r i v)) step
+  write_rows r i v (SwapWord at old new) fixed fits =
+      subst (λ x. Rows (Want (Write r i v)) (SwapWord x old new)) (sym fits.0)
+      (subst (λ x. Rows (Want (Write r i v)) (SwapWord (word_place r i) old x)) (sym fits.1)
+      ((word_written fits.2, λ w. is_lost)))
+  write_rows r i v step fixed fits = tag_rows (Want (Write r i v)) step tt (λ s w. refl) fixed fits
+
+  new_rows : (c n : ℕ) (step : Step) → FixedFits th (Want (New c n)) step → Rows (Want (New c n)) step
+  new_rows c n (SetHeader r w) fits =
+      subst (λ x. Rows (Want (New c n)) (SetHeader r x)) (sym fits) (object_made)
+  new_rows c n step fits = absurd fits
+
+  exit_rows : (r : ℕ) (step : Step) → th.stage ≡ Fixed step → FixedFits th (Want (Exit r)) step → Rows (Want (Exit r)) step
+  exit_rows r (SetDepth q new) fixed fits =
+      subst (λ x. Rows (Want (Exit r)) (SetDepth x new)) (sym fits.0)
+      (subst (λ x. Rows (Want (Exit r)) (SetDepth r x)) (sym fits.1.1) ((left_once fits.1.0)))
+  exit_rows r (Commit s w) fixed fits =
+      let own = own_word th (if th.pinned then Pinned else Live) in
+      subst (λ x. Rows (Want (Exit r)) (Commit s x)) (sym fits.3)
+      (subst (λ x. Rows (Want (Exit r)) (Commit x own)) (sym fits.1)
+      ((section_committed (subst (λ x. nat_lt 0 x ≡ true) fits.1 fits.0) fits.2, λ v. is_lost)))
+  exit_rows r (Release q) fixed is =
+      subst (λ x. th.stage ≡ Fixed (Release x) → Rows (Want (Exit r)) (Release x)) (sym is)
+      (λ at. (subst (λ g. Row code b th (Want (Exit r)) (Release r) Answer.Done (let_go th (Want (Exit r)) g r)) (sym at) (left_row r (without r th.held) at refl)))
+      fixed
+  exit_rows r step fixed fits = absurd fits
+
+  wait_rows : (r : ℕ) (step : Step) → th.stage ≡ Fixed step → FixedFits th (Want (Wait r)) step → Rows (Want (Wait r)) step
+  wait_rows r (Pin s w) fixed fits = own_pin_rows (Want (Wait r)) s w tt fits
+  wait_rows r (SetWait n w) fixed fits =
+      subst (λ x. Rows (Want (Wait r)) (SetWait x w)) (sym fits.1)
+      (subst (λ x. Rows (Want (Wait r)) (SetWait th.number x)) (sym fits.2)
+      ((wait_noted fits.0)))
+  wait_rows r (Release q) fixed fits =
+      subst (λ x. th.stage ≡ Fixed (Release x) → Rows (Want (Wait r)) (Release x)) (sym fits.1)
+      (λ at. (subst (λ g. Row code b th (Want (Wait r)) (Release r) Answer.Done (let_go th (Want (Wait r)) g r)) (sym at) (wait_made fits.0 at)))
+      fixed
+  wait_rows r step fixed fits = absurd fits
+
+  rewake_rows : (r : ℕ) (step : Step) → th.stage ≡ Fixed step → FixedFits th (Want (Rewake r)) step → Rows (Want (Rewake r)) step
+  rewake_rows r (LoadMonitor q) fixed is =
+      subst (λ x. Rows (Want (Rewake r)) (LoadMonitor x)) (sym is)
+      ((λ m. entering_row (Want (Rewake r)) m tt))
+  rewake_rows r step fixed fits = entry_rows (Want (Rewake r)) step tt (λ s w. refl) fixed fits
+
+  waiter_row : (r n w : ℕ) → is_open th ≡ false → 0 < n → n < 256
+      → Row code b th (Want (Op.Notify r)) (LoadWait n) (Found w) (change_of code b th (Want (Op.Notify r)) (LoadWait n) (Found w))
+  waiter_row r n w shut above below =
+      let P = Row code b th (Want (Op.Notify r)) (LoadWait n) (Found w) in
+      by_if P (is_waiting_for r w) _ _
+      (λ waits. waiter_found shut above below waits)
+      (λ other. by_if P (nat_lt n 255) _ _
+      (λ more. waiter_passed shut above other more)
+      (λ last. none_waits shut above below other last))
+
+  notify_rows : (r : ℕ) (step : Step) → FixedFits th (Want (Op.Notify r)) step → Rows (Want (Op.Notify r)) step
+  notify_rows r (Pin s w) fits = own_pin_rows (Want (Op.Notify r)) s w tt fits
+  notify_rows r (LoadWait n) fits = (λ w. waiter_row r n w fits.0 fits.1 fits.2)
+  notify_rows r (Step.Notify n w) fits =
+      (waiter_woken fits.0 fits.1 fits.2 fits.3, λ v. is_lost)
+  notify_rows r step fits = absurd fits
+
+  start_rows : (r p : ℕ) (step : Step) → FixedFits th (Want (Start r p)) step → Rows (Want (Start r p)) step
+  start_rows r p (Pin s w) fits = own_pin_rows (Want (Start r p)) s w tt fits
+  start_rows r p DrawThread shut =
+      λ n. by_if (Row code b th (Want (Start r p)) DrawThread (Found n)) (nat_lt n 255) _ _
+      (λ room. thread_numbered shut room)
+      (λ full. threads_full shut full)
+  start_rows r p (StartThread q n) fits =
+      subst (λ x. Rows (Want (Start r p)) (StartThread x n)) (sym fits.1)
+      ((is_started fits.0 fits.2 fits.3, λ v. is_lost))
+  start_rows r p (Split n q o) fits =
+      subst (λ x. Rows (Want (Start r p)) (Split n x o)) (sym fits.1)
+      (subst (λ x. Rows (Want (Start r p)) (Split n r x)) (sym fits.2)
+      ((λ w. handed_out fits.0 fits.3 fits.4)))
+  start_rows r p step fits = absurd fits
+
+  end_row : (r n w : ℕ)
+      → Row code b th (Want (Join r)) (LoadThread (ThreadWord.Ended n)) (Found w) (change_of code b th (Want (Join r)) (LoadThread (ThreadWord.Ended n)) (Found w))
+  end_row r n w =
+      by_if (Row code b th (Want (Join r)) (LoadThread (ThreadWord.Ended n)) (Found w)) (nat_eq w 0) _ _
+      (λ alive. is_alive alive) (λ over. has_ended over)
+
+  join_rows : (r : ℕ) (step : Step) → FixedFits th (Want (Join r)) step → Rows (Want (Join r)) step
+  join_rows r (LoadThread (ThreadWord.Ended n)) fits = (λ w. end_row r n w)
+  join_rows r step fits = absurd fits
+
+  init_rows : (c : ℕ) (step : Step) → FixedFits th (Want (Init c)) step → Rows (Want (Init c)) step
+  init_rows c (Pin s w) fits = own_pin_rows (Want (Init c)) s w tt fits
+  init_rows c (ClaimClass d n) fits =
+      subst (λ x. Rows (Want (Init c)) (ClaimClass x n)) (sym fits.1)
+      (subst (λ x. Rows (Want (Init c)) (ClaimClass c x)) (sym fits.2)
+      ((class_claimed fits.0, λ v. is_lost)))
+  init_rows c step fits = absurd fits
+
+  fixed_rows : (next : Next) (step : Step) → th.stage ≡ Fixed step → FixedFits th next step → Rows next step
+  fixed_rows (Want (Read r i)) step fixed fits = tag_rows (Want (Read r i)) step tt (λ s w. refl) fixed fits
+  fixed_rows (Want (Write r i v)) step fixed fits = write_rows r i v step fixed fits
+  fixed_rows (Want (New c n)) step fixed fits = new_rows c n step fits
+  fixed_rows (Want (Enter r)) step fixed fits = entry_rows (Want (Enter r)) step tt (λ s w. refl) fixed fits
+  fixed_rows (Want (Exit r)) step fixed fits = exit_rows r step fixed fits
+  fixed_rows (Want (Wait r)) step fixed fits = wait_rows r step fixed fits
+  fixed_rows (Want (Rewake r)) step fixed fits = rewake_rows r step fixed fits
+  fixed_rows (Want (Op.Notify r)) step fixed fits = notify_rows r step fits
+  fixed_rows (Want (Start r p)) step fixed fits = start_rows r p step fits
+  fixed_rows (Want (Join r)) step fixed fits = join_rows r step fits
+  fixed_rows (Want (Init c)) step fixed fits = init_rows c step fits
+  fixed_rows next step fixed fits = absurd fits
+
+  -- ---- the next move
+
+  silent_rows : (towards step : Step) → (is_open th ≡ true → leaves_any code th.saved th.local ≡ true → Rows Silent towards)
+      → silent_move code th towards ≡ Make step → Rows Silent step
+  silent_rows towards step rows =
+      by_if (λ m. m ≡ Make step → Rows Silent step) (is_open th && leaves_any code th.saved th.local) (Make towards) Quiet
+      (λ both makes. subst (Rows Silent) (ap (made step) makes)
+      (rows (first_true (is_open th) (leaves_any code th.saved th.local) both) (second_true (is_open th) (leaves_any code th.saved th.local) both)))
+      (λ stays makes. cc)
+
+  begin_rows : (op : Op) (step : Step) → th.stage ≡ Begin
+      → (if is_open th then Make (LoadSection th.section) else Make (first_step code th op)) ≡ Make step → Rows (Want op) step
+  begin_rows op step begins =
+      by_if (λ m. m ≡ Make step → Rows (Want op) step) (is_open th) _ _
+      (λ unpinned makes. subst (Rows (Want op)) (ap (made step) makes) (own_check_rows (Want op) begins unpinned))
+      (λ shut makes. subst (Rows (Want op)) (ap (made step) makes) (first_rows op))
+
+  stage_rows : (next : Next) (stage : Stage) (step : Step) → th.stage ≡ stage → StageFits th next stage → move_of code th next stage ≡ Make step → Rows next step
+  stage_rows next (Fixed other) step at fits makes = subst (Rows next) (ap (made step) makes) (fixed_rows next other at fits)
+  stage_rows next (Undoing w) step at fits makes = subst (Rows next) (ap (made step) makes) (undo_rows next w th.log th.held refl refl at fits)
+  stage_rows next (Full limit) step at fits makes = cc
+  stage_rows Silent Begin step at fits makes = silent_rows (LoadSection th.section) step (λ unpinned leaves. own_check_rows Silent at unpinned) makes
+  stage_rows Silent Checked step at fits makes = silent_rows (own_pin th) step (λ unpinned leaves. pin_rows Silent leaves unpinned) makes
+  stage_rows (Want op) Begin step at fits makes = begin_rows op step at makes
+  stage_rows (Want op) Checked step at fits makes = subst (Rows (Want op)) (ap (made step) makes) (first_rows op)
+  stage_rows Ended Begin step at fits makes = cc
+  stage_rows Ended Checked step at fits makes = cc
+
+  move_rows : (next : Next) (step : Step) → StageFits th next th.stage
+      → (if th.over then Over else if nat_le b.limits.turns th.counted then Stop Turns else move_of code th next th.stage) ≡ Make step → Rows next step
+  move_rows next step fits =
+      by_if (λ m. m ≡ Make step → Rows next step) th.over _ _
+      (λ over makes. cc)
+      (λ goes_on. by_if (λ m. m ≡ Make step → Rows next step) (nat_le b.limits.turns th.counted) _ _
+      (λ full makes. cc)
+      (λ room makes. stage_rows next th.stage step refl fits makes))
+
+pub answers_are_rows : {S : Type 0} (code : Code S) → AnswersHaveRows code
+answers_are_rows code b th step answer fits makes can =
+    for_answer (effect_of step) (At code b th (code.next th.local) step) (move_rows code b th (code.next th.local) step fits makes) answer can

@@ -1,0 +1,10 @@
+pub mod ThreadState
+pub mod NextMove
+pub mod Changes
+pub mod Checks
+pub mod Monitors
+pub mod Answers
+pub mod Told
+pub mod Alone
+pub mod Walks
+pub mod Laws
