@@ -94,7 +94,6 @@ fn above(
     ensures size { IfOk result (λ above. length above ≡ suc (length (classes_of units.now))) }
     ensures above { IfOk result (λ above. (c d : ℕ) → Relates above c d ↔ IsAbove (classes_of units.now) c d) }
 {
-    let _count = units.len();
     let above = named_classes(alloc, headers)?.closure(alloc)?;
     Ok(above)
 }

@@ -44,6 +44,7 @@ fn interfaces(alloc: Global, file: File<'_>) -> Result<Vec<u16>, AllocError> {
     Ok(interfaces)
 }
 
+/// The decoded file, which has no members.
 pub fn unit(alloc: Global, file: File<'_>) -> Result<ClassUnit, AllocError> {
     let (flags, _, _, _) = file;
     let pool = pool(alloc, file)?;

@@ -38,12 +38,14 @@ impl Row {
         })
     }
 
+    /// Whether a number is marked; one past the row isn't.
     pub fn is_marked(&self, number: usize) -> bool
         ensures { result ≡ slice_index_or self.now number false }
     {
         self.marks.get(number).copied().unwrap_or(false)
     }
 
+    /// Marks a number of the row.
     pub fn mark(&mut self, number: usize)
         requires { number < length self.old }
         ensures { self.new ≡ slice_set self.old number true }

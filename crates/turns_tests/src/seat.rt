@@ -105,6 +105,7 @@ impl<C: ThreadCode + Drop> Seat<C> {
         }
     }
 
+    /// The thread that sits there.
     pub fn thread(&self) -> &JThread<C> {
         &self.thread
     }
@@ -150,6 +151,7 @@ pub fn give_turn<C: ThreadCode + Drop>(
     Ok(came)
 }
 
+/// Gives a thread the next place.
 pub fn add<C: ThreadCode + Drop>(
     seats: &mut Vec<Seat<C>>,
     seat: Seat<C>,
