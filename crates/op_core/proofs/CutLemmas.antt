@@ -234,7 +234,7 @@ followed_silent {S} code s all cut k b view silents t clean h fits is_left at_k 
         }
 
 -- where another thread stands after an event
-threads_after-other : {S : Type 0} (code : Code S) (b : OrdinaryState S) (t : ℕ) (l : S) (op : Op) (reply : Reply) (u : ℕ) (from : S) → MayAnswer b t op reply → u ≢ t → b.threads u ≡ live from → threads_after code t l op reply b.threads u ≡ live from
+threads_after-other : {S : Type 0} (code : Code S) (b : OrdinaryState S) (t : ℕ) (l : S) (op : Op) (reply : Reply) (u : ℕ) (from : S) → MayAnswer b t op reply → u ≢ t → b.threads u ≡ live from → threads_after code t l op reply b u ≡ live from
 threads_after-other code b t l (End x) Done u from answered ne h = set_at-other b.threads t (ended x) u ne ∙ h
 threads_after-other code b t l (Start r p) (Number n) u from answered ne h =
     let unborn : b.threads n ≡ unused = answered.1.2 in
@@ -246,55 +246,55 @@ threads_after-other code b t l _ reply u from answered ne h = set_at-other b.thr
 -- what an event tells of a thread that stands somewhere after it: the event itself put it there,
 -- its own thread or one that it began, or it stood there before
 record IsPut {S : Type 0} (code : Code S) (b : OrdinaryState S) (t : ℕ) (l : S) (op : Op) (reply : Reply) (u : ℕ) (m : S) : Type 0 where
-  put : (f : ℕ → Thread S) → threads_after code t l op reply f u ≡ live m
+  put : (s : OrdinaryState S) → threads_after code t l op reply s u ≡ live m
   which : (u ≡ t) ⊎ (b.threads u ≡ unused)
 
-threads_after-put : {S : Type 0} (code : Code S) (b : OrdinaryState S) (t : ℕ) (l : S) (op : Op) (reply : Reply) (u : ℕ) (m : S) (f : ℕ → Thread S) → MayAnswer b t op reply → threads_after code t l op reply f u ≡ live m → IsPut code b t l op reply u m ⊎ ((u ≢ t) × (f u ≡ live m))
-threads_after-put code b t l (End x) Done u m f answered h = elim (same_or_other u t) [
-  | inl e ↦ let dead : ended x ≡ live m = sym (ap (set_at f t (ended x)) e ∙ set_at-hit f t (ended x)) ∙ h in cc
-  | inr ne ↦ inr (ne, sym (set_at-other f t (ended x) u ne) ∙ h)
+threads_after-put : {S : Type 0} (code : Code S) (b : OrdinaryState S) (t : ℕ) (l : S) (op : Op) (reply : Reply) (u : ℕ) (m : S) (s : OrdinaryState S) → MayAnswer b t op reply → threads_after code t l op reply s u ≡ live m → IsPut code b t l op reply u m ⊎ ((u ≢ t) × (s.threads u ≡ live m))
+threads_after-put code b t l (End x) Done u m s answered h = elim (same_or_other u t) [
+  | inl e ↦ let dead : ended x ≡ live m = sym (ap (set_at s.threads t (ended x)) e ∙ set_at-hit s.threads t (ended x)) ∙ h in cc
+  | inr ne ↦ inr (ne, sym (set_at-other s.threads t (ended x) u ne) ∙ h)
 ]
-threads_after-put code b t l (Start r p) (Number n) u m f answered h =
+threads_after-put code b t l (Start r p) (Number n) u m s answered h =
     let child : Thread _ = live (code.child l r) in
     let own : Thread _ = live (code.reply l (Number n)) in
     elim (same_or_other u t) [
       | inl e ↦ inl (record {
         put = λ g. let hit : (x : ℕ → Thread _) → set_at x t own u ≡ own = λ x. ap (set_at x t own) e ∙ set_at-hit x t own in
-            hit (set_at g n child) ∙ sym (hit (set_at f n child)) ∙ h;
+            hit (set_at g.threads n child) ∙ sym (hit (set_at s.threads n child)) ∙ h;
         which = inl e;
       })
       | inr ne ↦ elim (same_or_other u n) [
         | inl e ↦ inl (record {
           put = λ g. let hit : (x : ℕ → Thread _) → set_at (set_at x n child) t own u ≡ child = λ x. set_at-other (set_at x n child) t own u ne ∙ ap (set_at x n child) e ∙ set_at-hit x n child in
-              hit g ∙ sym (hit f) ∙ h;
+              hit g.threads ∙ sym (hit s.threads) ∙ h;
           which = inr (ap b.threads e ∙ answered.1.2);
         })
-        | inr nn ↦ inr (ne, sym (set_at-other f n child u nn) ∙ sym (set_at-other (set_at f n child) t own u ne) ∙ h)
+        | inr nn ↦ inr (ne, sym (set_at-other s.threads n child u nn) ∙ sym (set_at-other (set_at s.threads n child) t own u ne) ∙ h)
       ]
     ]
-threads_after-put code b t l _ reply u m f answered h =
+threads_after-put code b t l _ reply u m s answered h =
     let own : Thread _ = live (code.reply l reply) in
     elim (same_or_other u t) [
       | inl e ↦ inl (record {
         put = λ g. let hit : (x : ℕ → Thread _) → set_at x t own u ≡ own = λ x. ap (set_at x t own) e ∙ set_at-hit x t own in
-            hit g ∙ sym (hit f) ∙ h;
+            hit g.threads ∙ sym (hit s.threads) ∙ h;
         which = inl e;
       })
-      | inr ne ↦ inr (ne, sym (set_at-other f t own u ne) ∙ h)
+      | inr ne ↦ inr (ne, sym (set_at-other s.threads t own u ne) ∙ h)
     ]
 
 -- no thread number is given back
-threads_after-unused : {S : Type 0} (code : Code S) (t : ℕ) (l : S) (op : Op) (reply : Reply) (u : ℕ) (f : ℕ → Thread S) → u ≢ t → threads_after code t l op reply f u ≡ unused → f u ≡ unused
-threads_after-unused code t l (End x) Done u f ne h = sym (set_at-other f t (ended x) u ne) ∙ h
-threads_after-unused code t l (Start r p) (Number n) u f ne h =
+threads_after-unused : {S : Type 0} (code : Code S) (t : ℕ) (l : S) (op : Op) (reply : Reply) (u : ℕ) (s : OrdinaryState S) → u ≢ t → threads_after code t l op reply s u ≡ unused → s.threads u ≡ unused
+threads_after-unused code t l (End x) Done u s ne h = sym (set_at-other s.threads t (ended x) u ne) ∙ h
+threads_after-unused code t l (Start r p) (Number n) u s ne h =
     let child : Thread _ = live (code.child l r) in
     let own : Thread _ = live (code.reply l (Number n)) in
-    let inner : set_at f n child u ≡ unused = sym (set_at-other (set_at f n child) t own u ne) ∙ h in
+    let inner : set_at s.threads n child u ≡ unused = sym (set_at-other (set_at s.threads n child) t own u ne) ∙ h in
     elim (same_or_other u n) [
-      | inl e ↦ let hit : set_at f n child u ≡ child = ap (set_at f n child) e ∙ set_at-hit f n child in cc
-      | inr nn ↦ sym (set_at-other f n child u nn) ∙ inner
+      | inl e ↦ let hit : set_at s.threads n child u ≡ child = ap (set_at s.threads n child) e ∙ set_at-hit s.threads n child in cc
+      | inr nn ↦ sym (set_at-other s.threads n child u nn) ∙ inner
     ]
-threads_after-unused code t l _ reply u f ne h = sym (set_at-other f t (live (code.reply l reply)) u ne) ∙ h
+threads_after-unused code t l _ reply u s ne h = sym (set_at-other s.threads t (live (code.reply l reply)) u ne) ∙ h
 
 -- an event of thread t that is left
 followed_left : {S : Type 0} (code : Code S) (s : ℕ → OrdinaryState S) (all : List Entry) (cut : ℕ → Bool) (k : ℕ) (b : OrdinaryState S) (view : View) (silents : ℕ → ℕ) (t : ℕ) (op : Op) (reply : Reply)
@@ -307,7 +307,7 @@ followed_left {S} code s all cut k b view silents t op reply fits h tied answere
     record {
       tied = tied;
       fresh = λ u is_unused. set_at-at (λ x. x ≡ 0) silents t 0 u (λ _. refl)
-          (λ ne. h.fresh u (threads_after-unused code t fits.at_op op reply u b.threads ne is_unused));
+          (λ ne. h.fresh u (threads_after-unused code t fits.at_op op reply u b ne is_unused));
       stands = stands_next code s all cut k (after code b t fits.at_op op reply) (set_at silents t 0)
           (λ p u l within there between. elim (same_or_other u t) [
             | inl e ↦ absurd (not_both cut k is_left (between k within (omega arith) (subst (λ x. IsStepOf x (slice_get all k)) (sym e) step)))
@@ -316,8 +316,8 @@ followed_left {S} code s all cut k b view silents t op reply fits h tied answere
               | inr doomed ↦ inr doomed
             ]
           ])
-          (λ u l there. elim (threads_after-put code b t fits.at_op op reply u l (s k).threads answered (ap (λ x. x.threads u) (sym fits.leads) ∙ there)) [
-            | inl put ↦ inl (record { from = l; begun = put.put b.threads; quiet = ap (λ n. quiet_steps code n l) (none_silent u put.which) })
+          (λ u l there. elim (threads_after-put code b t fits.at_op op reply u l (s k) answered (ap (λ x. x.threads u) (sym fits.leads) ∙ there)) [
+            | inl put ↦ inl (record { from = l; begun = put.put b; quiet = ap (λ n. quiet_steps code n l) (none_silent u put.which) })
             | inr (ne, stood) ↦ elim (stands_still code s all cut k b silents h.stands u l stood (λ q e. cc)) [
               | inl follows ↦ inl (kept u l ne follows)
               | inr doomed ↦ inr doomed
@@ -432,7 +432,7 @@ along_event code s all cut k rest b view silents t op reply clean grounded trace
     let tied : Tied (s (suc k)) b view = subst (λ x. Tied x b view) (sym fits.leads) (Tied-cut code (s k) b view h.tied t fits.at_op op reply fits.stands can fits.step.answered) in
     on b view silents later traced
     (followed_cut code s all cut k b view silents t (code.reply fits.at_op reply) h tied
-    (ap (λ x. x.threads) fits.leads ∙ threads_after-cut code t fits.at_op op reply (s k).threads can) is
+    (ap (λ x. x.threads) fits.leads ∙ threads_after-cut code t fits.at_op op reply (s k) can) is
     (subst (IsStepOf t) (sym at_k) refl) (λ u q e. cc))
 along_event code s all cut k rest b view silents t op reply clean grounded traced h fits at_k false is agrees later on =
     let (there, comes) = left_comes code s all cut k b view silents t op reply clean grounded traced h fits (agrees refl) is at_k in

@@ -60,7 +60,7 @@ fixed_below opening lies = record {
 
 -- a new object lies there
 step_below : {S : Type 0} (code : Code S) (m : Machine S) (l : S) (op : Op) (reply : Reply) → IsChosen m op reply → LieBelow m.now.objects m.first m.taken
-    → LieBelow (objects_after code l op reply m.now.objects) m.first (taken_after code l op reply m.taken)
+    → LieBelow (objects_after code l op reply m.now) m.first (taken_after code l op reply m.taken)
 step_below code m l (New c n) (Made r) chosen below = record {
   above = below.above;
   none = λ k past.

@@ -12,6 +12,7 @@ use Rattle.op_core.specs.OrdinaryState.{set_at, Thread, unused, live, ended, Ord
 use Rattle.op_core.specs.OrdinaryStep.{IsFreeNumber, CanStep, MayAnswer, threads_after, after}
 use Rattle.op_core.specs.Execution.{Comes, Leads}
 use Rattle.op_core.proofs.ExecutionLemmas.{lines}
+use Rattle.op_core.proofs.GroundedLemmas.{after-threads}
 use Rattle.op_core.proofs.PointwiseLemmas.{same_or_other, set_at-hit, set_at-other}
 use Rattle.ordinary_machine.specs.declared.advance.Advance.{Advance}
 use Rattle.ordinary_machine.specs.declared.advance.Advance.TheVariants.{Silent, Step, Waits, Halts, Ended, Spent}
@@ -75,12 +76,19 @@ both_ended code true f g n x h = refl
 both_ended code false f g n x h = h
 
 further_after : {S : Type 0} (code : Code S) (s : OrdinaryState S) (m : Machine S) (t : ℕ) (l : S) (op : Op) (reply : Reply) → IsFurther code s m → (k : ℕ)
-    → StandsFurther code (threads_after code t l op reply s.threads k) (silents_after t op reply m.silents k) (threads_after code t l op reply m.now.threads k)
+    → StandsFurther code (threads_after code t l op reply s k) (silents_after t op reply m.silents k) (threads_after code t l op reply m.now k)
 further_after code s m t l (End x) Done further k = both_ended code (nat_eq k t) (s.threads k) (m.now.threads k) (m.silents k) x (further.threads k)
 further_after code s m t l (Start r p) (Number n) further k =
     both_live code (nat_eq k t) (set_at s.threads n (live (code.child l r)) k) (set_at m.now.threads n (live (code.child l r)) k) (set_at m.silents n 0 k) (code.reply l (Number n))
     (both_live code (nat_eq k n) (s.threads k) (m.now.threads k) (m.silents k) (code.child l r) (further.threads k))
 further_after code s m t l _ reply further k = both_live code (nat_eq k t) (s.threads k) (m.now.threads k) (m.silents k) (code.reply l reply) (further.threads k)
+
+-- and what they share
+shared_after-further : {S : Type 0} (code : Code S) (s : OrdinaryState S) (m : Machine S) (t : ℕ) (l : S) (op : Op) (reply : Reply) → IsFurther code s m
+    → record (after code m.now t l op reply) { threads = threads_after code t l op reply s } ≡ after code s t l op reply
+shared_after-further code s m t l op reply further =
+    ap (λ x. record (after code m.now t l op reply) { threads = threads_after code t l op reply x }) (sym further.shared)
+    ∙ sym (after-threads code m.now s.threads t l op reply) ∙ ap (λ x. after code x t l op reply) further.shared
 
 -- an answered event comes in the state, and what follows is further than what follows it
 answered_comes : {S : Type 0} (code : Code S) (s : OrdinaryState S) (m new : Machine S) (t : ℕ) (limits : Limits) (e : Event) → IsFurther code s m → IsAnswered code m t limits e new
@@ -91,7 +99,7 @@ answered_comes {S} code s m new t limits e further answered =
     let can = subst (λ (x : OrdinaryState S). CanStep x t e.op) further.shared (can_there code s m t e.op further answered.step.can) in
     let may = subst (λ (x : OrdinaryState S). MayAnswer x t e.op e.reply) further.shared (answers_there code s m t e.op e.reply further answered.step.answered) in
     let there : Comes code s (record e { thread = t }) l = record { from = from; begun = begun; quiet = subst (λ n. quiet_steps code n from ≡ Some l) (sym answered.silent) quiet; step = record { wanted = answered.step.wanted; can = can; answered = may } } in
-    let led : IsFurther code (after code s t l e.op e.reply) (moved code m t l e.op e.reply) = record { shared = ap (λ x. after code x t l e.op e.reply) further.shared; threads = further_after code s m t l e.op e.reply further } in (
+    let led : IsFurther code (after code s t l e.op e.reply) (moved code m t l e.op e.reply) = record { shared = shared_after-further code s m t l e.op e.reply further; threads = further_after code s m t l e.op e.reply further } in (
       l,
       subst (λ n. Comes code s (record e { thread = n }) l) (sym answered.mine) there,
       subst (λ x. IsFurther code (after code s e.thread l e.op e.reply) x) (sym answered.leads) (subst (λ n. IsFurther code (after code s n l e.op e.reply) (moved code m t l e.op e.reply)) (sym answered.mine) led),

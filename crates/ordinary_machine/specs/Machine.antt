@@ -54,13 +54,13 @@ taken_after code l _ _ taken = taken
 abbrev pub shared_after : {S : Type 0} → Code S → Machine S → ℕ → S → Op → Reply → Machine S
 shared_after code m t l op reply = record m {
   now = record m.now {
-    objects = objects_after code l op reply m.now.objects;
-    words = words_after op reply m.now.words;
+    objects = objects_after code l op reply m.now;
+    words = words_after op reply m.now;
     monitors = monitors_after t op reply (view_of m.now);
     waiting = waiting_after t op reply (view_of m.now);
-    classes = classes_after t op reply m.now.classes;
-    starts = starts_after op reply m.now.starts;
-    lines = lines_after op reply m.now.lines;
+    classes = classes_after t op reply m.now;
+    starts = starts_after op reply m.now;
+    lines = lines_after op reply m.now;
   };
   taken = taken_after code l op reply m.taken;
 }
