@@ -12,7 +12,7 @@ ghost use Rattle.turns_tests.specs.Seat.{LoadsNumber, CanMake};
 
 use heap_words::{Area, HeapWord};
 use monitor_core::Why;
-use op_core::ThreadCode;
+use op_core::{Event, Limit, ThreadCode};
 use plain_words::PlainWords;
 use rollback_core::{JThread, Turn, turn};
 use std::alloc::{AllocError, Global};
@@ -113,11 +113,13 @@ impl<C: ThreadCode + Drop> Seat<C> {
     // Gives the thread a turn. A thread that it hands out is answered.
     fn turn(&mut self, words: &mut PlainWords) -> Result<(Came, Option<Seat<C>>), Fail> {
         Ok(match give(&mut self.thread, words)? {
-            Turn::Born(thread, ()) => (Came::Went, Some(Seat { thread })),
+            Turn::Born(thread, ()) => (Came::Went(None), Some(Seat { thread })),
+            Turn::Advanced(event) => (Came::Went(event), None),
+            Turn::Silent | Turn::Probed => (Came::Went(None), None),
             Turn::Lost(_) => (Came::Lost, None),
             Turn::Blocked(why) => (Came::Waits(why), None),
-            Turn::Ended(_) | Turn::Spent(_) => (Came::Stopped, None),
-            Turn::Silent | Turn::Probed | Turn::Advanced(_) => (Came::Went, None),
+            Turn::Ended(class) => (Came::Ended(class), None),
+            Turn::Spent(limit) => (Came::Spent(limit), None),
         })
     }
 }
@@ -125,14 +127,16 @@ impl<C: ThreadCode + Drop> Seat<C> {
 /// What a turn came to.
 #[derive(Clone, Copy)]
 pub enum Came {
-    /// The thread goes on.
-    Went,
+    /// The thread goes on, with the event that others could see, if there was one.
+    Went(Option<Event>),
     /// Its compare-exchange was lost.
     Lost,
     /// It has to wait.
     Waits(Why),
-    /// It made no step: it has ended, or met a limit.
-    Stopped,
+    /// It has ended, normally or by an exception of this class.
+    Ended(Option<u32>),
+    /// It met this limit.
+    Spent(Limit),
 }
 
 /// Gives the thread at a place a turn. A thread that it hands out gets the next place.
@@ -142,7 +146,7 @@ pub fn give_turn<C: ThreadCode + Drop>(
     words: &mut PlainWords,
 ) -> Result<Came, Fail> {
     let Some(seat) = seats.get_mut(place) else {
-        return Ok(Came::Stopped);
+        return Ok(Came::Ended(None));
     };
     let (came, child) = seat.turn(words)?;
     if let Some(child) = child {

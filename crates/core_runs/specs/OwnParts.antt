@@ -1,0 +1,69 @@
+-- What a thread does of a run, and runs in which each thread does what comes next for it.
+use Rattle.std.specs.Prelude.{◌≡◌, ℕ, zero, suc, Bool, true, false, Some, List, [], ◌∷◌, Contains}
+use Rattle.op_core.specs.ThreadCode.{Code, quiet_step}
+use Rattle.step_port.specs.declared.step.Step.{Step}
+use Rattle.step_port.specs.declared.step.Step.TheVariants.{LoadStop, SetStop, Split}
+use Rattle.step_port.specs.Words.{Words}
+use Rattle.thread_automaton.specs.declared.Bounds.{Bounds}
+use Rattle.thread_automaton.specs.declared.Move.TheVariants.{Quiet, Make}
+use Rattle.thread_automaton.specs.ThreadState.{ThreadState}
+use Rattle.thread_automaton.specs.NextMove.{next_move}
+use Rattle.thread_automaton.specs.Told.{after_answer, after_quiet}
+use Rattle.core_runs.specs.WordRuns.{StepMade, RunEntry, IsWordRun, part_of}
+
+-- the host's steps stand beside what its thread does
+abbrev pub is_beside : Step → Bool
+is_beside LoadStop = true
+is_beside SetStop = true
+is_beside step = false
+
+-- the thread x makes so many silent moves, and is then y
+abbrev pub Quietly : {S : Type 0} → Code S → Bounds → ℕ → ThreadState S → ThreadState S → Type 0
+Quietly code b zero x y = x ≡ y
+Quietly {S} code b (suc n) x y =
+    (z : ThreadState S) × (l : S) × Quietly code b n x z × (next_move code b z ≡ Quiet) × (quiet_step code z.local ≡ Some l)
+    × (y ≡ after_quiet z l)
+
+-- the thread z makes the step and is then y; a step of the host leaves it as it is
+abbrev pub MakesOwn : {S : Type 0} → Bool → Code S → Bounds → StepMade → ThreadState S → ThreadState S → Type 0
+MakesOwn true code b m z y = z ≡ y
+MakesOwn false code b m z y = (next_move code b z ≡ Make m.step) × (y ≡ after_answer code b z m.step m.answer)
+
+-- a thread that began as x has made these steps, with silent moves before each, and is y behind the last
+abbrev pub OwnTo : {S : Type 0} → Code S → Bounds → ThreadState S → List StepMade → ThreadState S → Type 0
+OwnTo code b x [] y = x ≡ y
+OwnTo {S} code b x (m ∷ part) y =
+    (w z : ThreadState S) × (n : ℕ) × OwnTo code b x part w × Quietly code b n w z × MakesOwn (is_beside m.step) code b m z y
+
+-- these steps are what a thread does that began as x
+abbrev pub IsOwnPart : {S : Type 0} → Code S → Bounds → ThreadState S → List StepMade → Type 0
+IsOwnPart {S} code b x part = (y : ThreadState S) × OwnTo code b x part y
+
+-- a thread's number, and the object and the priority with which it began
+pub record Birth : Type 0 where
+  pub number : ℕ
+  pub object : ℕ
+  pub priority : ℕ
+
+abbrev pub births_after : Step → List Birth → List Birth
+births_after (Split n r p) births = record { number = n; object = r; priority = p } ∷ births
+births_after step births = births
+
+-- the threads that have begun, main among them
+abbrev pub births : Birth → List RunEntry → List Birth
+births main [] = main ∷ []
+births main (e ∷ run) = births_after e.made.step (births main run)
+
+-- a thread makes steps only once it has begun
+abbrev pub StepOnceBegun : Birth → List RunEntry → Type 0
+StepOnceBegun main [] = Unit {0}
+StepOnceBegun main (e ∷ run) =
+    StepOnceBegun main run × ((birth : Birth) × Contains (births main run) birth × (birth.number ≡ e.thread))
+
+-- A run of threads on the words w: each step is answered by the words, and the steps of each thread are what it does.
+-- `first` is the state in which a thread begins.
+pub record IsCoreRun {S : Type 0} (code : Code S) (b : Bounds) (first : Birth → ThreadState S) (main : Birth) (w : Words)
+    (run : List RunEntry) : Type 0 where
+  pub words : IsWordRun w run
+  pub begun : StepOnceBegun main run
+  pub own : (birth : Birth) → Contains (births main run) birth → IsOwnPart code b (first birth) (part_of birth.number run)
