@@ -1,2 +1,3 @@
-pub mod Evaluation
-pub mod Execution
+pub mod Frames
+pub mod Effects
+pub mod Steps

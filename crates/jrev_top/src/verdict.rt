@@ -13,11 +13,11 @@ use crate::request::{Request, WordsRefusal, words_of};
 use assembly_text::MOST_BYTES;
 use class_make::{MakeRefusal, assemble};
 use class_read::{StraightRefusal, straight};
-use interp_local::run_straight;
 use jr_ports::{ClassDir, DirFault, Source, SourceFault};
 use op_core::NoMemory;
 use rows::{Bytes, Rows};
 use std::alloc::Global;
+use straight_code::run_straight;
 
 /// What the program answers.
 #[derive(Drop)]

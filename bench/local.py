@@ -1,0 +1,204 @@
+#!/usr/bin/env python3
+"""Times instructions that need no operation beside `java -Xint`, over one loop of the same class file.
+
+usage: bench/local.py [RUNS]     at the top of the repository; javac and java have to be there
+
+It makes a program in a temporary folder, over copies of the crates, and proves and builds it there. Both run 20,000,000
+rounds of `s = (s ^ i) * 31 + i`, by turns, and each takes the time of the loop alone. What is printed is the least of
+the runs of each, in nanoseconds a round, and how many times as long as java ours takes.
+"""
+import os
+import shutil
+import subprocess
+import sys
+import tempfile
+
+ROUNDS = 20000000
+JAVA = """public class Loop {
+    static int loop(int n) {
+        int s = 0;
+        for (int i = 0; i < n; i++) {
+            s = (s ^ i) * 31 + i;
+        }
+        return s;
+    }
+
+    public static void main(String[] words) {
+        int n = Integer.parseInt(words[0]);
+        long begin = System.nanoTime();
+        int s = loop(n);
+        long nanos = System.nanoTime() - begin;
+        System.out.println(s);
+        System.out.println(nanos);
+    }
+}
+"""
+MAIN = """//! `local_bench FILE ROUNDS` times the second method of a class file, one step after the other.
+#![tactic(auto)]
+
+ghost use Rattle.code_decode.specs.Method.{StandsForFile};
+
+use anyhow::Result;
+use class_read::{ClassFile, MOST_BYTES, read_class};
+use code_decode::{Code, Instr, Target, decode_class};
+use frame_snapshot::{Frames, NewFrame, Stage};
+use interp_local::{Constant, Constants, LocalStep, local_step};
+use link_types::MethodId;
+use std::env;
+use std::fs::File;
+use std::io::Read;
+use std::rt::{Clock, Env, Files};
+use std::time::Instant;
+
+const METHOD: MethodId = MethodId {
+    class: 28,
+    method: 1,
+};
+
+struct NoConstants;
+
+impl Constants for NoConstants {
+    ghost use Rattle.std.specs.Prelude.{[]};
+
+    ghost units = { \u03bb _. [] };
+
+    fn constant(&self, _class: u32, _index: u16) -> Option<Constant> {
+        None
+    }
+}
+
+fn run(steps: &[Instr<Target>], frames: &mut Frames) {
+    for _ in 0..u64::MAX {
+        match local_step(&NoConstants, steps, frames) {
+            LocalStep::Moved => {}
+            _ => return,
+        }
+    }
+}
+
+fn times<R: Print + Clock + AllocGlobal>(rt: &R, code: &Code, rounds: u32) -> Result<()> {
+    let mut frames = Frames::launch(rt.alloc(), METHOD, Stage::Begun, 1)?;
+    if !frames.has_room(1) {
+        return Ok(());
+    }
+    frames.push_word(rounds);
+    let call = NewFrame {
+        method: METHOD,
+        monitor: 0,
+        arguments: 1,
+        max_locals: code.max_locals,
+        max_stack: code.max_stack,
+        caller: Stage::Launched,
+    };
+    if code.max_locals == 0 || frames.push(call).is_err() {
+        return Ok(());
+    }
+    let begin = Instant::now(rt)?;
+    run(code.steps.as_slice(), &mut frames);
+    let nanos = begin.elapsed(rt)?.as_nanos();
+    if frames.has(1) {
+        let answer = frames.word(0).cast_signed();
+        println!(rt; "{answer}")?;
+    }
+    println!(rt; "{nanos}")?;
+    Ok(())
+}
+
+fn times_second<R: Print + Clock + AllocGlobal>(rt: &R, file: ClassFile, rounds: u32) -> Result<()>
+    requires { StandsForFile file }
+{
+    if let Ok(unit) = decode_class(rt.alloc(), file) {
+        if let Some(Some(code)) = unit.codes.as_slice().get(1) {
+            return times(rt, code, rounds);
+        }
+    }
+    Ok(())
+}
+
+fn times_class<R: Print + Clock + AllocGlobal>(rt: &R, bytes: &[u8], rounds: u32) -> Result<()> {
+    match read_class(rt.alloc(), bytes) {
+        Ok(file) => times_second(rt, file, rounds),
+        Err(_) => Ok(()),
+    }
+}
+
+fn main(rt: HostRuntime) -> Result<()> {
+    let mut bytes = Vec::new(rt.alloc());
+    let mut rounds = 0;
+    for word in env::args(&rt)?.skip(1) {
+        match word.as_str().parse::<u32>() {
+            Ok(number) => rounds = number,
+            Err(_) => {
+                File::open(&rt, word.as_str())?
+                    .take(MOST_BYTES as u64)
+                    .read_to_end(&mut bytes)?;
+            }
+        }
+    }
+    times_class(&rt, bytes.as_slice(), rounds)
+}
+"""
+ANSWERS = """use Rattle.std.proofs.Common.{arith}
+use Rattle.local_bench.proofs.times_class.Goals as goal
+
+pub times_second-requires : goal.times_second-requires
+times_second-requires g c = (c.args.bytes.now, \u03bb i. omega (arith, c.type_inv.bytes i), c.in-Ok.ensures.found)
+"""
+
+
+def crates_below(lines, name):
+    """The lines of a crate and of those that it stands on."""
+    below = dict(line.strip().split(":") for line in lines if ":" in line)
+    names = [name] + below[name].split()
+    return {name: below[name] for name in names if name in below}
+
+
+def write(folder, path, text):
+    path = os.path.join(folder, path)
+    os.makedirs(os.path.dirname(path), exist_ok=True)
+    with open(path, "w", encoding="utf-8") as file:
+        file.write(text)
+
+
+def make(top, folder):
+    """Puts the crates, the program and the class into a folder."""
+    with open(os.path.join(top, "crates.txt")) as file:
+        crates = crates_below(file.readlines(), "interp_local")
+    for crate in crates:
+        shutil.copytree(os.path.join(top, "crates", crate), os.path.join(folder, "crates", crate), symlinks=True)
+    write(folder, "crates/local_bench/src/main.rt", MAIN)
+    write(folder, "crates/local_bench/proofs/times_class/Answers.antt", ANSWERS)
+    lines = [f"{crate}:{below}" for crate, below in crates.items()]
+    lines.append("local_bench: anyhow class_read code_decode frame_snapshot interp_local link_types")
+    write(folder, "crates.txt", "\n".join(lines) + "\n")
+    write(folder, "Loop.java", JAVA)
+    subprocess.run(["javac", "--release", "8", "-Xlint:-options", "Loop.java"], cwd=folder, check=True)
+
+
+def timed(command):
+    """What a run answers, and its nanoseconds."""
+    answer, nanos = subprocess.run(command, stdout=subprocess.PIPE, text=True, check=True).stdout.split()
+    return answer, int(nanos)
+
+
+def main():
+    runs = int(sys.argv[1]) if len(sys.argv) > 1 else 5
+    with tempfile.TemporaryDirectory() as folder:
+        make(os.getcwd(), folder)
+        crate = os.path.join(folder, "crates", "local_bench")
+        built = subprocess.run(["rt", "run"], cwd=crate, stdout=subprocess.PIPE, stderr=subprocess.STDOUT, text=True)
+        if built.returncode != 0:
+            sys.exit(built.stdout[-2000:])
+        ours = [os.path.join(crate, "out", "local_bench"), os.path.join(folder, "Loop.class"), str(ROUNDS)]
+        javas = ["java", "-Xint", "-cp", folder, "Loop", str(ROUNDS)]
+        seen = [(timed(ours), timed(javas)) for _ in range(runs)]
+        if len({answer for pair in seen for answer, _ in pair}) != 1:
+            sys.exit("the answers differ")
+        our_least, java_least = (min(pair[side][1] for pair in seen) for side in (0, 1))
+        print(f"jrev         {our_least / ROUNDS:8.1f} ns a round")
+        print(f"java -Xint   {java_least / ROUNDS:8.1f} ns a round")
+        print(f"ratio        {our_least / java_least:8.2f}")
+
+
+if __name__ == "__main__":
+    main()

@@ -1,0 +1,2 @@
+pub mod FrameStack
+pub mod Layout

@@ -1,0 +1,26 @@
+//! Where a frame lies.
+
+use crate::stage::Stage;
+use link_types::MethodId;
+
+/// A frame: what it executes, and where its words lie. Its locals are those from `base` on, its operand stack those from
+/// `floor` on, up to `top`; the stack may grow up to `limit`.
+#[derive(Clone, Copy)]
+pub struct Activation {
+    pub method: MethodId,
+    pub step: usize,
+    pub stage: Stage,
+    pub monitor: u32,
+    pub base: usize,
+    pub floor: usize,
+    pub top: usize,
+    pub limit: usize,
+}
+
+/// A copy of the top frame: its words begin at a place of the kept words, and so many frames lay below it.
+#[derive(Clone, Copy)]
+pub struct Save {
+    pub here: Activation,
+    pub from: usize,
+    pub depth: usize,
+}

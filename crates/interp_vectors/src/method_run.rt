@@ -1,0 +1,99 @@
+//! Running a method that takes no arguments and calls nothing.
+
+use code_decode::{Code, Instr, Plain, Target, ValueKind, What};
+use frame_snapshot::{Frames, NewFrame, PushRefusal, Stage};
+use interp_local::{Constant, Constants, LocalStep, local_step};
+use link_types::MethodId;
+use std::alloc::{AllocError, Global};
+
+/// How many instructions a method executes at most.
+const MOST_STEPS: usize = 1_000_000;
+
+const METHOD: MethodId = MethodId {
+    class: 28,
+    method: 0,
+};
+
+/// A program without constants.
+struct NoConstants;
+
+impl Constants for NoConstants {
+    ghost use Rattle.std.specs.Prelude.{[]};
+
+    ghost units = { λ _. [] };
+
+    fn constant(&self, _class: u32, _index: u16) -> Option<Constant> {
+        None
+    }
+}
+
+/// What came of a method.
+#[derive(Clone, Copy)]
+pub enum Answer {
+    Nothing,
+    Int(i32),
+    Long(i64),
+    Reference(u32),
+    /// An exception of this class.
+    Thrown(u32),
+    /// It doesn't go on at this instruction.
+    Stopped(usize),
+    /// It executed the most instructions that it may.
+    Endless,
+}
+
+/// The answer of a frame that stands at a return of a value.
+fn returned(frames: &Frames, kind: ValueKind) -> Option<Answer> {
+    match kind {
+        ValueKind::Int if frames.has(1) => Some(Answer::Int(frames.word(0).cast_signed())),
+        ValueKind::Reference if frames.has(1) => Some(Answer::Reference(frames.word(0))),
+        ValueKind::Long if frames.has(2) => {
+            let number = u64::from(frames.word(0)) << 32 | u64::from(frames.word(1));
+            Some(Answer::Long(number.cast_signed()))
+        }
+        _ => None,
+    }
+}
+
+/// The answer of a frame that doesn't go on.
+fn stopped(steps: &[Instr<Target>], frames: &Frames) -> Answer {
+    let step = frames.step();
+    let answer = match steps.get(step) {
+        Some(instruction) => match instruction.what {
+            What::Plain(Plain::Return(Some(kind))) => returned(frames, kind),
+            What::Plain(Plain::Return(None)) => Some(Answer::Nothing),
+            _ => None,
+        },
+        None => None,
+    };
+    answer.unwrap_or(Answer::Stopped(step))
+}
+
+fn run_steps(steps: &[Instr<Target>], frames: &mut Frames) -> Answer {
+    for _ in 0..MOST_STEPS {
+        match local_step(&NoConstants, steps, frames) {
+            LocalStep::Moved => {}
+            LocalStep::Throw(class) => return Answer::Thrown(class),
+            LocalStep::Other => return stopped(steps, frames),
+        }
+    }
+    Answer::Endless
+}
+
+/// Runs a method up to its return.
+pub fn run_method(alloc: Global, code: &Code) -> Result<Answer, AllocError> {
+    let mut frames = Frames::launch(alloc, METHOD, Stage::Begun, 2)?;
+    let call = NewFrame {
+        method: METHOD,
+        monitor: 0,
+        arguments: 0,
+        max_locals: code.max_locals,
+        max_stack: code.max_stack,
+        caller: Stage::Launched,
+    };
+    match frames.push(call) {
+        Ok(()) => Ok(run_steps(code.steps.as_slice(), &mut frames)),
+        Err(PushRefusal::Full) => Ok(Answer::Stopped(0)),
+        Err(PushRefusal::NoMemory) => Err(AllocError),
+    }
+}

@@ -1,0 +1,11 @@
+//! Facts about tiny programs: what the definitions of `java_rows` come to there.
+//!
+//! Each function does nothing: its contract is the fact.
+#![tactic(auto)]
+
+mod one;
+
+pub use one::{
+    a_synchronized_main_enters_its_class, a_zero_divisor_is_an_exception,
+    five_steps_lead_to_a_line, the_class_is_initialized_first,
+};

@@ -1,0 +1,13 @@
+pub mod Numbers
+pub mod Program
+pub mod Plan
+pub mod LocalRows
+pub mod Objects
+pub mod Throws
+pub mod Natives
+pub mod Calls
+pub mod Initialization
+pub mod Rows
+pub mod Thread
+pub mod Start
+pub mod Laws
