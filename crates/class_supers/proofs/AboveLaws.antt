@@ -9,13 +9,13 @@ use Rattle.class_read.proofs.FindLaws.{take_next}
 use Rattle.class_supers.specs.Above.{names, names_at}
 use Rattle.class_supers.specs.declared.headers.ClassHeader.{ClassHeader}
 
-last_at : {X : Type 0} (xs : List X) (x : X) (j : ℕ) → j ≡ length xs → slice_get (xs ++ x ∷ []) j ≡ Some x
+pub last_at : {X : Type 0} (xs : List X) (x : X) (j : ℕ) → j ≡ length xs → slice_get (xs ++ x ∷ []) j ≡ Some x
 last_at [] x zero e = refl
 last_at [] x (suc j) e = absurd (omega arith)
 last_at (y ∷ ys) x zero e = absurd (omega arith)
 last_at (y ∷ ys) x (suc j) e = last_at ys x j (omega arith)
 
-before_at : {X : Type 0} (xs ys : List X) (j : ℕ) → j < length xs → slice_get (xs ++ ys) j ≡ slice_get xs j
+pub before_at : {X : Type 0} (xs ys : List X) (j : ℕ) → j < length xs → slice_get (xs ++ ys) j ≡ slice_get xs j
 before_at [] ys j lt = absurd (omega arith)
 before_at (x ∷ xs) ys zero lt = refl
 before_at (x ∷ xs) ys (suc j) lt = before_at xs ys j (omega arith)

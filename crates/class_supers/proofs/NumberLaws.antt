@@ -11,6 +11,7 @@ use Rattle.builtin_world.specs.BuiltinClass.{ClassRow, rows, shown_class}
 use Rattle.builtin_world.specs.Library.{library}
 use Rattle.builtin_world.specs.declared.BuiltinClass.{BuiltinClass}
 use Rattle.class_supers.proofs.ClassLaws.{Shows, shows, library_more, library_count}
+use Rattle.link_laws.proofs.Lists.{next, position_next}
 use Rattle.link_rules.specs.Classes.{NamedClass, class_number, library_class}
 use Rattle.class_supers.specs.Numbers.{with_number, AreNumbersOf}
 
@@ -36,19 +37,6 @@ added old new text n changes none q = by_cases (cases_Bool (bytes_eq text q))
 abbrev number_from : Option ℕ → ℕ
 number_from o = option_map_or (λ i. suc i) o 0
 
-abbrev next : Option ℕ → Bool → ℕ → Option ℕ
-next None passes n = cond passes (Some n) None
-next (Some m) passes n = Some m
-
-position_push : {X : Type 0} (test : X → Bool) (k : ℕ) (xs : List X) (x : X) → position_from test k (xs ++ x ∷ []) ≡ next (position_from test k xs) (test x) (k + length xs)
-position_push test k [] x = let sum : k ≡ k + 0 = omega arith in ap (λ (m : ℕ). cond (test x) (Some m) None) sum
-position_push test k (y ∷ ys) x =
-    let sum : k + 1 + length ys ≡ k + suc (length ys) = omega arith in
-    elim (test y) as (λ b. cond b (Some k) (position_from test (k + 1) (ys ++ x ∷ [])) ≡ next (cond b (Some k) (position_from test (k + 1) ys)) (test x) (k + suc (length ys))) [
-      | true ↦ refl
-      | false ↦ position_push test (k + 1) ys x ∙ ap (next (position_from test (k + 1) ys) (test x)) sum
-    ]
-
 number_next : (o : Option ℕ) (passes : Bool) (n : ℕ) → number_from (next o passes n) ≡ (if number_from o == 0 && passes then suc n else number_from o)
 number_next None true n = refl
 number_next None false n = refl
@@ -61,7 +49,7 @@ number_next (Some m) passes n = elim (cases_Bool (suc m == 0)) [
 pub class_number_push : (cs : List NamedClass) (c : NamedClass) (q : List ℕ) → class_number (cs ++ c ∷ []) q ≡ with_number (class_number cs) c.name (suc (length cs)) q
 class_number_push cs c q =
     let sum : 0 + length cs ≡ length cs = omega arith in
-    ap number_from (position_push (λ (k : NamedClass). bytes_eq k.name q) 0 cs c)
+    ap number_from (position_next (λ (k : NamedClass). bytes_eq k.name q) 0 cs c)
     ∙ number_next (position_from (λ (k : NamedClass). bytes_eq k.name q) 0 cs) (bytes_eq c.name q) (0 + length cs)
     ∙ ap (λ n. with_number (class_number cs) c.name (suc n) q) sum
 

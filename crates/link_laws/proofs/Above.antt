@@ -38,7 +38,7 @@ any_is (x ∷ xs) d e =
 
 -- ---- the interfaces of a class, whatever the bound
 
-interfaces_none : (cs : List NamedClass) (n : ℕ) → superinterfaces_within cs n 0 ≡ []
+pub interfaces_none : (cs : List NamedClass) (n : ℕ) → superinterfaces_within cs n 0 ≡ []
 interfaces_none cs zero = refl
 interfaces_none cs (suc n) = refl
 
@@ -58,7 +58,7 @@ module _ (cs : List NamedClass) (order : List ℕ) (first : PutsSupersFirst cs o
           again g.0 (suc j) n m (omega arith) g.2 (omega arith) (omega arith)
 
   -- the interfaces of a class, each before those above it
-  interfaces_step : (c : ℕ) → c ≢ 0 → c ≤ length cs → superinterfaces cs c ≡ flat_map (λ i. i ∷ superinterfaces cs i) (interfaces_of cs c)
+  pub interfaces_step : (c : ℕ) → c ≢ 0 → c ≤ length cs → superinterfaces cs c ≡ flat_map (λ i. i ∷ superinterfaces cs i) (interfaces_of cs c)
   interfaces_step c ne within =
       let h : (i : ℕ) × (slice_get order i ≡ Some c) = first.whole c ne within in
       let lt : h.0 < length order = slice_get_within order h.0 c h.1 in

@@ -21,12 +21,12 @@ begins b name e = go (is_bracket b) e
     go true e = refl
     go false e = absurd (true≢false (sym e))
 
-itself : (name : List ℕ) → is_array_name name ≡ true → Contains (with_elements name) name
+pub itself : (name : List ℕ) → is_array_name name ≡ true → Contains (with_elements name) name
 itself [] e = absurd (true≢false (sym e))
 itself (b ∷ name) e =
     subst (λ t. Contains (cond t ((b ∷ name) ∷ with_elements name) []) (b ∷ name)) (sym (begins b name e)) (contains_head (b ∷ name) (with_elements name))
 
-closed : (root name : List ℕ) → Contains (with_elements root) name → is_array_name (drop 1 name) ≡ true → Contains (with_elements root) (drop 1 name)
+pub closed : (root name : List ℕ) → Contains (with_elements root) name → is_array_name (drop 1 name) ≡ true → Contains (with_elements root) (drop 1 name)
 closed [] name h e = absurd (contains_none name h)
 closed (b ∷ root) name h e = go (is_bracket b) h (closed root name)
   where
@@ -41,7 +41,7 @@ closed (b ∷ root) name h e = go (is_bracket b) h (closed root name)
 
 -- ---- what is in order was there before
 
-put_cases : (text : List ℕ) (others : List (List ℕ)) (y : List ℕ) → Contains (put_in_order text others) y → (text ≡ y) ⊎ Contains others y
+pub put_cases : (text : List ℕ) (others : List (List ℕ)) (y : List ℕ) → Contains (put_in_order text others) y → (text ≡ y) ⊎ Contains others y
 put_cases text [] y h = contains_cases text [] y h
 put_cases text (x ∷ xs) y h = go (is_before text x) (bytes_eq text x) h (put_cases text xs y)
   where
@@ -53,7 +53,7 @@ put_cases text (x ∷ xs) y h = go (is_before text x) (bytes_eq text x) h (put_c
       | inr c ↦ elim (later c) [ inl same ↦ inl same | inr d ↦ inr (contains_tail x xs y d) ]
     ]
 
-put_before : (texts known : List (List ℕ)) (y : List ℕ) → Contains (fold (λ sorted text. put_in_order text sorted) known texts) y → Contains texts y ⊎ Contains known y
+pub put_before : (texts known : List (List ℕ)) (y : List ℕ) → Contains (fold (λ sorted text. put_in_order text sorted) known texts) y → Contains texts y ⊎ Contains known y
 put_before [] known y h = inr h
 put_before (t ∷ texts) known y h =
     elim (put_before texts (put_in_order t known) y h) [

@@ -120,7 +120,7 @@ words_are cs c = refl
 
 module _ (cs : List NamedClass) (order : List ℕ) (first : PutsSupersFirst cs order) where
   -- a class of a file adds its own words to those of its superclass
-  words_of_file : (c : ℕ) → 27 < c → c ≤ length cs → instance_words cs c ≡ instance_words cs (superclass_of cs c) + own_words false (fields_of cs c)
+  pub words_of_file : (c : ℕ) → 27 < c → c ≤ length cs → instance_words cs c ≡ instance_words cs (superclass_of cs c) + own_words false (fields_of cs c)
   words_of_file c read within =
       let ne : c ≢ 0 = λ e. omega arith in
       words_are cs c
@@ -160,7 +160,7 @@ module _ (cs : List NamedClass) (order : List ℕ) (first : PutsSupersFirst cs o
         let more : sum_by (added_words cs) (superclasses cs c) ≡ 0 = library_adds c ne within low in
         omega arith
 
-    words_of_none : instance_words cs 0 ≡ 0
+    pub words_of_none : instance_words cs 0 ≡ 0
     words_of_none = words_are cs 0 ∙ ap (words_on cs) (up_none cs (length cs)) ∙ words_nothing cs
 
     pub library_grows_by : ((c : ℕ) → c ≢ 0 → c ≤ 27 → built_in_words (superclass_of cs c) ≤ built_in_words c) → (c : ℕ) → c ≢ 0 → c ≤ length cs → c ≤ 27 → instance_words cs (superclass_of cs c) ≤ instance_words cs c
@@ -288,7 +288,7 @@ library_supers : (us : List ClassUnit) → map (λ c. nat_le (superclass_of (cla
 unfolding library
 library_supers us = refl
 
-library_stays : (us : List ClassUnit) (c : ℕ) → c ≤ 27 → superclass_of (classes_of us) c ≤ 27
+pub library_stays : (us : List ClassUnit) (c : ℕ) → c ≤ 27 → superclass_of (classes_of us) c ≤ 27
 library_stays us c low =
     leb-true (superclass_of (classes_of us) c) 27
     (in_library 0 28 (λ c. nat_le (superclass_of (classes_of us) c) 27) (λ _. true) (library_supers us) c (omega arith) (omega arith))

@@ -135,3 +135,29 @@ position_of_text texts text h = go (position_from (bytes_eq text) 0 texts) refl
         let f : Found (bytes_eq text) texts i = found_at (bytes_eq text) texts i e in
         let same : text ≡ f.item = (bytes_eq-Decides text f.item).0 f.passes in
         f.there ∙ ap (λ x. Some x) (sym same)
+
+-- the first that passes stays where a list grows
+pub position_stays : {X : Type 0} (test : X → Bool) (n i : ℕ) (xs ys : List X) → position_from test n xs ≡ Some i → position_from test n (xs ++ ys) ≡ Some i
+position_stays test n i [] ys e = absurd (none-some i e)
+position_stays test n i (x ∷ xs) ys e = elim (test x) as (λ b. cond b (Some n) (position_from test (n + 1) xs) ≡ Some i → cond b (Some n) (position_from test (n + 1) (xs ++ ys)) ≡ Some i) [
+  | true ↦ λ e. e
+  | false ↦ λ e. position_stays test (n + 1) i xs ys e
+] e
+
+-- what is found with one item more behind the others
+abbrev pub next : Option ℕ → Bool → ℕ → Option ℕ
+next None passes n = cond passes (Some n) None
+next (Some m) passes n = Some m
+
+pub position_next : {X : Type 0} (test : X → Bool) (n : ℕ) (xs : List X) (x : X) → position_from test n (xs ++ x ∷ []) ≡ next (position_from test n xs) (test x) (n + length xs)
+position_next test n [] x = let sum : n ≡ n + 0 = omega arith in ap (λ (m : ℕ). cond (test x) (Some m) None) sum
+position_next test n (y ∷ ys) x =
+    let sum : n + 1 + length ys ≡ n + suc (length ys) = omega arith in
+    elim (test y) as (λ b. cond b (Some n) (position_from test (n + 1) (ys ++ x ∷ [])) ≡ next (cond b (Some n) (position_from test (n + 1) ys)) (test x) (n + suc (length ys))) [
+      | true ↦ refl
+      | false ↦ position_next test (n + 1) ys x ∙ ap (next (position_from test (n + 1) ys) (test x)) sum
+    ]
+
+-- behind others, none of which passes, an item is found at their count
+pub position_push : {X : Type 0} (test : X → Bool) (n : ℕ) (xs : List X) (x : X) → position_from test n xs ≡ None → position_from test n (xs ++ x ∷ []) ≡ cond (test x) (Some (n + length xs)) None
+position_push test n xs x none = position_next test n xs x ∙ ap (λ o. next o (test x) (n + length xs)) none

@@ -21,7 +21,7 @@ row_behind : (xs ys : List ObjectAtStart) (a b c : ℕ) → LieInARow a xs b →
 row_behind [] ys a b c one other = subst (λ x. LieInARow x ys c) (sym one) other
 row_behind (o ∷ xs) ys a b c one other = (one.0, row_behind xs ys (a + 2 + length o.words) b c one.1 other)
 
-range_more : (a n : ℕ) (f : ℕ → ℕ) → sum_by f (range_with_len a (suc n)) ≡ sum_by f (range_with_len a n) + f (a + n)
+pub range_more : (a n : ℕ) (f : ℕ → ℕ) → sum_by f (range_with_len a (suc n)) ≡ sum_by f (range_with_len a n) + f (a + n)
 range_more a zero f =
     let one : sum_by f (a ∷ []) ≡ f a + sum_by f [] = sum_by-cons f a [] in
     let same : a + 0 ≡ a = omega arith in

@@ -1,0 +1,4 @@
+pub mod Positions
+pub mod Rows
+pub mod Tables
+pub mod Descriptors

@@ -1,0 +1,8 @@
+//! Arrays by dimensions and bases.
+
+/// An array of so many dimensions, from 1 to 255, and the place of the type of its innermost elements among the bases.
+#[derive(Clone, Copy)]
+pub struct ArrayPlace {
+    pub dimensions: u8,
+    pub base: u32,
+}

@@ -1,0 +1,27 @@
+-- The rules of members over all files.
+use Rattle.std.specs.Prelude.{ℕ, Bool, true, false, not, ◌||◌, List, Option, None, Some, option_map}
+use Rattle.access_flags.specs.declared.TheConstants.{ABSTRACT, PUBLIC}
+use Rattle.access_flags.specs.Flags.{has}
+use Rattle.rules.specs.Rules.{Rules, each}
+use Rattle.code_decode.specs.declared.code.ClassUnit.{ClassUnit}
+use Rattle.link_types.specs.declared.refusal.LinkRefusal.{LinkRefusal}
+use Rattle.link_rules.specs.Classes.{NamedClass, NamedMember, classes_of, class_of_unit}
+use Rattle.link_rules.specs.Members.{Declared, selected, signature_of}
+use Rattle.link_members.specs.declared.implementations.Asked.{Asked}
+use Rattle.link_members.specs.declared.implementations.Asked.TheVariants.{Implemented, Public}
+use Rattle.link_rules.specs.LinkRules.{members_rules}
+
+-- the fields and methods of each file are such as may be declared (JVMS 4.5, 4.6, 5.4.5)
+abbrev pub all_members_rules : List ClassUnit → Rules LinkRefusal
+all_members_rules us = each (λ k u. members_rules (classes_of us) k (class_of_unit u)) us
+
+-- what is asked of a method of these flags, or where there is none
+abbrev pub answers : Asked → Option ℕ → Bool
+answers Implemented None = false
+answers Implemented (Some flags) = not (has flags ABSTRACT)
+answers Public None = true
+answers Public (Some flags) = has flags ABSTRACT || has flags PUBLIC
+
+-- the method that objects of a class answer with is as asked
+abbrev pub is_answered : Asked → List NamedClass → ℕ → NamedMember → Bool
+is_answered asked cs c m = answers asked (option_map (λ (d : Declared). d.member.flags) (selected cs c (signature_of m)))

@@ -1,0 +1,5 @@
+pub mod RowLaws
+pub mod SourceLaws
+pub mod FoundLaws
+pub mod ReferenceLaws
+pub mod FinalLaws
