@@ -7,5 +7,5 @@ mod one;
 
 pub use one::{
     a_synchronized_main_enters_its_class, a_zero_divisor_is_an_exception,
-    five_steps_lead_to_a_line, the_class_is_initialized_first,
+    five_steps_lead_to_a_line, the_class_is_initialized_first, threads_begin_at_run,
 };

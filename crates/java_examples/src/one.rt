@@ -1,11 +1,22 @@
 //! The first thread of programs of one class.
 
-ghost use Rattle.std.specs.Prelude.{◌≡◌, true, pos, None, Some, [], ◌∷◌, ◌++◌};
+ghost use Rattle.std.specs.Prelude.{◌≡◌, true, pos, None, Some, [], ◌∷◌, ◌++◌, codes, option_map};
 ghost use Rattle.op_core.specs.declared.Line.TheVariants as lines;
 ghost use Rattle.op_core.specs.declared.Next.TheVariants.{Want};
 ghost use Rattle.op_core.specs.declared.Op.TheVariants.{Init, InitDone, Print, New, Enter, Exit, End};
 ghost use Rattle.op_core.specs.declared.Reply.TheVariants.{Claimed, Done, Bad, Made, NotOwner};
+ghost use Rattle.builtin_world.specs.declared.Native.TheVariants.{ThreadRun};
+ghost use Rattle.link_rules.specs.Classes.{NamedMember, classes_of};
+ghost use Rattle.link_rules.specs.Methods.{native_of, method_named};
+ghost use Rattle.java_rows.specs.Program.{thread_run, runnable_run};
 ghost use Rattle.java_examples.specs.One.{wanted, prints_sum, division, code_of, takes_all, initialized, plain, synchronized, silent, told};
+
+/// The methods by which threads begin are `run` of Thread and of Runnable.
+#[tactic(auto, unfolding(builtin_world::specs::Library::library))]
+pub fn threads_begin_at_run()
+    ensures thread { native_of thread_run ≡ Some ThreadRun }
+    ensures runnable { option_map (λ (m : NamedMember). m.name) (method_named (classes_of []) runnable_run) ≡ Some (codes "run") }
+{}
 
 /// The class of main is claimed and, since it has no initializer, ready at once. One whose initialization failed before
 /// is a NoClassDefFoundError, of which the thread dies.
