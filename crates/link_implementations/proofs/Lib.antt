@@ -1,0 +1,4 @@
+mod OpenLaws
+mod RuleLaws
+mod SignatureLaws
+mod TestLaws
