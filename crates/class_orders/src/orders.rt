@@ -17,7 +17,7 @@ use std::marker::Model;
 /// The orders of all classes of a program. Contracts see its files.
 #[derive(Drop)]
 pub struct ClassOrders<'a> {
-    supers: &'a Supers<'a>,
+    supers: Supers<'a>,
     orders: Vec<ClassOrder>,
 }
 
@@ -29,9 +29,9 @@ impl<'a> Model for ClassOrders<'a> {
 
     ghost Value = { List ClassUnit };
 
-    ghost view = { λ o. o.supers.now };
+    ghost view = { λ o. o.supers };
 
-    ghost invariant = { λ o. AreOrders (classes_of o.supers.now) o.orders.items };
+    ghost invariant = { λ o. AreOrders (classes_of o.supers) o.orders.items };
 }
 
 /// The orders of so many classes, all empty.
@@ -98,19 +98,19 @@ impl<'a> ClassOrders<'a> {
     ///
     /// # Errors
     /// Where there is no memory.
-    pub fn new(alloc: Global, supers: &'a Supers<'a>) -> Result<Self, AllocError>
-        requires { (hierarchy_rules supers.now).Hold }
-        ensures { IfOk result (λ orders. orders ≡ supers.now) }
+    pub fn new(alloc: Global, supers: Supers<'a>) -> Result<Self, AllocError>
+        requires { (hierarchy_rules supers).Hold }
+        ensures { IfOk result (λ orders. orders ≡ supers.entry) }
     {
-        let orders = all_orders(alloc, supers)?;
+        let orders = all_orders(alloc, &supers)?;
         Ok(ClassOrders { supers, orders })
     }
 
     /// The classes by number.
-    pub fn supers(&self) -> &'a Supers<'a>
+    pub fn supers(&self) -> &Supers<'a>
         ensures { result.now ≡ self.now }
     {
-        self.supers
+        &self.supers
     }
 
     /// The orders of a class.

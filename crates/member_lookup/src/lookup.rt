@@ -32,7 +32,7 @@ use std::marker::Model;
 /// The members of a program by name and descriptor. Contracts see its files, and their texts by number.
 #[derive(Drop)]
 pub struct MemberLookup<'a> {
-    orders: &'a ClassOrders<'a>,
+    orders: ClassOrders<'a>,
     texts: ClassTexts<'a>,
     holders: Vec<u32>,
     initializer: u32,
@@ -47,7 +47,7 @@ impl<'a> Model for MemberLookup<'a> {
 
     ghost view = { λ l. l.texts };
 
-    ghost invariant = { λ l. IsLookup l.orders.now l.texts l.holders.items l.initializer l.tables };
+    ghost invariant = { λ l. IsLookup l.orders l.texts l.holders.items l.initializer l.tables };
 }
 
 /// The class in which look-up begins where a class of this name is named.
@@ -107,9 +107,9 @@ impl<'a> MemberLookup<'a> {
     ///
     /// # Errors
     /// Where there is no memory.
-    pub fn new(alloc: Global, orders: &'a ClassOrders<'a>) -> Result<Self, AllocError>
-        requires { (hierarchy_rules orders.now).Hold }
-        ensures { IfOk result (λ lookup. lookup.units ≡ orders.now) }
+    pub fn new(alloc: Global, orders: ClassOrders<'a>) -> Result<Self, AllocError>
+        requires { (hierarchy_rules orders).Hold }
+        ensures { IfOk result (λ lookup. lookup.units ≡ orders.entry) }
     {
         let supers = orders.supers();
         let texts = ClassTexts::new(alloc, supers.units())?;
@@ -197,10 +197,10 @@ impl<'a> MemberLookup<'a> {
     }
 
     /// The orders in which classes are looked through.
-    pub fn orders(&self) -> &'a ClassOrders<'a>
+    pub fn orders(&self) -> &ClassOrders<'a>
         ensures { result.now ≡ self.now.units }
     {
-        self.orders
+        &self.orders
     }
 
     /// Whether a reference names a constructor.

@@ -18,12 +18,12 @@ use std::marker::Model;
 
 /// What the names in the files of a program stand for as types. Contracts see the files.
 #[derive(Drop)]
-pub struct NamedTypes<'a> {
-    supers: &'a Supers<'a>,
-    others: ClassNames<'a>,
+pub struct NamedTypes<'a, 'b> {
+    supers: &'a Supers<'b>,
+    others: ClassNames<'b>,
 }
 
-impl<'a> Model for NamedTypes<'a> {
+impl<'a, 'b> Model for NamedTypes<'a, 'b> {
     ghost use Rattle.std.specs.Prelude.{List};
     ghost use Rattle.code_decode.specs.declared.code.ClassUnit.{ClassUnit};
     ghost use Rattle.named_types.specs.Others.{AreNames, names_in};
@@ -35,9 +35,9 @@ impl<'a> Model for NamedTypes<'a> {
     ghost invariant = { λ t. AreNames t.others (names_in t.supers.now) };
 }
 
-impl<'a> NamedTypes<'a> {
+impl<'a, 'b> NamedTypes<'a, 'b> {
     /// Gives each class name that a file has a number. One look at each text. It fails for want of memory alone.
-    pub fn new(alloc: Global, supers: &'a Supers<'a>) -> Result<Self, AllocError>
+    pub fn new(alloc: Global, supers: &'a Supers<'b>) -> Result<Self, AllocError>
         ensures { IfOk result (λ types. types ≡ supers.now) }
     {
         let others = names_of(alloc, supers.units())?;

@@ -7,6 +7,6 @@ use Rattle.member_lookup.proofs.lookup.MemberLookup.names_upward.Goals as goal
 pub returns : goal.returns
 returns c = λ r are.
     let l = c.self.inside in
-    let is = subst (λ p. IsLookup l.orders.now p l.holders.items l.initializer l.tables) c.self.view_is c.self.invariant in
+    let is = subst (λ p. IsLookup l.orders p l.holders.items l.initializer l.tables) c.self.view_is c.self.invariant in
     ap (λ k. not (k == 0)) c.rank.ensures
-    ∙ named_is l.orders.now c.args.self.now l.holders.items l.initializer l.tables c.args.reference r is are c.args.class c.of.result.now.superclasses c.of.ensures.upward
+    ∙ named_is l.orders c.args.self.now l.holders.items l.initializer l.tables c.args.reference r is are c.args.class c.of.result.now.superclasses c.of.ensures.upward

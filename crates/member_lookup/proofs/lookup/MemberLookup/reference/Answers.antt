@@ -18,7 +18,7 @@ returns c = λ u there.
     let same : c.in_ok-unit.unit.now ≡ u = same_Some c.in_ok-unit.unit.now u (c.in_ok-unit.ensures ∙ ap (λ us. slice_get us file) c.units.ensures ∙ here) in
     let pool = c.as_slice-pool.ensures ∙ ap (λ (x : ClassUnit). x.file.pool) same in
     let entry = subst (λ xs. reference_in xs (slice_get xs index) ≡ class_and_member (class_name_of xs (slice_get xs class)) (name_and_type_of xs (slice_get xs pair))) pool c.in_ok-class.ensures in
-    let is = reference_is l.orders.now l.texts l.holders.items l.initializer l.tables c.self.invariant
+    let is = reference_is l.orders l.texts l.holders.items l.initializer l.tables c.self.invariant
     (class_name_of u.file.pool (slice_get u.file.pool class)) (name_and_type_of u.file.pool (slice_get u.file.pool pair)) c.class_text-class.result c.pair_texts-pair.result
     (c.class_text-class.ensures.number u here pool) (c.pair_texts-pair.ensures.number u here pool) c.class_text-class.ensures.some c.pair_texts-pair.ensures.some in
     let made = c.assemble.ensures ∙ ap (λ hs. assembled hs c.class_text-class.result c.pair_texts-pair.result) c.deref.ensures.value in

@@ -1,0 +1,66 @@
+//! The groups of rules, one behind the other.
+
+ghost use Rattle.std.specs.Prelude.{◌≡◌, ◌≤◌, IfOk, IfErr, length, ⊤};
+ghost use Rattle.rules.specs.Rules.{◌then◌};
+ghost use Rattle.link_types.specs.declared.refusal.LinkRefusal.{LinkRefusal};
+ghost use Rattle.link_rules.specs.Units.{AreUnits};
+ghost use Rattle.link_rules.specs.LinkRules.{hierarchy_rules, link_rules};
+ghost use Rattle.class_supers.specs.Answers.{Gives, Refuses, IsRefused};
+ghost use Rattle.link_check.specs.Groups.{member_groups};
+
+use class_orders::ClassOrders;
+use class_supers::Supers;
+use code_decode::ClassUnit;
+use link_implementations::check_implementations;
+use link_members::check_members;
+use link_types::LinkRefusal;
+use member_lookup::MemberLookup;
+use std::alloc::Global;
+use use_rules::check_uses;
+
+/// The rules of members, of implementations, and of what instructions and handlers name.
+fn check_groups(alloc: Global, lookup: &MemberLookup<'_>) -> Result<(), LinkRefusal>
+    requires few { length lookup.now.units ≤ 1024 }
+    requires decoded { AreUnits lookup.now.units }
+    ensures { Gives result (member_groups lookup.now.units) (λ none. ⊤) }
+{
+    check_members(alloc, lookup)?;
+    check_implementations(alloc, lookup)?;
+    check_uses(alloc, lookup)
+}
+
+/// The same, where the rules of what stands above classes hold.
+fn check_classes(alloc: Global, supers: Supers<'_>) -> Result<(), LinkRefusal>
+    requires few { length supers ≤ 1024 }
+    requires above { (hierarchy_rules supers).Hold }
+    requires decoded { AreUnits supers }
+    ensures { Gives result (member_groups supers.entry) (λ none. ⊤) }
+{
+    let orders = ClassOrders::new(alloc, supers)?;
+    let lookup = MemberLookup::new(alloc, orders)?;
+    check_groups(alloc, &lookup)
+}
+
+fn check_all(alloc: Global, units: &[ClassUnit]) -> Result<(), LinkRefusal>
+    requires decoded { AreUnits units.now }
+    ensures { Gives result (link_rules units.now) (λ none. ⊤) }
+{
+    let supers = Supers::new(alloc, units)?;
+    check_classes(alloc, supers)
+}
+
+/// Whether the class files of a program keep the rules of linking (JVMS 5.3 to 5.5): `Ok` exactly where all of them hold,
+/// want of memory aside.
+///
+/// # Errors
+/// The refusal of the first rule that is broken, in the order of `link_rules`: of how many files there are and what
+/// their classes are named, of what stands above classes, of members, of implementations, and of what instructions and
+/// handlers name. `NoMemory` where memory runs out.
+pub fn check_linked(alloc: Global, units: &[ClassUnit]) -> Result<(), LinkRefusal>
+    requires decoded { AreUnits units.now }
+    ensures linked { IfOk result (λ none. (link_rules units.now).Hold) }
+    ensures exact { IfErr result (λ e. Refuses e (link_rules units.now)) }
+    ensures first { (e : LinkRefusal) → (link_rules units.now).Refuse e → IsRefused result e }
+{
+    check_all(alloc, units)
+}
