@@ -8,12 +8,14 @@ rounds of `s = (s ^ i) * 31 + i`, by turns, and each takes the time of the loop 
 the runs of each, in nanoseconds a round, and how many times as long as java ours takes.
 """
 import os
-import shutil
 import subprocess
 import sys
 import tempfile
 
+import program
+
 ROUNDS = 20000000
+STANDS_ON = ["anyhow", "class_read", "code_decode", "frame_snapshot", "interp_local", "link_types"]
 JAVA = """public class Loop {
     static int loop(int n) {
         int s = 0;
@@ -146,35 +148,6 @@ times_second-requires g c = (c.args.bytes.now, \u03bb i. omega (arith, c.type_in
 """
 
 
-def crates_below(lines, name):
-    """The lines of a crate and of those that it stands on."""
-    below = dict(line.strip().split(":") for line in lines if ":" in line)
-    names = [name] + below[name].split()
-    return {name: below[name] for name in names if name in below}
-
-
-def write(folder, path, text):
-    path = os.path.join(folder, path)
-    os.makedirs(os.path.dirname(path), exist_ok=True)
-    with open(path, "w", encoding="utf-8") as file:
-        file.write(text)
-
-
-def make(top, folder):
-    """Puts the crates, the program and the class into a folder."""
-    with open(os.path.join(top, "crates.txt")) as file:
-        crates = crates_below(file.readlines(), "interp_local")
-    for crate in crates:
-        shutil.copytree(os.path.join(top, "crates", crate), os.path.join(folder, "crates", crate), symlinks=True)
-    write(folder, "crates/local_bench/src/main.rt", MAIN)
-    write(folder, "crates/local_bench/proofs/times_class/Answers.antt", ANSWERS)
-    lines = [f"{crate}:{below}" for crate, below in crates.items()]
-    lines.append("local_bench: anyhow class_read code_decode frame_snapshot interp_local link_types")
-    write(folder, "crates.txt", "\n".join(lines) + "\n")
-    write(folder, "Loop.java", JAVA)
-    subprocess.run(["javac", "--release", "8", "-Xlint:-options", "Loop.java"], cwd=folder, check=True)
-
-
 def timed(command):
     """What a run answers, and its nanoseconds."""
     answer, nanos = subprocess.run(command, stdout=subprocess.PIPE, text=True, check=True).stdout.split()
@@ -184,12 +157,11 @@ def timed(command):
 def main():
     runs = int(sys.argv[1]) if len(sys.argv) > 1 else 5
     with tempfile.TemporaryDirectory() as folder:
-        make(os.getcwd(), folder)
-        crate = os.path.join(folder, "crates", "local_bench")
-        built = subprocess.run(["rt", "run"], cwd=crate, stdout=subprocess.PIPE, stderr=subprocess.STDOUT, text=True)
-        if built.returncode != 0:
-            sys.exit(built.stdout[-2000:])
-        ours = [os.path.join(crate, "out", "local_bench"), os.path.join(folder, "Loop.class"), str(ROUNDS)]
+        files = {"src/main.rt": MAIN, "proofs/times_class/Answers.antt": ANSWERS}
+        built = program.build(folder, "local_bench", STANDS_ON, files)
+        program.write(folder, "Loop.java", JAVA)
+        subprocess.run(["javac", "--release", "8", "-Xlint:-options", "Loop.java"], cwd=folder, check=True)
+        ours = [built, os.path.join(folder, "Loop.class"), str(ROUNDS)]
         javas = ["java", "-Xint", "-cp", folder, "Loop", str(ROUNDS)]
         seen = [(timed(ours), timed(javas)) for _ in range(runs)]
         if len({answer for pair in seen for answer, _ in pair}) != 1:

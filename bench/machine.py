@@ -7,13 +7,13 @@ It makes a program in a temporary folder, over copies of the crates, and proves 
 million steps of one thread: silent steps through `advance`, operations through `advance`, and silent steps through one
 call of `run_silent`. What is printed is the least of the runs.
 """
-import os
-import shutil
 import subprocess
 import sys
 import tempfile
 
-CRATES = ["rows", "op_core", "fixed_objects", "machine_tables", "ordinary_machine"]
+import program
+
+STANDS_ON = ["anyhow", "op_core", "fixed_objects", "ordinary_machine"]
 MODES = ["silent", "operations", "run"]
 STEPS = 1000000
 MAIN = """//! Times a million steps of the ordinary machine.
@@ -126,29 +126,12 @@ fn main(rt: HostRuntime) -> Result<()> {
 """
 
 
-def make(top, folder):
-    """Puts the crates and the program into a folder."""
-    for crate in CRATES:
-        shutil.copytree(os.path.join(top, "crates", crate), os.path.join(folder, "crates", crate), symlinks=True)
-    os.makedirs(os.path.join(folder, "crates", "machine_bench", "src"))
-    with open(os.path.join(folder, "crates", "machine_bench", "src", "main.rt"), "w") as file:
-        file.write(MAIN)
-    with open(os.path.join(top, "crates.txt")) as file:
-        lines = [line for line in file if line.split(":")[0] in CRATES]
-    with open(os.path.join(folder, "crates.txt"), "w") as file:
-        file.writelines(lines)
-        file.write("machine_bench: anyhow op_core fixed_objects ordinary_machine\n")
-
-
 def main():
     runs = int(sys.argv[1]) if len(sys.argv) > 1 else 5
     with tempfile.TemporaryDirectory() as folder:
-        make(os.getcwd(), folder)
-        crate = os.path.join(folder, "crates", "machine_bench")
-        subprocess.run(["rt", "run"], cwd=crate, check=True, stdout=subprocess.DEVNULL, stderr=subprocess.DEVNULL)
-        program = os.path.join(crate, "out", "machine_bench")
+        built = program.build(folder, "machine_bench", STANDS_ON, {"src/main.rt": MAIN})
         for mode in MODES:
-            answers = [subprocess.run([program, mode], stdout=subprocess.PIPE, text=True, check=True).stdout.split()
+            answers = [subprocess.run([built, mode], stdout=subprocess.PIPE, text=True, check=True).stdout.split()
                        for _ in range(runs)]
             if any(int(made) != STEPS for made, _ in answers):
                 sys.exit(f"{mode}: not all steps were made")

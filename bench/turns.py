@@ -11,13 +11,14 @@ one has ended, where its priority is higher and where it is the same.
 """
 import os
 import re
-import shutil
 import subprocess
 import sys
 import tempfile
 
-CRATES = ["op_core", "fixed_objects", "section_state", "write_log", "heap_words", "monitor_core", "step_port",
-          "plain_words", "thread_automaton", "automaton_rows", "rollback_core", "toy_code", "rows"]
+import program
+
+STANDS_ON = ["anyhow", "op_core", "fixed_objects", "section_state", "write_log", "heap_words", "monitor_core", "step_port",
+             "plain_words", "thread_automaton", "automaton_rows", "rollback_core", "toy_code"]
 MODES = ["silent", "writes", "monitors"]
 STEPS = 1000000
 LENGTHS = [10, 100, 1000, 10000, 100000, 1000000]
@@ -223,39 +224,22 @@ def lent(text):
     return text.replace("turns_tests", "turns_bench")
 
 
-def make(top, folder):
-    """Puts the crates and the program into a folder."""
-    for crate in CRATES:
-        shutil.copytree(os.path.join(top, "crates", crate), os.path.join(folder, "crates", crate), symlinks=True)
-    crate = os.path.join(folder, "crates", "turns_bench")
-    for path in ["src", "specs"]:
-        os.makedirs(os.path.join(crate, path))
-    tests = os.path.join(top, "crates", "turns_tests")
+def files():
+    """The files of the program, two of them and their words as the tests have them."""
+    made = {"src/main.rt": MAIN, "src/stopped.rt": STOPPED}
     for path in ["src/seat.rt", "src/setting.rt", "specs/Seat.antt", "specs/Lib.antt"]:
-        with open(os.path.join(tests, path)) as source, open(os.path.join(crate, path), "w") as target:
-            target.write(lent(source.read()))
-    for path, text in [("src/main.rt", MAIN), ("src/stopped.rt", STOPPED)]:
-        with open(os.path.join(crate, path), "w") as file:
-            file.write(text)
-    with open(os.path.join(top, "crates.txt")) as file:
-        lines = [line for line in file if line.split(":")[0] in CRATES]
-    with open(os.path.join(folder, "crates.txt"), "w") as file:
-        file.writelines(lines)
-        file.write("turns_bench: anyhow " + " ".join(it for it in CRATES if it != "rows") + "\n")
+        with open(os.path.join("crates", "turns_tests", path)) as source:
+            made[path] = lent(source.read())
+    return made
 
 
 def main():
     runs = int(sys.argv[1]) if len(sys.argv) > 1 else 5
     with tempfile.TemporaryDirectory() as folder:
-        make(os.getcwd(), folder)
-        crate = os.path.join(folder, "crates", "turns_bench")
-        done = subprocess.run(["rt", "run"], cwd=crate, stdout=subprocess.PIPE, stderr=subprocess.STDOUT, text=True)
-        program = os.path.join(crate, "out", "turns_bench")
-        if not os.path.exists(program):
-            sys.exit(done.stdout[-4000:])
+        built = program.build(folder, "turns_bench", STANDS_ON, files())
 
         def answer(*words):
-            return subprocess.run([program, *words], stdout=subprocess.PIPE, text=True, check=True).stdout.split()
+            return subprocess.run([built, *words], stdout=subprocess.PIPE, text=True, check=True).stdout.split()
 
         for mode in MODES:
             answers = [answer(str(STEPS), mode) for _ in range(runs)]
