@@ -20,9 +20,6 @@ words_of (words.Four a b c d) = a ∷ b ∷ c ∷ d ∷ []
 words_of (words.Five a b c d e) = a ∷ b ∷ c ∷ d ∷ e ∷ []
 words_of (words.Six a b c d e f) = a ∷ b ∷ c ∷ d ∷ e ∷ f ∷ []
 
-abbrev pub long_words_of : ℕ → List ℕ
-long_words_of = long_words
-
 -- the words of a constant, the top first
 abbrev pub constant_words : Constant → List ℕ
 constant_words (Word a) = a ∷ []

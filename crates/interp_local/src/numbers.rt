@@ -2,12 +2,13 @@
 
 ghost use Rattle.std.specs.Prelude.{◌≡◌};
 ghost use Rattle.std.specs.Int.{w32, w64};
-ghost use Rattle.java_rows.specs.Numbers.{long_of, result_of, negative_of, int_shifted, long_shifted, holds, is_less, compared, byte_of, char_of, short_of, widened};
-ghost use Rattle.interp_local.specs.Effects.{words_of, long_words_of};
+ghost use Rattle.java_rows.specs.Numbers.{long_of, result_of, negative_of, int_shifted, long_shifted, holds, is_less, compared, byte_of, char_of, short_of, widened, long_words};
+ghost use Rattle.interp_local.specs.Effects.{words_of};
 
 use crate::effect::Words;
 use instructions::{Arithmetic, Condition, Shift};
 
+/// What an operation makes of two ints, wrapped (JVMS 6.5 iadd, idiv, iand); `None` of a zero divisor.
 #[inline(always)]
 pub fn int_result(op: Arithmetic, a: u32, b: u32) -> Option<u32>
     ensures { result ≡ result_of w32 op a b }
@@ -27,6 +28,7 @@ pub fn int_result(op: Arithmetic, a: u32, b: u32) -> Option<u32>
     }
 }
 
+/// What an operation makes of two longs, wrapped (JVMS 6.5 ladd, ldiv, land); `None` of a zero divisor.
 #[inline(always)]
 pub fn long_result(op: Arithmetic, a: u64, b: u64) -> Option<u64>
     ensures { result ≡ result_of w64 op a b }
@@ -46,6 +48,7 @@ pub fn long_result(op: Arithmetic, a: u64, b: u64) -> Option<u64>
     }
 }
 
+/// The negative of an int, wrapped (JVMS 6.5 ineg).
 #[inline(always)]
 pub fn int_negative(a: u32) -> u32
     ensures { result ≡ negative_of w32 a }
@@ -53,6 +56,7 @@ pub fn int_negative(a: u32) -> u32
     a.cast_signed().wrapping_neg().cast_unsigned()
 }
 
+/// The negative of a long, wrapped (JVMS 6.5 lneg).
 #[inline(always)]
 pub fn long_negative(a: u64) -> u64
     ensures { result ≡ negative_of w64 a }
@@ -60,6 +64,7 @@ pub fn long_negative(a: u64) -> u64
     a.cast_signed().wrapping_neg().cast_unsigned()
 }
 
+/// An int shifted by the low 5 bits of another one (JVMS 6.5 ishl, ishr, iushr).
 #[inline(always)]
 pub fn shift_int(op: Shift, a: u32, by: u32) -> u32
     ensures { result ≡ int_shifted op a by }
@@ -71,6 +76,7 @@ pub fn shift_int(op: Shift, a: u32, by: u32) -> u32
     }
 }
 
+/// A long shifted by the low 6 bits of an int (JVMS 6.5 lshl, lshr, lushr).
 #[inline(always)]
 pub fn shift_long(op: Shift, a: u64, by: u32) -> u64
     ensures { result ≡ long_shifted op a by }
@@ -118,6 +124,7 @@ pub fn compare_longs(a: u64, b: u64) -> u32
     }
 }
 
+/// The low 8 bits of an int as a byte, widened again (JVMS 6.5 i2b).
 #[inline(always)]
 pub fn to_byte(a: u32) -> u32
     ensures { result ≡ byte_of a }
@@ -126,6 +133,7 @@ pub fn to_byte(a: u32) -> u32
     i32::from(byte.cast_signed()).cast_unsigned()
 }
 
+/// The low 16 bits of an int (JVMS 6.5 i2c).
 #[inline(always)]
 pub fn to_char(a: u32) -> u32
     ensures { result ≡ char_of a }
@@ -133,6 +141,7 @@ pub fn to_char(a: u32) -> u32
     a % 0x1_0000
 }
 
+/// The low 16 bits of an int as a short, widened again (JVMS 6.5 i2s).
 #[inline(always)]
 pub fn to_short(a: u32) -> u32
     ensures { result ≡ short_of a }
@@ -141,6 +150,7 @@ pub fn to_short(a: u32) -> u32
     i32::from(short.cast_signed()).cast_unsigned()
 }
 
+/// The long of an int (JVMS 6.5 i2l).
 #[inline(always)]
 pub fn to_long(a: u32) -> u64
     ensures { result ≡ widened a }
@@ -159,7 +169,7 @@ pub fn long(low: u32, high: u32) -> u64
 /// The words of a long, the high half on top.
 #[inline(always)]
 pub fn halves(number: u64) -> Words
-    ensures { words_of result ≡ long_words_of number }
+    ensures { words_of result ≡ long_words number }
 {
     let high = (number / 0x1_0000_0000) as u32;
     let low = (number % 0x1_0000_0000) as u32;

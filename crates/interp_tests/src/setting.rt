@@ -30,6 +30,7 @@ pub fn frames_with(alloc: Global, words: &[u32]) -> Result<Frames, AllocError> {
     Ok(frames)
 }
 
+/// Puts a word on the stack of the top frame, where there is room for it.
 pub fn push(frames: &mut Frames, word: u32) {
     if frames.has_room(1) {
         frames.push_word(word);

@@ -112,7 +112,8 @@ steps_of us id = option_map_or (λ (c : Code). c.steps) (method_code us id) []
 abbrev pub handlers_of : List ClassUnit → MethodId → List Handler
 handlers_of us id = option_map_or (λ (c : Code). c.handlers) (method_code us id) []
 
--- a call of a method of a built-in class that no other one overrides: its receiver's class isn't looked at
+-- a call of a method of PrintStream, of which there is one object, or of a final one of a built-in class: its
+-- receiver's class isn't looked at
 abbrev pub calls_without_class : List ClassUnit → MethodId → Bool
 calls_without_class us id = is_built_in id.class && (if id.class == PRINT_STREAM then true else method_has us id FINAL)
 

@@ -26,7 +26,8 @@ abbrev pub at_instruction : List ClassUnit → ℕ → Frame → Option (Instr T
 at_instruction us me f (Some instruction) = row us me f instruction.what
 at_instruction us me f None = stuck
 
--- the row of the frame's instruction, or how a call of it goes on that begins again: its one operand is the receiver
+-- the row of the frame's instruction, or how a call of it goes on that begins again: its one operand is the receiver,
+-- or the target of a Thread
 abbrev pub at_task : List ClassUnit → ℕ → Frame → Task → Plan
 at_task us me f at_step = at_instruction us me f (slice_get (steps_of us f.method) f.step)
 at_task us me f task = goes_on_at us me (use_in f (drop 1 f.stack)) task
@@ -126,7 +127,8 @@ java_code = record {
   leaves = λ save now. is_end now.plan && (length save.below == length now.below);
 }
 
--- the first state of thread 1: the class of `main` is initialized, then `main` is called with no arguments
+-- the first state of thread 1: the class of `main` is initialized, then `main` is called with the empty array of its
+-- arguments
 abbrev pub calls_main : List ClassUnit → ℕ → MethodId → Plan
 calls_main us me main = invokes us me main (arguments_object (program_names us) ∷ []) launch
 

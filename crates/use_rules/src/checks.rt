@@ -22,6 +22,7 @@ use instructions::{Call, ClassUse, FieldAccess};
 use link_types::{LinkKind, LinkRefusal};
 use member_lookup::Found;
 
+/// The refusal of a kind at a place of a class.
 pub fn refuse(kind: LinkKind, class: u32, place: u16) -> Result<(), LinkRefusal>
     ensures { result ≡ Err (At kind class place) }
 {
@@ -52,6 +53,7 @@ fn check_new(place: u32, index: u16, class: ClassFacts) -> Result<(), LinkRefusa
     Ok(())
 }
 
+/// What an instruction asks of the class that it names, at a place of the class (JVMS 6.5).
 pub fn check_class(
     purpose: ClassUse,
     place: u32,

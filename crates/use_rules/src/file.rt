@@ -64,6 +64,7 @@ impl<'a, 'b> FileNames<'a, 'b> {
         })
     }
 
+    /// The place of the class among the classes, at most 1024.
     pub fn place(&self) -> u32
         ensures place { result ≡ self.now.place }
         ensures within { result ≤ 1024 }
@@ -71,6 +72,7 @@ impl<'a, 'b> FileNames<'a, 'b> {
         self.place
     }
 
+    /// The constant pool of the class.
     pub fn pool(&self) -> &'a [Constant]
         ensures { result.now ≡ self.now.pool }
     {
