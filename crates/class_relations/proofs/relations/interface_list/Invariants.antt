@@ -1,0 +1,10 @@
+use Rattle.std.proofs.Common.{◌≡◌, ◌<◌, ℕ, Some, length, slice_get}
+use Rattle.access_flags.specs.declared.TheConstants.{INTERFACE}
+use Rattle.link_rules.specs.Classes.{classes_of, class_has}
+use Rattle.class_relations.proofs.relations.interface_list.Given as goal
+
+abbrev pub invariant-loop-class : goal.invariant-loop-class
+invariant-loop-class l = record {
+  count : length l.list.items ≡ l.class;
+  each : (c : ℕ) → c < l.class → slice_get l.list.items c ≡ Some (class_has (classes_of l.supers) c INTERFACE);
+}
