@@ -11,6 +11,7 @@ use crate::others::ClassNames;
 use crate::pool_names::names_of;
 use class_names::{BaseShape, KindShape, Parameters, field_shape, method_shape};
 use class_supers::Supers;
+use code_decode::ClassUnit;
 use link_types::{ElementType, MethodType, ObjectType, ValueType};
 use rows::Rows;
 use std::alloc::{AllocError, Global};
@@ -42,6 +43,13 @@ impl<'a, 'b> NamedTypes<'a, 'b> {
     {
         let others = names_of(alloc, supers.units())?;
         Ok(NamedTypes { supers, others })
+    }
+
+    /// The files of the program.
+    pub fn units(&self) -> &'b [ClassUnit]
+        ensures { result.now ≡ self.now }
+    {
+        self.supers.units()
     }
 
     /// The type of the objects of the class of a name. A search.
