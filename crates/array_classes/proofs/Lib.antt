@@ -1,0 +1,4 @@
+pub mod ClassNames
+pub mod Few
+pub mod Known
+pub mod Numbered

@@ -1,0 +1,4 @@
+pub mod Growing
+pub mod Places
+pub mod Used
+pub mod Right
