@@ -1,5 +1,5 @@
 -- What look-up finds among the rows is what it finds among the classes.
-use Rattle.std.proofs.Common.{◌≡◌, ◌≢◌, ℕ, zero, suc, ◌<◌, ◌==◌, ◌&&◌, ◌||◌, Bool, true, false, not, cond, List, [], ◌∷◌, length, filter, codes, bytes_eq, Option, None, Some, inl, inr, refl, sym, ◌∙◌, ap, arith}
+use Rattle.std.proofs.Common.{◌≡◌, ◌≢◌, ℕ, zero, suc, ◌<◌, ◌==◌, ◌&&◌, ◌||◌, Bool, true, false, not, cond, List, [], ◌∷◌, length, filter, slice_get, codes, bytes_eq, Option, None, Some, inl, inr, refl, sym, ◌∙◌, ap, arith}
 use Rattle.std.specs.Option.{option_map, option_map_or}
 use Rattle.std.proofs.lemmas.Bool.{cases_Bool, true≢false}
 use Rattle.std.proofs.lemmas.Option.{slice_get_past}
@@ -15,7 +15,7 @@ use Rattle.link_rules.specs.Supers.{superclasses, field_order, method_order}
 use Rattle.link_rules.specs.Members.{Declared, declared, first_some, is_member, is_virtual, is_initializer, holder, found_field, found_method, selected, special}
 use Rattle.search_orders.specs.Orders.{without_repeats, has_number, rank}
 use Rattle.search_orders.proofs.OrderLaws.{has_put_all, ranked, unranked}
-use Rattle.std.specs.List.{list_any}
+use Rattle.std.specs.List.{find, list_any}
 use borrow.Author.Tests.{eq-eqb, ne_eqb}
 use Rattle.member_table.specs.declared.table.MemberRow.{MemberRow}
 use Rattle.member_table.specs.Members.{has_signature}
@@ -24,7 +24,7 @@ use Rattle.member_lookup.specs.declared.found.Found.{Found}
 use Rattle.member_lookup.specs.declared.found.ReferenceNumbers.{ReferenceNumbers}
 use Rattle.member_lookup.specs.declared.tables.Tables.{Tables}
 use Rattle.member_lookup.specs.Rows.{row_of, is_virtual_row, rows_of_classes}
-use Rattle.member_lookup.specs.Found.{found_of, found_row, AreNumbers, HaveNumbers, IsLookup}
+use Rattle.member_lookup.specs.Found.{found_of, found_row, AreNumbers, HaveNumbers, IsLookup, first_virtual}
 use Rattle.member_lookup.proofs.RowLaws.{row_declared, same_number, signature_is, first_is, one_is}
 
 past_all : (cs : List NamedClass) (c : ℕ) → length cs < c → class_numbered cs c ≡ None
@@ -195,3 +195,20 @@ module _ (us : List ClassUnit) (p : ProgramTexts) (hs : List ℕ) (init : ℕ) (
         (λ d i m. ap (λ b. b && is_virtual m) (signed_by d i m)))
         ∙ read p.texts (first_some (declared (methods_of (classes_of us)) (λ m. is_member r m && is_virtual m)) (superclasses (classes_of us) c))
         ∙ ap (λ u. option_map found_of (selected (classes_of u) c r)) (sym is.units)
+
+-- ---- the first of all methods
+
+first_filtered : (q : MemberRow → Bool) (xs : List MemberRow) → slice_get (filter q xs) 0 ≡ find q xs
+first_filtered q [] = refl
+first_filtered q (x ∷ xs) = elim (q x) as (λ b. slice_get (cond b (x ∷ filter q xs) (filter q xs)) 0 ≡ cond b (Some x) (find q xs)) [
+  | true ↦ refl
+  | false ↦ first_filtered q xs
+]
+
+pub first_is_virtual : (us : List ClassUnit) (p : ProgramTexts) (hs : List ℕ) (init : ℕ) (t : Tables) → IsLookup us p hs init t → (name descriptor : ℕ) (members : List MemberRow)
+    → members ≡ filter (has_signature name descriptor) t.virtuals → slice_get members 0 ≡ first_virtual p name descriptor
+first_is_virtual us p hs init t is name descriptor members mine =
+    ap (λ ms. slice_get ms 0) (mine ∙ ap (filter (has_signature name descriptor)) is.tables.virtuals_are
+    ∙ both_filters (has_signature name descriptor) is_virtual_row (rows_of_classes p.texts (methods_of (classes_of us)) (length (classes_of us))))
+    ∙ first_filtered (λ x. has_signature name descriptor x && is_virtual_row x) (rows_of_classes p.texts (methods_of (classes_of us)) (length (classes_of us)))
+    ∙ ap (λ u. find (λ x. has_signature name descriptor x && is_virtual_row x) (rows_of_classes p.texts (methods_of (classes_of u)) (length (classes_of u)))) (sym is.units)

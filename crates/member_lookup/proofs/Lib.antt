@@ -3,3 +3,4 @@ pub mod SourceLaws
 pub mod FoundLaws
 pub mod ReferenceLaws
 pub mod FinalLaws
+pub mod PlaceLaws

@@ -1,17 +1,19 @@
 -- What look-up is asked for and what it finds, by numbers.
-use Rattle.std.specs.Prelude.{◌≡◌, ◌≢◌, ◌≤◌, ◌-◌, ℕ, ⊤, Option, None, Some, List, length, map, codes, slice_index, if◌then◌else◌}
+use Rattle.std.specs.Prelude.{◌≡◌, ◌≢◌, ◌≤◌, ◌-◌, ◌&&◌, ℕ, ⊤, Option, None, Some, List, length, map, codes, slice_index, if◌then◌else◌}
+use Rattle.std.specs.List.{find}
 use Rattle.builtin_world.specs.declared.number.TheConstants.{OBJECT}
 use Rattle.class_pool.specs.Pool.{Reference}
 use Rattle.code_decode.specs.declared.code.ClassUnit.{ClassUnit}
 use Rattle.class_texts.specs.Texts.{ProgramTexts}
 use Rattle.text_numbers.specs.Numbers.{number_of}
-use Rattle.link_rules.specs.Classes.{NamedClass, classes_of, class_number, is_array_name}
+use Rattle.link_rules.specs.Classes.{NamedClass, classes_of, class_number, methods_of, is_array_name}
 use Rattle.link_rules.specs.Members.{Declared, holder}
 use Rattle.member_table.specs.declared.table.MemberRow.{MemberRow}
+use Rattle.member_table.specs.Members.{has_signature}
 use Rattle.member_lookup.specs.declared.found.Found.{Found}
 use Rattle.member_lookup.specs.declared.found.ReferenceNumbers.{ReferenceNumbers}
 use Rattle.member_lookup.specs.declared.tables.Tables.{Tables}
-use Rattle.member_lookup.specs.Rows.{AreTables}
+use Rattle.member_lookup.specs.Rows.{AreTables, is_virtual_row, rows_of_classes}
 
 abbrev pub found_of : Declared → Found
 found_of d = record { class = d.class; place = d.place; flags = d.member.flags }
@@ -39,6 +41,12 @@ pub record HaveNumbers (p : ProgramTexts) (name descriptor : ℕ) (r : Reference
   pub descriptor_is : descriptor ≡ number_of p.texts r.descriptor
   pub name_has : number_of p.texts r.name ≢ 0
   pub descriptor_has : number_of p.texts r.descriptor ≢ 0
+
+-- among the rows of all classes, the first method of a signature that is neither static nor private
+abbrev pub first_virtual : ProgramTexts → ℕ → ℕ → Option MemberRow
+first_virtual p name descriptor =
+    find (λ m. has_signature name descriptor m && is_virtual_row m)
+    (rows_of_classes p.texts (methods_of (classes_of p.units)) (length (classes_of p.units)))
 
 -- the class in which look-up begins where a class of this name is named
 abbrev pub holder_named : List NamedClass → List ℕ → ℕ

@@ -3,6 +3,7 @@ use Rattle.std.specs.Prelude.{◌≡◌, ℕ, ◌+◌, not, ◌||◌, Bool, List
 use Rattle.std.specs.List.{range_with_len}
 use Rattle.access_flags.specs.declared.TheConstants.{STATIC, PRIVATE}
 use Rattle.access_flags.specs.Flags.{has}
+use Rattle.link_types.specs.declared.operands.MethodId.{MethodId}
 use Rattle.code_decode.specs.declared.code.ClassUnit.{ClassUnit}
 use Rattle.link_rules.specs.Classes.{NamedMember, classes_of, fields_of, methods_of}
 use Rattle.text_numbers.specs.Numbers.{number_of}
@@ -24,6 +25,10 @@ class_rows ts members c = rows_from ts c 0 (members c)
 -- the rows of the first classes
 abbrev pub rows_of_classes : List (List ℕ) → (ℕ → List NamedMember) → ℕ → List MemberRow
 rows_of_classes ts members n = flat_map (class_rows ts members) (range_with_len 1 n)
+
+-- the method of a row
+abbrev pub id_of_row : MemberRow → MethodId
+id_of_row m = record { class = m.class; method = m.place }
 
 -- neither static nor private
 abbrev pub is_virtual_row : MemberRow → Bool

@@ -13,10 +13,12 @@ ghost use Rattle.link_rules.specs.Classes.{classes_of, superclass_of, methods_of
 ghost use Rattle.link_rules.specs.Members.{Declared, is_member, is_virtual, holder, is_initializer, found_field, found_method, selected, special};
 ghost use Rattle.link_rules.specs.LinkRules.{hierarchy_rules};
 ghost use Rattle.class_texts.specs.Texts.{ProgramTexts};
-ghost use Rattle.member_lookup.specs.Found.{found_of, AreNumbers, AreNumbersOf, HaveNumbers, holder_named};
+ghost use Rattle.member_lookup.specs.Found.{found_of, AreNumbers, AreNumbersOf, HaveNumbers, first_virtual, holder_named};
+ghost use Rattle.member_lookup.specs.Rows.{class_rows};
 
 use crate::found::{Found, ReferenceNumbers, read_row};
 use crate::references::{assemble, class_text, member_entry, pair_texts};
+use crate::rows_of::method_rows;
 use crate::source::unit_at;
 use crate::tables::{Tables, member_tables};
 use access_flags::{FINAL, PRIVATE, STATIC, has};
@@ -187,6 +189,25 @@ impl<'a> MemberLookup<'a> {
     {
         let methods = self.tables.virtuals.declarers(name, descriptor);
         any_final(methods, &self.orders.of(class).superclasses)
+    }
+
+    /// The methods that a class declares, by their places; none of what is no class. As long as they are many.
+    ///
+    /// # Errors
+    /// Where there is no memory.
+    pub fn methods(&self, alloc: Global, class: u32) -> Result<Vec<MemberRow>, AllocError>
+        ensures { IfOk result (λ rows. rows.items ≡ class_rows self.now.texts (methods_of (classes_of self.now.units)) class) }
+    {
+        method_rows(alloc, &self.texts, class)
+    }
+
+    /// The first method of the program that has a name and a descriptor and is neither static nor private: that of the
+    /// class of least number. A search by the numbers of the texts; takes no memory.
+    pub fn first_virtual(&self, name: u32, descriptor: u32) -> Option<MemberRow>
+        ensures { result ≡ first_virtual self.now name descriptor }
+    {
+        let methods = self.tables.virtuals.declarers(name, descriptor);
+        methods.first().copied()
     }
 
     /// The texts by number.

@@ -1,0 +1,4 @@
+pub mod NumberLaws
+pub mod MethodLaws
+pub mod RowLaws
+pub mod SelectionLaws

@@ -1,0 +1,25 @@
+use Rattle.std.proofs.Common.{◌≡◌, suc, length, map, [], ◌∷◌, ◌++◌, sym, ◌∙◌, ap, arith}
+use Rattle.std.specs.List.{range_with_len}
+use Rattle.std.proofs.lemmas.List.FromFn.{map-range_with_len_more}
+use Rattle.class_texts.specs.Texts.{ProgramTexts}
+use Rattle.link_laws.proofs.Numbers.{class_count_is}
+use Rattle.link_rules.specs.Classes.{classes_of}
+use Rattle.method_selection.specs.Entries.{class_entries, entry_of}
+use Rattle.method_selection.proofs.entries.method_entries.Goals as goal
+
+pub loop-class-preserved : goal.loop-class-preserved
+loop-class-preserved c =
+    let p = c.args.lookup.now in
+    let f = class_entries p c.args.numbers.now in
+    let n = c.loop-class.class in
+    let row = c.from_vec.ensures ∙ c.in_ok-row.ensures ∙ ap (map (entry_of p c.args.numbers.now)) (c.deref.ensures.value ∙ c.in_ok-members.ensures) in
+    c.in_ok-push.ensures.items ∙ ap (λ xs. xs ++ c.from_vec.result ∷ []) c.loop-class.invariant
+    ∙ ap (λ x. map f (range_with_len 0 n) ++ x ∷ []) row
+    ∙ sym (map-range_with_len_more f 0 n n (omega arith))
+
+pub returns : goal.returns
+returns c =
+    let many = class_count_is c.args.lookup.now.units in
+    let files = ap length c.units.ensures ∙ ap (λ (p : ProgramTexts). length p.units) c.texts.ensures in
+    let all : c.loop-class.class ≡ suc (length (classes_of c.args.lookup.now.units)) = omega (arith, many, files) in
+    c.loop-class.invariant ∙ ap (λ n. map (class_entries c.args.lookup.now c.args.numbers.now) (range_with_len 0 n)) all

@@ -1,0 +1,3 @@
+pub mod NativeLaws
+pub mod TableLaws
+pub mod InitializerLaws
