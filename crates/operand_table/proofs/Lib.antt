@@ -1,0 +1,4 @@
+pub mod FieldLaws
+pub mod MethodLaws
+pub mod EntryLaws
+pub mod TableLaws

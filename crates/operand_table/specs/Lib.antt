@@ -1,0 +1,4 @@
+pub mod FieldTypes
+pub mod Sources
+pub mod Found
+pub mod Table
