@@ -39,5 +39,12 @@ all_given us Is (Ok x) above given = (groups_hold us above given.0, given.1)
 all_given us Is (Err e) above refused = groups_refuse us e above refused
 
 -- what is given for files is given for the same files
-pub given_for : (us vs : List ClassUnit) (r : Result (Unit {0}) LinkRefusal) → us ≡ vs → Gives r (member_groups us) (λ none. ⊤) → Gives r (member_groups vs) (λ none. ⊤)
-given_for us vs r same given = subst (λ ws. Gives r (member_groups ws) (λ none. ⊤)) same given
+pub given_for : {X : Type 0} (us vs : List ClassUnit) (Is : List ClassUnit → X → Type 0) (r : Result X LinkRefusal) → us ≡ vs → Gives r (member_groups us) (Is us) → Gives r (member_groups vs) (Is vs)
+given_for us vs Is r same given = subst (λ ws. Gives r (member_groups ws) (Is ws)) same given
+
+-- an answer without a value, by the rules of the same files
+pub ok_given : (us vs : List ClassUnit) (r : Result (Unit {0}) LinkRefusal) (x : Unit {0}) → us ≡ vs → r ≡ Ok x → Gives r (member_groups us) (λ none. ⊤) → (member_groups vs).Hold
+ok_given us vs r x same is given = (subst (λ s. Gives s (member_groups vs) (λ none. ⊤)) is (given_for us vs (λ ws none. ⊤) r same given)).0
+
+pub err_given : (us vs : List ClassUnit) (r : Result (Unit {0}) LinkRefusal) (e : LinkRefusal) → us ≡ vs → r ≡ Err e → Gives r (member_groups us) (λ none. ⊤) → Refuses e (member_groups vs)
+err_given us vs r e same is given = subst (λ s. Gives s (member_groups vs) (λ none. ⊤)) is (given_for us vs (λ ws none. ⊤) r same given)

@@ -29,38 +29,41 @@ fn check_groups(alloc: Global, lookup: &MemberLookup<'_>) -> Result<(), LinkRefu
     check_uses(alloc, lookup)
 }
 
-/// The same, where the rules of what stands above classes hold.
-fn check_classes(alloc: Global, supers: Supers<'_>) -> Result<(), LinkRefusal>
+/// The members of a program that keeps those rules, where the rules of what stands above classes hold.
+fn checked_lookup(alloc: Global, supers: Supers<'_>) -> Result<MemberLookup<'_>, LinkRefusal>
     requires few { length supers ≤ 1024 }
     requires above { (hierarchy_rules supers).Hold }
     requires decoded { AreUnits supers }
-    ensures { Gives result (member_groups supers.entry) (λ none. ⊤) }
+    ensures { Gives result (member_groups supers.entry) (λ lookup. lookup.units ≡ supers.entry) }
 {
     let orders = ClassOrders::new(alloc, supers)?;
     let lookup = MemberLookup::new(alloc, orders)?;
-    check_groups(alloc, &lookup)
+    match check_groups(alloc, &lookup) {
+        Ok(()) => Ok(lookup),
+        Err(refusal) => Err(refusal),
+    }
 }
 
-fn check_all(alloc: Global, units: &[ClassUnit]) -> Result<(), LinkRefusal>
+fn all_checked(alloc: Global, units: &[ClassUnit]) -> Result<MemberLookup<'_>, LinkRefusal>
     requires decoded { AreUnits units.now }
-    ensures { Gives result (link_rules units.now) (λ none. ⊤) }
+    ensures { Gives result (link_rules units.now) (λ lookup. lookup.units ≡ units.now) }
 {
     let supers = Supers::new(alloc, units)?;
-    check_classes(alloc, supers)
+    checked_lookup(alloc, supers)
 }
 
-/// Whether the class files of a program keep the rules of linking (JVMS 5.3 to 5.5): `Ok` exactly where all of them hold,
-/// want of memory aside.
+/// The members of a program whose class files keep the rules of linking (JVMS 5.3 to 5.5): `Ok` exactly where all of
+/// them hold, want of memory aside.
 ///
 /// # Errors
 /// The refusal of the first rule that is broken, in the order of `link_rules`: of how many files there are and what
 /// their classes are named, of what stands above classes, of members, of implementations, and of what instructions and
 /// handlers name. `NoMemory` where memory runs out.
-pub fn check_linked(alloc: Global, units: &[ClassUnit]) -> Result<(), LinkRefusal>
+pub fn linked_lookup(alloc: Global, units: &[ClassUnit]) -> Result<MemberLookup<'_>, LinkRefusal>
     requires decoded { AreUnits units.now }
-    ensures linked { IfOk result (λ none. (link_rules units.now).Hold) }
+    ensures linked { IfOk result (λ lookup. (lookup.units ≡ units.now) × (link_rules units.now).Hold) }
     ensures exact { IfErr result (λ e. Refuses e (link_rules units.now)) }
     ensures first { (e : LinkRefusal) → (link_rules units.now).Refuse e → IsRefused result e }
 {
-    check_all(alloc, units)
+    all_checked(alloc, units)
 }

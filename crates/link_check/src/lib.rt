@@ -3,4 +3,4 @@
 
 mod checks;
 
-pub use checks::check_linked;
+pub use checks::linked_lookup;

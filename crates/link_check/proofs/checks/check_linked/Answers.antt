@@ -1,8 +1,0 @@
-use Rattle.std.specs.Bool.{⊤}
-use Rattle.link_rules.specs.LinkRules.{link_rules}
-use Rattle.link_laws.proofs.Sharp.{sharp_link}
-use Rattle.class_supers.proofs.RuleLaws.{broken_is_refused}
-use Rattle.link_check.proofs.checks.check_linked.Goals as goal
-
-pub returns-clause-first : goal.returns-clause-first
-returns-clause-first c = broken_is_refused (link_rules c.args.units.now) (sharp_link c.args.units.now) (λ none. ⊤) c.check_all.result c.check_all.ensures
