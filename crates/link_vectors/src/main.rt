@@ -1,0 +1,99 @@
+//! `link_vectors FILE..` links the programs of each file, and prints of each that it is linked, or the number of the
+//! refusal's kind, the class and the place. Files whose names end in `.class` are together one more program.
+#![tactic(auto)]
+
+mod cases;
+mod links;
+mod members;
+mod values;
+mod worlds;
+
+use cases::{Case, cases_of};
+use links::{Answer, Fault, file_of_text, link_files};
+use std::env;
+use std::fs::{self, File};
+use std::io::{self, Read};
+use std::rt::{Env, Files};
+use worlds::show_world;
+
+/// How many bytes of a class file are read at most.
+const MOST_READ: u64 = 1_048_577;
+
+fn fault_text(fault: Fault) -> &'static str {
+    match fault {
+        Fault::NoMemory => "no memory",
+        Fault::Text => "a text is not assembled",
+        Fault::File => "a class file is not read",
+        Fault::Code => "a class file is not decoded",
+    }
+}
+
+/// Links the program of these class files, and prints what comes of it; also its numbers, where they are wanted.
+fn show_program<R: Print + AllocGlobal>(
+    rt: &R,
+    name: &str,
+    files: &[Vec<u8>],
+    shown: bool,
+) -> io::Result<()> {
+    match link_files(rt.alloc(), files)? {
+        Answer::Linked(world) => {
+            println!(rt; "{name} linked")?;
+            if shown {
+                show_world(rt, &world)?;
+            }
+            Ok(())
+        }
+        Answer::Refused { kind, class, place } => println!(rt;
+            "{name} refused {kind} {class} {place}"
+        ),
+        Answer::NoFile(fault) => println!(rt; "{name}: {}", fault_text(fault)),
+    }
+}
+
+fn show_case<R: Print + AllocGlobal>(rt: &R, case: &Case) -> io::Result<()> {
+    let name = case.name.as_str();
+    let mut files = Vec::new(rt.alloc());
+    for text in &case.texts {
+        match file_of_text(rt.alloc(), text.as_str()) {
+            Ok(file) => files.push(file)?,
+            Err(fault) => return println!(rt; "{name}: {}", fault_text(fault)),
+        }
+    }
+    show_program(rt, name, &files, case.shown)
+}
+
+fn show_cases<R: Print + AllocGlobal + Files>(rt: &R, path: &str) -> io::Result<()> {
+    let text = fs::read_to_string(rt, path)?;
+    for case in &cases_of(rt.alloc(), text.as_str())? {
+        show_case(rt, case)?;
+    }
+    Ok(())
+}
+
+fn class_file<R: AllocGlobal + Files>(rt: &R, path: &str) -> io::Result<Vec<u8>> {
+    let mut bytes = Vec::new(rt.alloc());
+    File::open(rt, path)?
+        .take(MOST_READ)
+        .read_to_end(&mut bytes)?;
+    Ok(bytes)
+}
+
+fn run<R: Print + AllocGlobal + Files + Env>(rt: &R) -> io::Result<()> {
+    let mut files = Vec::new(rt.alloc());
+    for path in env::args(rt)?.skip(1) {
+        let path = path.as_str();
+        if path.ends_with(".class") {
+            files.push(class_file(rt, path)?)?;
+        } else {
+            show_cases(rt, path)?;
+        }
+    }
+    if files.is_empty() {
+        return Ok(());
+    }
+    show_program(rt, "files", &files, true)
+}
+
+fn main(rt: HostRuntime) -> io::Result<()> {
+    run(&rt)
+}
