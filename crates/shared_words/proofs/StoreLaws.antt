@@ -1,0 +1,189 @@
+-- Lists in a store.
+use Rattle.std.proofs.Common.{◌≡◌, ℕ, ◌<◌, ◌≤◌, ◌==◌, nat_le, Bool, true, false, MatchBool, cond, inl, inr, List, length, refl, sym, ◌∙◌, ap, subst, arith}
+use Rattle.std.proofs.Math.Path.{fun_ext}
+use Rattle.type_rules.specs.declared.types.VerificationType.{VerificationType}
+use Rattle.type_rules.specs.declared.types.VerificationType.TheVariants.{Top}
+use Rattle.type_rules.specs.Assignable.{Hierarchy, is_assignable, is_same_type}
+use Rattle.shared_words.specs.declared.parts.Part.{Part}
+use Rattle.shared_words.specs.declared.known.KnownPairs.{KnownPairs}
+use Rattle.shared_words.specs.declared.store.WordStore.{WordStore}
+use Rattle.shared_words.specs.declared.store.Words.{Words}
+use Rattle.shared_words.specs.Parts.{part_at, room, word_of, with_word, replaced_type, IsClosed, Grows}
+use Rattle.shared_words.specs.Compared.{AreAssignable, AreApart, KnowsRightly}
+use Rattle.shared_words.specs.Store.{word_at, IsList, IsMarked, IsKept, Remembers, Follows}
+use Rattle.shared_words.specs.Trees.{IsTree, Touches}
+use Rattle.std.proofs.lemmas.Bool.Decides.{leb_tells}
+use Rattle.shared_words.proofs.PartLaws.{same_below}
+use Rattle.shared_words.proofs.SetLaws.{with_other}
+use Rattle.shared_words.proofs.ComparedLaws.{all_tops}
+use Rattle.shared_words.proofs.Replaced.{top_stays}
+use Rattle.shared_words.proofs.TreeLaws.{kept_tree, in_is_new, same_child}
+
+-- words that end before a place
+abbrev pub guarded : ℕ → (ℕ → VerificationType) → ℕ → VerificationType
+guarded end f n = cond (nat_le end n) Top (f n)
+
+-- parts that are the same up to a bound
+abbrev pub AreSame : List Part → List Part → ℕ → Type 0
+AreSame old new bound = (i : ℕ) → i ≤ bound → part_at new i ≡ part_at old i
+
+pub same_closed : (p q : List Part) (bound : ℕ) → AreSame p q bound → IsClosed p bound → IsClosed q bound
+same_closed p q bound same closed i j h = subst (λ c. c ≤ bound) (sym (same_child p q i j (same i h))) (closed i j h)
+
+pub knows_on : (h : Hierarchy) (p q : List Part) (bound more : ℕ) (known : KnownPairs) → IsClosed p bound → AreSame p q bound → bound ≤ more
+    → KnowsRightly h p bound known → KnowsRightly h q more known
+knows_on h p q bound more known closed same less right k l g is =
+    let before = right k l g is in (
+      omega (arith, before.0, less),
+      omega (arith, before.1, less),
+      λ n inside.
+          ap (λ w. is_assignable h w (word_of q k g n)) (same_below p q bound same closed k l n before.0)
+          ∙ ap (λ w. is_assignable h (word_of p k l n) w) (same_below p q bound same closed k g n before.1)
+          ∙ before.2 n inside,
+    )
+
+pub remembers_on : (h : Hierarchy) (old new : WordStore) → new.known ≡ old.known → old.kept ≤ new.kept
+    → IsClosed old.parts.items old.kept → AreSame old.parts.items new.parts.items old.kept → Remembers h old → Remembers h new
+unfolding Remembers
+remembers_on h old new known more closed same right =
+    subst (λ x. KnowsRightly h new.parts.items new.kept x) (sym known) (knows_on h old.parts.items new.parts.items old.kept new.kept old.known closed same more right)
+
+pub remembers : (h : Hierarchy) (store : WordStore) → KnowsRightly h store.parts.items store.kept store.known → Remembers h store
+unfolding Remembers
+remembers h store right = right
+
+pub remembered : (h : Hierarchy) (store : WordStore) → Remembers h store → KnowsRightly h store.parts.items store.kept store.known
+unfolding Remembers
+remembered h store right = right
+
+pub is_list : (store : WordStore) (words : Words) → words.root ≤ length store.parts.items → IsTree store.parts.items store.kept store.height words.root → IsList store words
+unfolding IsList
+is_list store words h tree = (h, tree)
+
+pub list_is : (store : WordStore) (words : Words) → IsList store words → words.root ≤ length store.parts.items
+unfolding IsList
+list_is store words h = h.0
+
+pub list_tree : (store : WordStore) (words : Words) → IsList store words → IsTree store.parts.items store.kept store.height words.root
+unfolding IsList
+list_tree store words h = h.1
+
+pub is_kept : (store : WordStore) (words : Words) → words.root ≤ store.kept → IsKept store words
+unfolding IsList IsMarked
+is_kept store words h = ((omega (arith, h, store.within), kept_tree store.parts.items store.kept store.height words.root h), h)
+
+pub kept_is : (store : WordStore) (words : Words) → IsKept store words → words.root ≤ store.kept
+unfolding IsMarked
+kept_is store words h = h.1
+
+pub follows : (old new : WordStore) → new.most ≡ old.most → new.height ≡ old.height → old.kept ≤ new.kept
+    → IsClosed old.parts.items old.kept → AreSame old.parts.items new.parts.items old.kept → Follows old new
+unfolding word_at
+follows old new most height more closed same = record {
+  most = most;
+  kept = λ words h. is_kept new words (omega (arith, kept_is old words h, more));
+  words = λ words h.
+      ap (λ k. guarded (room k) (word_of new.parts.items k words.root)) height
+      ∙ fun_ext (λ n. ap (λ w. cond (nat_le (room old.height) n) Top w) (same_below old.parts.items new.parts.items old.kept same closed old.height words.root n (kept_is old words h)));
+}
+
+-- the words of a list, by the parts
+pub words_are : (store : WordStore) (words : Words) → word_at store words ≡ guarded (room store.height) (word_of store.parts.items store.height words.root)
+unfolding word_at
+words_are store words = refl
+
+-- words inside, and behind the end
+pub word_inside : (store : WordStore) (words : Words) (n : ℕ) → n < room store.height → word_at store words n ≡ word_of store.parts.items store.height words.root n
+unfolding word_at
+word_inside store words n low = elim (leb_tells (room store.height) n) [
+  | inl past ↦ absurd (omega (arith, past.1, low))
+  | inr inside ↦ ap (λ b. cond b Top (word_of store.parts.items store.height words.root n)) inside.0
+]
+
+pub word_behind : (store : WordStore) (words : Words) (n : ℕ) → room store.height ≤ n → word_at store words n ≡ Top
+unfolding word_at
+word_behind store words n h = elim (leb_tells (room store.height) n) [
+  | inl past ↦ ap (λ b. cond b Top (word_of store.parts.items store.height words.root n)) past.0
+  | inr inside ↦ absurd (omega (arith, inside.1, h))
+]
+
+-- ---- a change of the parts
+
+-- parts up to the mark stay where no others change than those of a tree
+pub touched_same : (old : WordStore) (new : List Part) (height part : ℕ) → Touches old.parts.items new old.kept height part → AreSame old.parts.items new old.kept
+touched_same old new height part touches i h =
+    touches.1 i (omega (arith, h, old.within)) (λ a. absurd (omega (arith, h, in_is_new old.parts.items old.kept height part i a)))
+
+pub grown_same : (old : WordStore) (new : List Part) → Grows old.parts.items new → AreSame old.parts.items new old.kept
+grown_same old new grows i h = grows.1 i (omega (arith, h, old.within))
+
+-- the words of a list that was made of another one
+pub set_words : (old new : WordStore) (words made : Words) (at : ℕ) (word : VerificationType) → new.height ≡ old.height → at < room old.height
+    → ((n : ℕ) → word_of new.parts.items old.height made.root n ≡ with_word (word_of old.parts.items old.height words.root) at word n) → word_at new made ≡ with_word (word_at old words) at word
+set_words old new words made at word height low is = fun_ext (λ n. elim (leb_tells (room old.height) n) [
+  | inl past ↦
+      word_behind new made n (let e = ap room height in omega (arith, e, past.1))
+      ∙ sym (with_other (word_at old words) at word n (λ e. absurd (omega (arith, e, past.1, low))) ∙ word_behind old words n past.1)
+  | inr inside ↦
+      word_inside new made n (let e = ap room height in omega (arith, e, inside.1)) ∙ ap (λ k. word_of new.parts.items k made.root n) height ∙ is n
+      ∙ ap (λ w. cond (n == at) word w) (sym (word_inside old words n (omega (arith, inside.1))))
+])
+
+pub replaced_words : (old new : WordStore) (words made : Words) (before after : VerificationType) → new.height ≡ old.height → is_same_type Top before ≡ false
+    → ((n : ℕ) → n < room old.height → word_of new.parts.items old.height made.root n ≡ replaced_type before after (word_of old.parts.items old.height words.root n))
+    → word_at new made ≡ (λ n. replaced_type before after (word_at old words n))
+replaced_words old new words made before after height top is = fun_ext (λ n. elim (leb_tells (room old.height) n) [
+  | inl past ↦
+      word_behind new made n (let e = ap room height in omega (arith, e, past.1))
+      ∙ sym (top_stays before after top) ∙ ap (λ w. replaced_type before after w) (sym (word_behind old words n past.1))
+  | inr inside ↦
+      word_inside new made n (let e = ap room height in omega (arith, e, inside.1)) ∙ ap (λ k. word_of new.parts.items k made.root n) height ∙ is n (omega (arith, inside.1))
+      ∙ ap (λ w. replaced_type before after w) (sym (word_inside old words n (omega (arith, inside.1))))
+])
+
+-- what was found of words of parts, as of the lists
+pub all_assignable : (h : Hierarchy) (store : WordStore) (low high : Words) (b : Bool)
+    → MatchBool b (AreAssignable h store.parts.items store.height low.root high.root) (AreApart h store.parts.items store.height low.root high.root)
+    → MatchBool b ((n : ℕ) → is_assignable h (word_at store low n) (word_at store high n) ≡ true) ((n : ℕ) × (is_assignable h (word_at store low n) (word_at store high n) ≡ false))
+all_assignable h store low high true told = λ n. elim (leb_tells (room store.height) n) [
+  | inl past ↦ ap (λ w. is_assignable h (word_at store low n) w) (word_behind store high n past.1)
+  | inr inside ↦
+      ap (λ w. is_assignable h w (word_at store high n)) (word_inside store low n (omega (arith, inside.1)))
+      ∙ ap (λ w. is_assignable h (word_of store.parts.items store.height low.root n) w) (word_inside store high n (omega (arith, inside.1)))
+      ∙ told n (omega (arith, inside.1))
+]
+all_assignable h store low high false told = (
+  told.0,
+  ap (λ w. is_assignable h w (word_at store high told.0)) (word_inside store low told.0 told.1)
+      ∙ ap (λ w. is_assignable h (word_of store.parts.items store.height low.root told.0) w) (word_inside store high told.0 told.1)
+      ∙ told.2,
+)
+
+pub found_at : (word : VerificationType) (store : WordStore) (words : Words)
+    → (n : ℕ) × (n < room store.height) × (is_same_type word (word_of store.parts.items store.height words.root n) ≡ true) → (n : ℕ) × (is_same_type word (word_at store words n) ≡ true)
+found_at word store words found = (found.0, ap (is_same_type word) (word_inside store words found.0 found.1) ∙ found.2)
+
+pub absent_at : (word : VerificationType) (store : WordStore) (words : Words) → is_same_type word Top ≡ false
+    → ((n : ℕ) → n < room store.height → is_same_type word (word_of store.parts.items store.height words.root n) ≡ false) → (n : ℕ) → is_same_type word (word_at store words n) ≡ false
+absent_at word store words top absent n = elim (leb_tells (room store.height) n) [
+  | inl past ↦ ap (is_same_type word) (word_behind store words n past.1) ∙ top
+  | inr inside ↦ ap (is_same_type word) (word_inside store words n (omega (arith, inside.1))) ∙ absent n (omega (arith, inside.1))
+]
+
+pub top_at : (store : WordStore) (words : Words) (n : ℕ) → words.root ≡ 0 → word_at store words n ≡ Top
+top_at store words n e = elim (leb_tells (room store.height) n) [
+  | inl past ↦ word_behind store words n past.1
+  | inr inside ↦ word_inside store words n (omega (arith, inside.1)) ∙ ap (λ r. word_of store.parts.items store.height r n) e ∙ all_tops store.parts.items store.height n
+]
+
+-- ---- for callers
+
+pub follows_itself : (store : WordStore) → Follows store store
+follows_itself store = record { most = refl; kept = λ words h. h; words = λ words h. refl }
+
+pub follows_on : (a b c : WordStore) → Follows a b → Follows b c → Follows a c
+follows_on a b c first later = record {
+  most = later.most ∙ first.most;
+  kept = λ words h. later.kept words (first.kept words h);
+  words = λ words h. later.words words (first.kept words h) ∙ first.words words h;
+}

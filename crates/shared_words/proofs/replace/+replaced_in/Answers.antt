@@ -1,0 +1,36 @@
+use Rattle.std.proofs.Common.{◌≡◌, ◌∙◌, false, get_or, ap, sym, refl, arith}
+use Rattle.std.proofs.lemmas.Bool.{true≢false}
+use Rattle.shared_words.specs.Parts.{node_children}
+use Rattle.shared_words.proofs.SetLaws.{on_ok}
+use Rattle.shared_words.proofs.Replaced.{next_child, node_of, part_of, none_replaced}
+use Rattle.shared_words.proofs.replace.+replaced_in.Goals as goal
+use Rattle.shared_words.proofs.replace.+replaced_in.Goals.{then-is_changed, else-is_changed}
+
+pub returns-then-part-eq0-clause-words : goal.returns-then-part-eq0-clause-words
+returns-then-part-eq0-clause-words t c = none_replaced c.args.parts.now.items c.args.height c.args.part c.args.old c.args.new c.if-part-eq0.true c.requires.old
+
+pub loop-digit-preserved : goal.loop-digit-preserved
+loop-digit-preserved t c =
+    let made = c.in_ok-made.made in
+    let below = get_or c.loop-digit.children c.loop-digit.digit 0 in
+    let flag : c.if-is_changed.is_changed ≡ false → (c.loop-digit.is_changed ≡ false) × (made ≡ below) = elim c.if-is_changed.branch [
+      | then-is_changed w ↦ λ e. absurd (true≢false (sym (w.is_changed-is ∙ w.if-is_changed.true) ∙ e))
+      | else-is_changed w ↦ λ e. (w.if-is_changed.false, search (arith, e, w.is_changed-is))
+    ] in
+    next_child c.args.parts.now.items c.loop-digit.parts.items c.replaced_in.new.parts.items c.args.height c.args.part c.args.old c.args.new c.loop-digit.children c.loop-digit.digit c.loop-digit.is_changed c.loop-digit.invariant
+    below made c.if-is_changed.is_changed refl (omega (arith, c.loop-digit-test.true)) c.requires.closed c.requires.list c.in_ok-made.ensures.grows c.in_ok-made.ensures.closed c.in_ok-made.ensures.list c.in_ok-made.ensures.words flag
+
+pub returns-then-not-is_changed-clause-words : goal.returns-then-not-is_changed-clause-words
+returns-then-not-is_changed-clause-words t c =
+    part_of c.args.parts.now.items c.loop-digit.parts.items c.args.height c.args.part c.args.old c.args.new c.loop-digit.children c.loop-digit.digit c.loop-digit.is_changed c.loop-digit.invariant c.if-height-eq0.false (omega (arith, c.loop-digit-test.false))
+    c.if-not-is_changed.true c.requires.list
+
+pub returns-clause-words : goal.returns-clause-words
+returns-clause-words t c =
+    let p0 = c.args.parts.now.items in
+    let p = c.loop-digit.parts.items in
+    on_ok _ _ c.push.result
+    (λ node made.
+    node_of p0 p c.push.new.parts.items c.args.height c.args.part c.args.old c.args.new c.loop-digit.children c.loop-digit.digit c.loop-digit.is_changed c.loop-digit.invariant node c.if-height-eq0.false (omega (arith, c.loop-digit-test.false))
+    (λ j. ap (λ x. get_or (node_children x) j 0) made.1) c.push.ensures.grows)
+    c.push.ensures.made

@@ -1,0 +1,5 @@
+pub mod Parts
+pub mod Compared
+pub mod Shown
+pub mod Store
+pub mod Trees

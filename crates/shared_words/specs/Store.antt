@@ -1,0 +1,38 @@
+-- Lists in a store.
+use Rattle.std.specs.Prelude.{◌≡◌, ℕ, ◌≤◌, nat_le, length, if◌then◌else◌}
+use Rattle.type_rules.specs.declared.types.VerificationType.{VerificationType}
+use Rattle.type_rules.specs.declared.types.VerificationType.TheVariants.{Top}
+use Rattle.type_rules.specs.Assignable.{Hierarchy}
+use Rattle.shared_words.specs.declared.store.WordStore.{WordStore}
+use Rattle.shared_words.specs.declared.store.Words.{Words}
+use Rattle.shared_words.specs.Parts.{room, word_of}
+use Rattle.shared_words.specs.Trees.{IsTree}
+use Rattle.shared_words.specs.Compared.{KnowsRightly}
+
+-- the word of a list at a place, from 0; Top behind the list's end
+unfoldable pub word_at : WordStore → Words → ℕ → VerificationType
+word_at store words n =
+    if nat_le (room store.height) n then Top else word_of store.parts.items store.height words.root n
+
+-- there is such a list in the store
+unfoldable pub IsList : WordStore → Words → Type 0
+IsList store words =
+    (words.root ≤ length store.parts.items) × IsTree store.parts.items store.kept store.height words.root
+
+-- .. that was there when lists were kept
+unfoldable pub IsMarked : WordStore → Words → Type 0
+IsMarked store words = words.root ≤ store.kept
+
+-- there is such a list, and no change of the store changes it
+abbrev pub IsKept : WordStore → Words → Type 0
+IsKept store words = IsList store words × IsMarked store words
+
+-- what the store remembers of comparisons is so among these classes
+unfoldable pub Remembers : Hierarchy → WordStore → Type 0
+Remembers h store = KnowsRightly h store.parts.items store.kept store.known
+
+-- what no call changes
+pub record Follows (old new : WordStore) : Type 0 where
+  pub most : new.most ≡ old.most
+  pub kept : (words : Words) → IsKept old words → IsKept new words
+  pub words : (words : Words) → IsKept old words → word_at new words ≡ word_at old words

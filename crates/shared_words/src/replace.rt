@@ -1,0 +1,109 @@
+//! Lists in which a word stands for another one.
+
+ghost use Rattle.std.specs.Prelude.{◌≡◌, ◌≤◌, ◌<◌, ℕ, false, true, slice_index_or, IfOk, length};
+ghost use Rattle.type_rules.specs.Assignable as assignable;
+ghost use Rattle.type_rules.specs.declared.types.VerificationType.TheVariants.{Top};
+ghost use Rattle.shared_words.specs.Parts.{leaf_word, replaced_type, room, word_of, IsClosed, Grows};
+
+use crate::parts::{CHILDREN, Part, children_of, push, words_of_leaf};
+use std::alloc::AllocError;
+use type_rules::VerificationType;
+use word_types::is_same_type;
+
+// A word, or another one where it is the old one.
+fn replaced(
+    word: VerificationType,
+    old: VerificationType,
+    new: VerificationType,
+) -> VerificationType
+    ensures { result ≡ replaced_type old new word }
+{
+    if is_same_type(word, old) { new } else { word }
+}
+
+// Tests whether a leaf hasn't got a word.
+fn is_without(parts: &[Part], part: u32, old: VerificationType) -> bool
+    requires { assignable.is_same_type Top old ≡ false }
+    ensures { result ≡ true → (n : ℕ) → assignable.is_same_type (leaf_word parts.now part n) old ≡ false }
+{
+    let words = words_of_leaf(parts, part);
+    for place in 0..8 {
+        if is_same_type(words[place], old) {
+            return false;
+        }
+    }
+    true
+}
+
+// Replaces a word.
+fn replace_words(words: &mut [VerificationType; 8], old: VerificationType, new: VerificationType)
+    requires { assignable.is_same_type Top old ≡ false }
+    ensures { (n : ℕ) → slice_index_or words.new n Top ≡ replaced_type old new (slice_index_or words.old n Top) }
+{
+    for place in 0..8 {
+        words[place] = replaced(words[place], old, new);
+    }
+}
+
+// A leaf in which a word stands for another one.
+fn replaced_leaf(
+    parts: &mut Vec<Part>,
+    part: u32,
+    old: VerificationType,
+    new: VerificationType,
+) -> Result<u32, AllocError>
+    requires closed { IsClosed parts.old.items (length parts.old.items) }
+    requires list { part ≤ length parts.old.items }
+    requires old { assignable.is_same_type Top old ≡ false }
+    ensures grows { Grows parts.old.items parts.new.items }
+    ensures closed { IsClosed parts.new.items (length parts.new.items) }
+    ensures list { IfOk result (λ made. made ≤ length parts.new.items) }
+    ensures words { IfOk result (λ made.
+        (n : ℕ)
+        → word_of parts.new.items 0 made n ≡ replaced_type old new (word_of parts.old.items 0 part n)) }
+{
+    if is_without(parts, part, old) {
+        return Ok(part);
+    }
+    let mut words = words_of_leaf(parts, part);
+    replace_words(&mut words, old, new);
+    push(parts, Part::Leaf(words))
+}
+
+// A part at a height in which a word that isn't Top stands for another one.
+pub(crate) fn replaced_in(
+    parts: &mut Vec<Part>,
+    height: u8,
+    part: u32,
+    old: VerificationType,
+    new: VerificationType,
+) -> Result<u32, AllocError>
+    requires closed { IsClosed parts.old.items (length parts.old.items) }
+    requires list { part ≤ length parts.old.items }
+    requires old { assignable.is_same_type Top old ≡ false }
+    ensures grows { Grows parts.old.items parts.new.items }
+    ensures closed { IsClosed parts.new.items (length parts.new.items) }
+    ensures list { IfOk result (λ made. made ≤ length parts.new.items) }
+    ensures words { IfOk result (λ made.
+        (n : ℕ)
+        → n < room height → word_of parts.new.items height made n ≡ replaced_type old new (word_of parts.old.items height part n)) }
+{
+    if part == 0 {
+        return Ok(0);
+    }
+    if height == 0 {
+        return replaced_leaf(parts, part, old, new);
+    }
+    let mut children = children_of(parts, part);
+    let mut is_changed = false;
+    for digit in 0..32 {
+        let below = children[digit];
+        let made = replaced_in(parts, height - 1, below, old, new)?;
+        is_changed = is_changed || made != below;
+        children[digit] = made;
+    }
+    if !is_changed {
+        return Ok(part);
+    }
+    push(parts, Part::Node(children))
+}

@@ -1,0 +1,100 @@
+//! Lists of which one word is changed.
+
+ghost use Rattle.std.specs.Prelude.{◌≡◌, ◌≤◌, ◌<◌, ◌==◌, ℕ, IfOk, length, slice_index, if◌then◌else◌};
+ghost use Rattle.shared_words.specs.Parts.{child_at, node_children, part_at, room, IsClosed};
+ghost use Rattle.shared_words.specs.Trees.{IsTree, IsSet, IsPut, Touches, LeavesOthers};
+
+use crate::parts::{Part, child, children_of, push, room_of, words_of_leaf};
+use std::alloc::AllocError;
+use type_rules::VerificationType;
+
+// A part in place of another one: in its place, if that one isn't kept.
+fn put(parts: &mut Vec<Part>, kept: usize, part: u32, new: Part) -> Result<u32, AllocError>
+    requires closed { IsClosed parts.old.items (length parts.old.items) }
+    requires list { part ≤ length parts.old.items }
+    requires children { (j : ℕ) → slice_index (node_children new) j ≤ length parts.old.items }
+    ensures others { LeavesOthers parts.old.items parts.new.items kept part }
+    ensures closed { IsClosed parts.new.items (length parts.new.items) }
+    ensures made { IfOk result (λ made. (made ≤ length parts.new.items) × (part_at parts.new.items made ≡ new)) }
+    ensures which { IfOk result (λ made. IsPut parts.old.items kept part made) }
+{
+    if (part as usize) <= kept {
+        return push(parts, new);
+    }
+    parts[part as usize - 1] = new;
+    Ok(part)
+}
+
+// A leaf with another word at a place.
+fn leaf_with(
+    parts: &mut Vec<Part>,
+    kept: usize,
+    part: u32,
+    place: u32,
+    word: VerificationType,
+) -> Result<u32, AllocError>
+    requires closed { IsClosed parts.old.items (length parts.old.items) }
+    requires list { part ≤ length parts.old.items }
+    requires place { place < 8 }
+    ensures touches { Touches parts.old.items parts.new.items kept 0 part }
+    ensures closed { IsClosed parts.new.items (length parts.new.items) }
+    ensures set { IfOk result (λ made. IsSet parts.old.items parts.new.items kept 0 part made place word) }
+{
+    let mut words = words_of_leaf(parts, part);
+    words[place as usize] = word;
+    put(parts, kept, part, Part::Leaf(words))
+}
+
+// A node with another child at a digit.
+fn node_with(
+    parts: &mut Vec<Part>,
+    kept: usize,
+    part: u32,
+    digit: u32,
+    made: u32,
+) -> Result<u32, AllocError>
+    requires closed { IsClosed parts.old.items (length parts.old.items) }
+    requires list { part ≤ length parts.old.items }
+    requires child { made ≤ length parts.old.items }
+    requires digit { digit < 32 }
+    ensures others { LeavesOthers parts.old.items parts.new.items kept part }
+    ensures closed { IsClosed parts.new.items (length parts.new.items) }
+    ensures list { IfOk result (λ node. node ≤ length parts.new.items) }
+    ensures which { IfOk result (λ node. IsPut parts.old.items kept part node) }
+    ensures children { IfOk result (λ node.
+        (j : ℕ) → child_at parts.new.items node j ≡ (if j == digit then made else child_at parts.old.items part j)) }
+{
+    let mut children = children_of(parts, part);
+    children[digit as usize] = made;
+    put(parts, kept, part, Part::Node(children))
+}
+
+// A part at a height with another word at a place, in place of the part. Parts that aren't kept change in their places.
+pub(crate) fn set_in(
+    parts: &mut Vec<Part>,
+    kept: usize,
+    height: u8,
+    part: u32,
+    place: u32,
+    word: VerificationType,
+) -> Result<u32, AllocError>
+    requires closed { IsClosed parts.old.items (length parts.old.items) }
+    requires closed_kept { IsClosed parts.old.items kept }
+    requires within { kept ≤ length parts.old.items }
+    requires list { part ≤ length parts.old.items }
+    requires tree { IsTree parts.old.items kept height part }
+    requires low { height ≤ 3 }
+    requires place { place < room height }
+    ensures touches { Touches parts.old.items parts.new.items kept height part }
+    ensures closed { IsClosed parts.new.items (length parts.new.items) }
+    ensures set { IfOk result (λ made. IsSet parts.old.items parts.new.items kept height part made place word) }
+{
+    if height == 0 {
+        return leaf_with(parts, kept, part, place, word);
+    }
+    let room = room_of(height - 1);
+    let digit = place / room;
+    let below = child(parts, part, digit);
+    let made = set_in(parts, kept, height - 1, below, place % room, word)?;
+    node_with(parts, kept, part, digit, made)
+}
