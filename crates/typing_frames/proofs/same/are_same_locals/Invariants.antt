@@ -1,0 +1,7 @@
+use Rattle.std.proofs.Common.{◌≡◌, ◌<◌, ℕ, true}
+use Rattle.type_rules.specs.Assignable.{is_same_type}
+use Rattle.shared_words.specs.Store.{word_at}
+use Rattle.typing_frames.proofs.same.are_same_locals.Given as goal
+
+abbrev pub invariant-loop-at : goal.invariant-loop-at
+invariant-loop-at l = (n : ℕ) → n < l.at → is_same_type (word_at l.stores.locals l.a.locals n) (word_at l.stores.locals l.b.locals n) ≡ true

@@ -1,0 +1,9 @@
+use Rattle.std.proofs.Common.{sym, ◌∙◌}
+use Rattle.shared_words.specs.Store.{word_at}
+use Rattle.shared_words.proofs.ListLaws.{first_read}
+use Rattle.typing_frames.proofs.stores.FrameStores.local.Goals as goal
+
+pub returns : goal.returns
+returns c =
+    let store = c.args.self.now.locals in
+    c.word.ensures ∙ sym (first_read (word_at store c.args.frame.locals) store.most c.args.at c.requires.locals_end)
