@@ -1,0 +1,4 @@
+pub mod Initialized
+pub mod Moved
+pub mod Ready
+pub mod Tops

@@ -1,0 +1,8 @@
+use Rattle.shared_words.specs.Store.{word_at}
+use Rattle.shared_words.proofs.ListLaws.{stack_depth}
+use Rattle.step_frames.proofs.shown.ShownFrameFrameWords.height.Goals as goal
+
+pub returns : goal.returns
+returns c =
+    let s = c.args.self.now in
+    stack_depth (word_at s.stores.now.stacks s.frame.stack) s.frame.depth

@@ -1,0 +1,4 @@
+pub mod Arrays
+pub mod Locals
+pub mod Made
+pub mod Tops
