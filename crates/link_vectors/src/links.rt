@@ -1,10 +1,11 @@
 //! From class files to a linked program.
 
 ghost use Rattle.std.specs.Prelude.{IfOk};
+ghost use Rattle.code_decode.specs.Method.{StandsForFile};
 ghost use Rattle.link_rules.specs.Units.{AreUnits, IsDecoded};
 
 use class_make::{MakeRefusal, assemble};
-use class_read::{ReadRefusal, read_class};
+use class_read::{ClassFile, ReadRefusal, read_class};
 use code_decode::{ClassUnit, CodeAt, CodeRefusal, decode_class};
 use link_types::LinkRefusal;
 use linker::{World, link};
@@ -40,14 +41,20 @@ pub fn file_of_text(alloc: Global, text: &str) -> Result<Vec<u8>, Fault> {
     }
 }
 
+fn file_of_bytes(alloc: Global, bytes: &[u8]) -> Result<ClassFile, Fault>
+    ensures { IfOk result StandsForFile }
+{
+    match read_class(alloc, bytes) {
+        Ok(file) => Ok(file),
+        Err(ReadRefusal::NoMemory) => Err(Fault::NoMemory),
+        Err(_) => Err(Fault::File),
+    }
+}
+
 fn class_unit(alloc: Global, bytes: &[u8]) -> Result<ClassUnit, Fault>
     ensures { IfOk result IsDecoded }
 {
-    let file = match read_class(alloc, bytes) {
-        Ok(file) => file,
-        Err(ReadRefusal::NoMemory) => return Err(Fault::NoMemory),
-        Err(_) => return Err(Fault::File),
-    };
+    let file = file_of_bytes(alloc, bytes)?;
     match decode_class(alloc, file) {
         Ok(unit) => Ok(unit),
         Err(
@@ -66,7 +73,10 @@ fn class_units(alloc: Global, files: &[Vec<u8>]) -> Result<Vec<ClassUnit>, Fault
     let mut units = Vec::new(alloc);
     for file in files {
         let unit = class_unit(alloc, file)?;
-        units.push(unit).map_err(|_| Fault::NoMemory)?;
+        match units.push(unit) {
+            Ok(()) => {}
+            Err(_) => return Err(Fault::NoMemory),
+        }
     }
     Ok(units)
 }

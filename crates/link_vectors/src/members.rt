@@ -107,9 +107,7 @@ fn show_operand<R: Print>(rt: &R, operand: Operand) -> io::Result<()> {
 }
 
 /// What the indices of the pool of a class stand for, those that stand for something.
-pub fn show_operands<R: Print>(rt: &R, world: &World, class: u32) -> io::Result<()>
-    requires { class ≢ 0 }
-{
+pub fn show_operands<R: Print>(rt: &R, world: &World, class: u32) -> io::Result<()> {
     for index in 0..MOST_INDICES {
         match world.operand(class, index) {
             Operand::Nothing => {}

@@ -122,8 +122,11 @@ pub fn show_world<R: Print>(rt: &R, world: &World) -> io::Result<()> {
     }
     show_primitive_arrays(rt, world)?;
     show_fixed(rt, world)?;
-    for class in COUNT..=named {
-        show_calls(rt, world, class + 1)?;
+    for class in COUNT + 1..=named {
+        show_calls(rt, world, class)?;
+    }
+    if named < all {
+        show_calls(rt, world, named + 1)?;
     }
     for class in COUNT..named {
         show_operands(rt, world, class + 1)?;
