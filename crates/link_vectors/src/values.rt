@@ -3,6 +3,7 @@
 use link_types::{ElementType, MethodId, ObjectType, ValueType};
 use std::io;
 
+/// A number, where there is one.
 pub fn show_number<R: Print>(rt: &R, number: Option<u32>) -> io::Result<()> {
     match number {
         Some(number) => print!(rt; " {number}"),
@@ -10,6 +11,7 @@ pub fn show_number<R: Print>(rt: &R, number: Option<u32>) -> io::Result<()> {
     }
 }
 
+/// A method by the number of its class and its place there, where there is one.
 pub fn show_method<R: Print>(rt: &R, method: Option<MethodId>) -> io::Result<()> {
     match method {
         Some(MethodId { class, method }) => print!(rt; " {class}.{method}"),
@@ -44,6 +46,7 @@ pub fn show_object<R: Print>(rt: &R, kind: ObjectType) -> io::Result<()> {
     }
 }
 
+/// The type of a field, by its name or as that of a reference.
 pub fn show_value<R: Print>(rt: &R, kind: ValueType) -> io::Result<()> {
     match kind {
         ValueType::Boolean => print!(rt; " boolean"),
