@@ -5,7 +5,7 @@ ghost use Rattle.link_types.specs.declared.refusal.LinkRefusal.{LinkRefusal};
 ghost use Rattle.link_rules.specs.Units.{AreUnits};
 ghost use Rattle.link_rules.specs.LinkRules.{link_rules};
 ghost use Rattle.class_supers.specs.Answers.{Gives, Refuses, IsRefused};
-ghost use Rattle.linker.specs.Tables.{AreTables};
+ghost use Rattle.linker.specs.Tables.{AreTables, HasOrder};
 
 use crate::tables::{Tables, class_tables, member_tables};
 use crate::world::World;
@@ -44,7 +44,7 @@ fn checked_tables(alloc: Global, units: &[ClassUnit]) -> Result<Tables, LinkRefu
 
 fn linked_world(alloc: Global, units: Vec<ClassUnit>) -> Result<World, LinkRefusal>
     requires decoded { AreUnits units.items }
-    ensures { Gives result (link_rules units.items) (λ world. world ≡ units.items) }
+    ensures { Gives result (link_rules units.items) (λ world. (world ≡ units.items) × HasOrder units.items) }
 {
     match checked_tables(alloc, &units) {
         Ok(tables) => Ok(World { units, tables }),
@@ -53,7 +53,8 @@ fn linked_world(alloc: Global, units: Vec<ClassUnit>) -> Result<World, LinkRefus
 }
 
 /// Links the class files of a program (JVMS 5.3 to 5.5): `Ok` exactly where all rules of linking hold, want of memory
-/// aside. The world is seen as its files.
+/// aside. The world is seen as its files, whose classes can then be put in an order in which each stands behind those
+/// that it names.
 ///
 /// # Errors
 /// The refusal of the first rule that is broken, in the order of `link_rules`: of how many files there are and what
@@ -62,6 +63,7 @@ fn linked_world(alloc: Global, units: Vec<ClassUnit>) -> Result<World, LinkRefus
 pub fn link(alloc: Global, units: Vec<ClassUnit>) -> Result<World, LinkRefusal>
     requires decoded { AreUnits units.items }
     ensures linked { IfOk result (λ world. (world ≡ units.items) × (link_rules units.items).Hold) }
+    ensures order { IfOk result (λ world. HasOrder world) }
     ensures exact { IfErr result (λ e. Refuses e (link_rules units.items)) }
     ensures first { (e : LinkRefusal) → (link_rules units.items).Refuse e → IsRefused result e }
 {

@@ -2,7 +2,7 @@ use Rattle.std.proofs.Common.{refl, sym, subst}
 use Rattle.link_rules.specs.Units.{AreUnits}
 use Rattle.link_rules.specs.LinkRules.{link_rules}
 use Rattle.class_supers.specs.Answers.{Refuses}
-use Rattle.linker.specs.Tables.{AreTables}
+use Rattle.linker.specs.Tables.{AreTables, HasOrder}
 use Rattle.linker.proofs.WorldLaws.{given_ok, given_err}
 use Rattle.linker.proofs.linking.linked_world.Goals as goal
 
@@ -23,7 +23,7 @@ pub returns-in-Ok : goal.returns-in-Ok
 returns-in-Ok c =
     let units = c.deref.result.now in
     let given = given_ok (link_rules units) (AreTables units) c.checked_tables.result c.in-Ok.tables c.in-Ok.is c.checked_tables.ensures in
-    (subst (λ us. (link_rules us).Hold) c.deref.ensures.value given.0, refl)
+    (subst (λ us. (link_rules us).Hold) c.deref.ensures.value given.0, (refl, subst HasOrder c.deref.ensures.value given.1.order))
 
 pub returns-in-Err : goal.returns-in-Err
 returns-in-Err c =
