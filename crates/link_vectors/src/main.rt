@@ -1,14 +1,18 @@
-//! `link_vectors FILE..` links the programs of each file, and prints of each that it is linked, or the number of the
-//! refusal's kind, the class and the place. Files whose names end in `.class` are together one more program.
+//! `link_vectors FILE..` links, verifies or accepts the programs of each file, as each asks for, and prints of each what
+//! comes of it: that it is linked, type safe or accepted, or the refusal by numbers. Files whose names end in `.class` are
+//! together one more program, which is linked and verified.
 #![tactic(auto)]
 
+mod accepts;
 mod cases;
 mod links;
 mod members;
 mod values;
 mod worlds;
 
-use cases::{Case, cases_of};
+use accepts::{show_accepted, show_verified};
+use cases::{Case, Wanted, cases_of};
+use linker::World;
 use links::{Answer, Fault, file_of_text, link_files};
 use std::env;
 use std::fs::{self, File};
@@ -28,21 +32,33 @@ fn fault_text(fault: Fault) -> &'static str {
     }
 }
 
-/// Links the program of these class files, and prints what comes of it; also its numbers, where they are wanted.
+/// Prints of a linked program what is wanted of it.
+fn show_linked<R: Print + AllocGlobal>(
+    rt: &R,
+    name: &str,
+    world: &World,
+    wanted: &Wanted,
+) -> io::Result<()> {
+    match wanted {
+        Wanted::Safe => show_verified(rt, name, world),
+        Wanted::World => {
+            println!(rt; "{name} linked")?;
+            show_verified(rt, name, world)?;
+            show_world(rt, world)
+        }
+        _ => println!(rt; "{name} linked"),
+    }
+}
+
+/// Links the program of these class files, and prints what is wanted of it, or why it isn't linked.
 fn show_program<R: Print + AllocGlobal>(
     rt: &R,
     name: &str,
     files: &[Vec<u8>],
-    shown: bool,
+    wanted: &Wanted,
 ) -> io::Result<()> {
     match link_files(rt.alloc(), files)? {
-        Answer::Linked(world) => {
-            println!(rt; "{name} linked")?;
-            if shown {
-                show_world(rt, &world)?;
-            }
-            Ok(())
-        }
+        Answer::Linked(world) => show_linked(rt, name, &world, wanted),
         Answer::Refused { kind, class, place } => println!(rt;
             "{name} refused {kind} {class} {place}"
         ),
@@ -59,7 +75,10 @@ fn show_case<R: Print + AllocGlobal>(rt: &R, case: &Case) -> io::Result<()> {
             Err(fault) => return println!(rt; "{name}: {}", fault_text(fault)),
         }
     }
-    show_program(rt, name, &files, case.shown)
+    match &case.wanted {
+        Wanted::Accepted(main) => show_accepted(rt, name, files, main.as_str()),
+        wanted => show_program(rt, name, &files, wanted),
+    }
 }
 
 fn show_cases<R: Print + AllocGlobal + Files>(rt: &R, path: &str) -> io::Result<()> {
@@ -91,7 +110,7 @@ fn run<R: Print + AllocGlobal + Files + Env>(rt: &R) -> io::Result<()> {
     if files.is_empty() {
         return Ok(());
     }
-    show_program(rt, "files", &files, true)
+    show_program(rt, "files", &files, &Wanted::World)
 }
 
 fn main(rt: HostRuntime) -> io::Result<()> {

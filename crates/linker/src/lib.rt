@@ -4,6 +4,7 @@
 mod classes;
 mod linking;
 mod members;
+mod names;
 mod objects;
 mod tables;
 mod world;

@@ -1,8 +1,9 @@
 -- Items of locals, and words of stacks, one behind the other.
-use Rattle.std.proofs.Common.{◌≡◌, ℕ, zero, suc, ◌+◌, ◌-◌, ◌<◌, ◌≤◌, Bool, List, [], ◌∷◌, ◌++◌, map, take, length, get_or, reverse, append_assoc, refl, sym, ◌∙◌, ap, subst, arith}
-use Rattle.std.proofs.lemmas.List.{length_push, length-map, take_more, take-take, take-map, reverse-append}
+use Rattle.std.proofs.Common.{◌≡◌, ◌≢◌, None, ℕ, zero, suc, ◌+◌, ◌-◌, ◌<◌, ◌≤◌, Bool, List, [], ◌∷◌, ◌++◌, map, take, length, get_or, reverse, append_assoc, refl, sym, ◌∙◌, ap, subst, arith}
+use Rattle.std.proofs.lemmas.List.{length-reverse, length-append, length_push, length-map, take_more, take-take, take-map, reverse-append}
 use Rattle.code_frames.specs.declared.types.VType.{VType}
 use Rattle.type_rules.specs.declared.types.VerificationType.{VerificationType}
+use Rattle.type_rules.specs.declared.types.VerificationType.TheVariants.{Top, Int, Float, Long, Double, Second, Null, UninitThis, Uninit, Object}
 use Rattle.type_rules.specs.Assignable.{Hierarchy}
 use Rattle.type_rules.specs.Environment.{TypeFrame, in_locals}
 use Rattle.type_rules.specs.MapFrames.{item_words}
@@ -13,6 +14,7 @@ use Rattle.typing_frames.specs.declared.stores.CurrentFrame.{CurrentFrame}
 use Rattle.typing_frames.specs.Frames.{shown, IsFrame, StoresFollow, StoresRemember}
 use Rattle.typing_frames.proofs.FrameLaws.{stores_follow_itself, stores_follow_on}
 use Rattle.map_frames.specs.declared.items.LocalItems.{LocalItems}
+use Rattle.map_frames.specs.Mapped.{only_word}
 use Rattle.map_frames.specs.Making.{type_frame, AreItems, IsStack, IsFrameInRoom}
 
 -- what a change of locals leaves
@@ -119,3 +121,31 @@ stacking_types old now new frame made next f types i d value inside is before fo
     subst (λ ws. Stacking old frame new next ws)
     (ap (λ v. item_words f (take i types) ++ in_locals v) is ∙ sym (words_more f (take i types) (get_or types i d)) ∙ ap (item_words f) (sym (take_more types i d inside)))
     (stacking_more old now new frame made next (item_words f (take i types)) (in_locals value) before follows remembered there words)
+
+-- ---- a stack of one word
+
+some_word : (v : VerificationType) → 0 < length (in_locals v)
+some_word Top = omega arith
+some_word Int = omega arith
+some_word Float = omega arith
+some_word Long = omega arith
+some_word Double = omega arith
+some_word Second = omega arith
+some_word Null = omega arith
+some_word UninitThis = omega arith
+some_word (Uninit p) = omega arith
+some_word (Object t) = omega arith
+
+more_words : (ws : List VerificationType) → 1 < length ws → only_word ws ≡ None
+more_words [] h = absurd (omega (arith, h))
+more_words (w ∷ []) h = absurd (omega (arith, h))
+more_words (w ∷ v ∷ ws) h = refl
+
+pub only_of_others : (f : VType → VerificationType) (types : List VType) → length types ≢ 1 → only_word (reverse (item_words f types)) ≡ None
+only_of_others f [] other = refl
+only_of_others f (t ∷ []) other = absurd (other refl)
+only_of_others f (t ∷ u ∷ types) other =
+    let size = length-reverse (item_words f (t ∷ u ∷ types)) in
+    let first = length-append (in_locals (f t)) (item_words f (u ∷ types)) in
+    let second = length-append (in_locals (f u)) (item_words f types) in
+    more_words (reverse (item_words f (t ∷ u ∷ types))) (omega (arith, size, first, second, some_word (f t), some_word (f u)))

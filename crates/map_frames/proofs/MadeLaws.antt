@@ -17,12 +17,13 @@ use Rattle.type_rules.specs.Environments.{words_of_values}
 use Rattle.type_rules.specs.MapFrames.{item_type, item_words, is_uninit_this, frame_with_flag, frame_numbered, value_widths}
 use Rattle.shared_words.specs.Shown.{first_words, stack_words, EndsBy}
 use Rattle.shared_words.specs.Store.{word_at, IsList}
+use Rattle.shared_words.specs.declared.store.Words.{Words}
 use Rattle.typing_frames.specs.declared.stores.FrameStores.{FrameStores}
 use Rattle.typing_frames.specs.declared.stores.CurrentFrame.{CurrentFrame}
 use Rattle.typing_frames.specs.Frames.{shown, IsFrame, IsKeptFrame, KeepsAll, StoresFollow, StoresRemember}
 use Rattle.map_frames.specs.declared.words.LocalWords.{LocalWords}
 use Rattle.map_frames.specs.declared.mapped.MappedFrame.{MappedFrame}
-use Rattle.map_frames.specs.Mapped.{is_word, with_locals, Maps, MapsAt, AreMapped}
+use Rattle.map_frames.specs.Mapped.{is_word, with_locals, shown_locals, only_word, AreLocals, Maps, MapsAt, AreMapped}
 use Rattle.map_frames.specs.declared.items.LocalItems.{LocalItems}
 use Rattle.map_frames.specs.Making.{one_if, count_words, type_frame, AreItems, AreWords, IsStack}
 use Rattle.typing_frames.proofs.FrameLaws.{stores_follow_on}
@@ -85,11 +86,25 @@ words_follow old new words ws follows kept are =
       uninits = are.uninits;
     }
 
+-- locals that stay
+pub locals_follow : (old new : FrameStores) (words : Words) → StoresFollow old new → AreLocals old words → AreLocals new words
+locals_follow old new words follows are = record {
+  kept = follows.locals.kept words are.kept;
+  end = subst (λ m. EndsBy (word_at new.locals words) m) (sym follows.locals.most) (subst (λ f. EndsBy f old.locals.most) (sym (follows.locals.words words are.kept)) are.end);
+}
+
+pub same_locals : (old new : FrameStores) (words : Words) → StoresFollow old new → AreLocals old words → shown_locals new words ≡ shown_locals old words
+same_locals old new words follows are =
+    ap (λ f. first_words f new.locals.most) (follows.locals.words words are.kept) ∙ ap (first_words (word_at old.locals words)) follows.locals.most
+
 pub maps_follow : (old new : FrameStores) (mapped : MappedFrame) (g : TypeFrame) → StoresFollow old new → Maps old mapped g → Maps new mapped g
 maps_follow old new mapped g follows maps =
     let most = follows.locals.most in
     let less : length g.stack ≤ new.stacks.most → length g.stack ≤ old.stacks.most = λ h. subst (λ m. length g.stack ≤ m) follows.stacks.most h in
     record {
+      locals = locals_follow old new mapped.locals follows maps.locals;
+      shown_locals = same_locals old new mapped.locals follows maps.locals ∙ maps.shown_locals ∙ ap (λ m. padded m g.locals) (sym most);
+      only = maps.only;
       words = maps.words;
       passes = maps.passes ∙ ap (λ m. list_any is_word (drop m g.locals)) (sym most);
       depth = maps.depth;
@@ -125,13 +140,20 @@ begun stores words frame ws are locals stack depth =
     }
 
 pub mapped_is : (old now new : FrameStores) (words : LocalWords) (mapped : MappedFrame) (constructs : Bool) (ws ss : List VerificationType) → StoresFollow old now → KeepsAll now new
-    → AreWords old words ws → IsStack now mapped.frame (padded old.locals.most ws) (constructs && nat_lt 0 words.uninits) ss
+    → IsKeptFrame old words.frame → AreWords old words ws → mapped.locals ≡ words.frame.locals → mapped.only ≡ only_word (reverse ss) → IsStack now mapped.frame (padded old.locals.most ws) (constructs && nat_lt 0 words.uninits) ss
     → mapped.words ≡ words.count → mapped.passes ≡ nat_lt 0 words.passing → Maps new mapped (frame_with_flag constructs ws (reverse ss))
-mapped_is old now new words mapped constructs ws ss follows keeps are stack count passes =
+mapped_is old now new words mapped constructs ws ss follows keeps kept are locals only stack count passes =
     let most : new.locals.most ≡ old.locals.most = keeps.follows.locals.most ∙ follows.locals.most in
     let size : length (reverse ss) ≡ length ss = length-reverse ss in
     let less : length (reverse ss) ≤ new.stacks.most → length ss ≤ now.stacks.most = λ h. let e = keeps.follows.stacks.most in omega (arith, h, size, e) in
+    let all = stores_follow_on old now new follows keeps.follows in
+    let there : AreLocals old words.frame.locals = record { kept = kept.locals; end = kept.there.locals_end } in
     record {
+      locals = subst (AreLocals new) (sym locals) (locals_follow old new words.frame.locals all there);
+      shown_locals =
+          ap (shown_locals new) locals ∙ same_locals old new words.frame.locals all there ∙ ap (λ (f : TypeFrame). f.locals) are.are
+          ∙ ap (λ m. padded m ws) (sym most);
+      only = only;
       words = count ∙ are.count;
       passes = passes ∙ ap (λ n. nat_lt 0 n) are.passing ∙ some_words is_word (drop old.locals.most ws) ∙ ap (λ m. list_any is_word (drop m ws)) (sym most);
       depth = stack.depth ∙ sym size;
@@ -198,7 +220,7 @@ got_last : (xs : List MappedFrame) (x : MappedFrame) → slice_get (xs ++ x ∷ 
 got_last [] x = refl
 got_last (y ∷ xs) x = got_last xs x
 
-maps_at_follow : (old new : FrameStores) (o : Option MappedFrame) (g : TypeFrame) → StoresFollow old new → MapsAt old o (Some g) → MapsAt new o (Some g)
+pub maps_at_follow : (old new : FrameStores) (o : Option MappedFrame) (g : TypeFrame) → StoresFollow old new → MapsAt old o (Some g) → MapsAt new o (Some g)
 maps_at_follow old new None g follows maps = maps
 maps_at_follow old new (Some m) g follows maps = maps_follow old new m g follows maps
 

@@ -1,5 +1,5 @@
 -- Map frames in stores of lists of words.
-use Rattle.std.specs.Prelude.{◌≡◌, ◌≤◌, ◌<◌, ℕ, not, Bool, Option, Some, None, List, drop, length, slice_get}
+use Rattle.std.specs.Prelude.{◌≡◌, ◌≤◌, ◌<◌, ℕ, not, Bool, Option, Some, None, List, [], ◌∷◌, drop, length, slice_get}
 use Rattle.std.specs.List.{list_any}
 use Rattle.code_frames.specs.declared.types.VType.{VType}
 use Rattle.code_frames.specs.declared.types.MapFrame.{MapFrame}
@@ -8,6 +8,9 @@ use Rattle.type_rules.specs.declared.types.VerificationType.TheVariants.{Top}
 use Rattle.type_rules.specs.Assignable.{is_same_type}
 use Rattle.type_rules.specs.Environment.{TypeFrame, padded}
 use Rattle.type_rules.specs.MapFrames.{frame_numbered}
+use Rattle.shared_words.specs.declared.store.Words.{Words}
+use Rattle.shared_words.specs.Shown.{first_words, EndsBy}
+use Rattle.shared_words.specs.Store.{word_at, IsKept}
 use Rattle.typing_frames.specs.declared.stores.FrameStores.{FrameStores}
 use Rattle.typing_frames.specs.Frames.{shown, IsKeptFrame}
 use Rattle.map_frames.specs.declared.mapped.MappedFrame.{MappedFrame}
@@ -20,9 +23,26 @@ is_word type = not (is_same_type type Top)
 abbrev pub with_locals : ℕ → TypeFrame → TypeFrame
 with_locals most g = record g { locals = padded most g.locals }
 
+-- locals as many as the method has, which no change of the stores changes
+pub record AreLocals (stores : FrameStores) (words : Words) : Type 0 where
+  pub kept : IsKept stores.locals words
+  pub end : EndsBy (word_at stores.locals words) stores.locals.most
+
+abbrev pub shown_locals : FrameStores → Words → List VerificationType
+shown_locals stores words = first_words (word_at stores.locals words) stores.locals.most
+
+-- the word of a stack of one word
+abbrev pub only_word : List VerificationType → Option VerificationType
+only_word (w ∷ []) = Some w
+only_word _ = None
+
 -- A map frame is the one of the rules. Its locals are the first ones that the method has: how many it names is told
--- beside them, and whether one past those of the method is known. A stack that is too deep has only its depth.
+-- beside them, and whether one past those of the method is known. A stack that is too deep has only its depth, and its
+-- word where that is one.
 pub record Maps (stores : FrameStores) (mapped : MappedFrame) (g : TypeFrame) : Type 0 where
+  pub locals : AreLocals stores mapped.locals
+  pub shown_locals : shown_locals stores mapped.locals ≡ padded stores.locals.most g.locals
+  pub only : mapped.only ≡ only_word g.stack
   pub words : mapped.words ≡ length g.locals
   pub passes : mapped.passes ≡ list_any is_word (drop stores.locals.most g.locals)
   pub depth : mapped.frame.depth ≡ length g.stack

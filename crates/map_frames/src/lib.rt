@@ -15,4 +15,4 @@ mod words;
 pub use entry::MethodEntry;
 pub use here::frame_here;
 pub use mapped::{MapFrames, MappedFrame};
-pub use pool::PoolOperands;
+pub use pool::{PoolOperands, object_type};

@@ -9,16 +9,17 @@ ghost use Rattle.type_rules.specs.MapFrames as table;
 ghost use Rattle.type_rules.specs.declared.types.VerificationType.{VerificationType};
 ghost use Rattle.typing_frames.specs.Frames.{IsKeptFrame, StoresFollow, StoresRemember};
 ghost use Rattle.map_frames.specs.Making.{AreItems, AreWords};
-ghost use Rattle.map_frames.specs.Mapped.{AreMapFrames, Maps};
+ghost use Rattle.map_frames.specs.Mapped.{only_word, AreMapFrames, Maps};
 
 use crate::entry::MethodEntry;
-use crate::items::LocalItems;
+use crate::items::{LocalItems, is_wide};
 use crate::mapped::{MapFrames, MappedFrame};
-use crate::pool::PoolOperands;
+use crate::pool::{PoolOperands, item_type};
 use crate::stack::with_types;
 use crate::words::LocalWords;
 use code_frames::{Frames, MapFrame, VType};
 use std::alloc::{AllocError, Global};
+use type_rules::VerificationType;
 use typing_frames::{CurrentFrame, FrameStores};
 
 fn are_some(count: u32) -> bool
@@ -31,6 +32,24 @@ fn is_unset(constructs: bool, uninits: u32) -> bool
     ensures { result ≡ (constructs && nat_lt 0 uninits) }
 {
     constructs && 0 < uninits
+}
+
+// The word of a stack of one word.
+fn only_word<P: PoolOperands>(
+    pool: &P,
+    entry: &[VerificationType],
+    stack: &[VType],
+) -> Option<VerificationType>
+    ensures { result ≡ only_word (reverse (table.item_words (table.item_type (P.operands pool.now) entry.now) stack.now)) }
+{
+    if stack.len() != 1 {
+        return None;
+    }
+    let word = item_type(pool, entry, stack[0]);
+    if is_wide(word) {
+        return None;
+    }
+    Some(word)
 }
 
 // The map frame with these locals, which are kept, and with this stack.
@@ -62,9 +81,12 @@ fn mapped_frame<P: PoolOperands>(
         entry.words.as_slice(),
         stack,
     )?;
+    let only = only_word(pool, entry.words.as_slice(), stack);
     stores.keep();
     Ok(MappedFrame {
         frame,
+        locals: locals.frame.locals,
+        only,
         words: locals.count,
         passes: are_some(locals.passing),
     })

@@ -8,6 +8,8 @@ ghost use Rattle.typing_frames.specs.declared.stores.FrameStores.{FrameStores};
 ghost use Rattle.map_frames.specs.Mapped.{AreMapFrames, MapsAt};
 
 use code_frames::Frames;
+use shared_words::Words;
+use type_rules::VerificationType;
 use typing_frames::CurrentFrame;
 
 /// A stack map frame of a method.
@@ -15,6 +17,10 @@ use typing_frames::CurrentFrame;
 pub struct MappedFrame {
     /// The frame with as many locals as the method has.
     pub frame: CurrentFrame,
+    /// These locals, also where the stack is deeper than the method's.
+    pub locals: Words,
+    /// The word of a stack of one word.
+    pub only: Option<VerificationType>,
     /// How many words its locals have, which may be more.
     pub words: u32,
     /// Whether a word past the locals of the method isn't Top.

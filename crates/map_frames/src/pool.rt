@@ -22,7 +22,8 @@ pub trait PoolOperands {
         ensures { result ≡ operands self.now index };
 }
 
-fn object_type(operand: Operand) -> ObjectType
+/// The type of references to the class that an operand names; Object where it names none.
+pub fn object_type(operand: Operand) -> ObjectType
     ensures { result ≡ frames.object_type operand }
 {
     match operand {

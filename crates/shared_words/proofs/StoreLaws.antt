@@ -10,7 +10,7 @@ use Rattle.shared_words.specs.declared.store.WordStore.{WordStore}
 use Rattle.shared_words.specs.declared.store.Words.{Words}
 use Rattle.shared_words.specs.Parts.{part_at, room, word_of, with_word, replaced_type, IsClosed, Grows}
 use Rattle.shared_words.specs.Compared.{AreAssignable, AreApart, KnowsRightly}
-use Rattle.shared_words.specs.Store.{word_at, IsList, IsMarked, IsKept, Remembers, Follows}
+use Rattle.shared_words.specs.Store.{word_at, list_number, IsList, IsMarked, IsKept, Remembers, Follows}
 use Rattle.shared_words.specs.Trees.{IsTree, Touches}
 use Rattle.std.proofs.lemmas.Bool.Decides.{leb_tells}
 use Rattle.shared_words.proofs.PartLaws.{same_below}
@@ -177,6 +177,12 @@ top_at store words n e = elim (leb_tells (room store.height) n) [
 ]
 
 -- ---- for callers
+
+pub same_list : (a b : Words) → list_number a ≡ list_number b → a ≡ b
+same_list a b e = ap (λ n. one n) e
+  where
+    one : ℕ → Words
+    one n = record { root = n }
 
 pub follows_itself : (store : WordStore) → Follows store store
 follows_itself store = record { most = refl; kept = λ words h. h; words = λ words h. refl }

@@ -14,6 +14,10 @@ unfoldable pub word_at : WordStore → Words → ℕ → VerificationType
 word_at store words n =
     if nat_le (room store.height) n then Top else word_of store.parts.items store.height words.root n
 
+-- lists of one number are the same
+abbrev pub list_number : Words → ℕ
+list_number words = words.root
+
 -- there is such a list in the store
 unfoldable pub IsList : WordStore → Words → Type 0
 IsList store words =

@@ -19,6 +19,17 @@ pub struct Words {
     root: u32,
 }
 
+impl Words {
+    ghost use Rattle.shared_words.specs.Store.{list_number};
+
+    /// The number of the list. Lists of one number are the same.
+    pub fn number(self) -> u32
+        ensures { result ≡ list_number self }
+    {
+        self.root
+    }
+}
+
 /// Lists of words that share their parts: a list begins as another one and is changed in places, at the cost of what
 /// changes. Contracts see a list as a function of places from 0 (`word_at`), with Top behind its end, and say which
 /// lists are there (`IsList`). A change stands in place of the list that it is made of: behind it there are its result

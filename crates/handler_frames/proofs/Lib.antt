@@ -1,0 +1,4 @@
+mod RuleLaws
+mod SpanLaws
+pub mod MethodLaws
+pub mod KnownLaws

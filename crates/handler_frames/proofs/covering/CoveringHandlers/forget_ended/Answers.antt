@@ -1,0 +1,9 @@
+use Rattle.std.proofs.Common.{refl, rules}
+use Rattle.std.proofs.lemmas.Fn.{filter_same}
+use Rattle.handler_frames.proofs.KnownLaws.{ended_forgotten, lasts}
+use Rattle.handler_frames.proofs.covering.CoveringHandlers.forget_ended.Goals as goal
+
+pub returns : goal.returns
+returns c =
+    let kept = filter_same _ (lasts c.args.step) _ (λ x b f' k. search rules) _ _ c.retain.ensures.filtered in
+    record { goes = ended_forgotten c.args.self.now _ c.args.step refl kept refl refl refl refl }

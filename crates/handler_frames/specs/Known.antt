@@ -1,0 +1,70 @@
+-- What a walk over a method's instructions knows of its handlers.
+use Rattle.std.specs.Prelude.{◌≡◌, ◌≤◌, ◌<◌, ◌⊎◌, ℕ, true, false, List, length, slice_index_or}
+use Rattle.std.specs.List.{All, Contains}
+use Rattle.std.specs.List.Sorted.{IsNonDecreasingBy}
+use Rattle.type_rules.specs.Assignable.{Hierarchy, are_locals_assignable}
+use Rattle.type_rules.specs.Environment.{Environment, TypedHandler}
+use Rattle.shared_words.specs.declared.store.Words.{Words}
+use Rattle.typing_frames.specs.declared.stores.FrameStores.{FrameStores}
+use Rattle.typing_frames.specs.declared.stores.CurrentFrame.{CurrentFrame}
+use Rattle.map_frames.specs.Mapped.{shown_locals, AreLocals}
+use Rattle.handler_frames.specs.declared.span.Span.{Span}
+use Rattle.handler_frames.specs.declared.covering.CoveringHandlers.{CoveringHandlers}
+use Rattle.handler_frames.specs.Spans.{AreListed, StandsFor}
+
+-- locals are assignable to others
+abbrev pub GoTo : Hierarchy → FrameStores → Words → Words → Type 0
+GoTo h stores low high = are_locals_assignable h (shown_locals stores low) (shown_locals stores high) ≡ true
+
+-- spans by their first instructions, whose lists are kept, and locals that go to the first so many of the active ones
+pub record AreHeld (h : Hierarchy) (stores : FrameStores) (spans active : List Span) (locals : Words) (held : ℕ) : Type 0 where
+  pub sorted : IsNonDecreasingBy (λ (s : Span). s.first) spans
+  pub listed : AreListed stores spans
+  pub active_listed : AreListed stores active
+  pub kept : AreLocals stores locals
+  pub inside : held ≤ length active
+  pub go : (j : ℕ) (d : Span) → j < held → GoTo h stores locals (slice_index_or active j d).locals
+
+-- what is known of handlers is of these stores and classes
+abbrev pub FitsStores : Hierarchy → FrameStores → CoveringHandlers → Type 0
+FitsStores h stores known = AreHeld h stores known.spans.items known.active.items known.locals known.held
+
+-- a span is one of those from a number on
+abbrev pub IsFrom : List Span → ℕ → Span → Type 0
+IsFrom spans begun s = (j : ℕ) × (begun ≤ j) × (j < length spans) × (slice_index_or spans j s ≡ s)
+
+-- .. or is active, or has ended before an instruction
+abbrev pub IsSeen : List Span → ℕ → List Span → ℕ → Span → Type 0
+IsSeen spans begun active step s = IsFrom spans begun s ⊎ (Contains active s ⊎ (s.end ≤ step))
+
+-- Before an instruction: one of the spans that have yet to begin, are active, or have ended stands for each handler, but
+-- for those that cover no instruction before the limit.
+abbrev pub KnowsHandlers : FrameStores → CoveringHandlers → Environment → ℕ → Type 0
+KnowsHandlers stores known env step =
+    (h : TypedHandler) → Contains env.handlers h
+    → (known.limit ≤ h.first) ⊎ ((s : Span) × StandsFor env stores h s × IsSeen known.spans.items known.begun known.active.items step s)
+
+-- the spans from a number on begin behind an instruction
+abbrev pub BeginBehind : List Span → ℕ → ℕ → Type 0
+BeginBehind spans begun step = (j : ℕ) (d : Span) → begun ≤ j → j < length spans → step < (slice_index_or spans j d).first
+
+abbrev pub HasBegun : CoveringHandlers → ℕ → Type 0
+HasBegun known step = BeginBehind known.spans.items known.begun step
+
+-- spans begin or are forgotten at an instruction
+pub record GoesOn (old new : CoveringHandlers) (step : ℕ) : Type 0 where
+  pub fits : (h : Hierarchy) (stores : FrameStores) → FitsStores h stores old → FitsStores h stores new
+  pub knows : (env : Environment) (stores : FrameStores) → KnowsHandlers stores old env step → KnowsHandlers stores new env step
+  pub begun : HasBegun old step → HasBegun new step
+  pub limit : new.limit ≡ old.limit
+
+-- no span begins or is forgotten
+pub record HasSameSpans (old new : CoveringHandlers) : Type 0 where
+  pub spans : new.spans.items ≡ old.spans.items
+  pub begun : new.begun ≡ old.begun
+  pub active : new.active.items ≡ old.active.items
+  pub limit : new.limit ≡ old.limit
+
+-- a frame breaks no rule where each of these spans covers its instruction
+abbrev pub TakesFrame : Hierarchy → FrameStores → CurrentFrame → List Span → Type 0
+TakesFrame h stores frame spans = All (λ (s : Span). (frame.unset ≡ false) × GoTo h stores frame.locals s.locals) spans

@@ -1,0 +1,273 @@
+//! The handlers of a method, as a walk over its instructions comes to them.
+
+ghost use Rattle.std.specs.Prelude.{◌≡◌, ◌+◌, IfOk};
+ghost use Rattle.type_rules.specs.Assignable.{Hierarchy};
+ghost use Rattle.type_rules.specs.Environment.{Environment};
+ghost use Rattle.type_rules.specs.TypeFaults as faults;
+ghost use Rattle.typing_frames.specs.Frames.{shown, IsFrame, LeavesFrames, StoresRemember};
+ghost use Rattle.typing_frames.specs.Told.{Tells};
+ghost use Rattle.handler_frames.specs.Methods.{AreHandlersOf, AreMade};
+
+use crate::find::find_spans;
+use crate::join::join_spans;
+use crate::method::MethodHandlers;
+use crate::ordered::check_in_order;
+use crate::span::Span;
+use map_frames::PoolOperands;
+use shared_words::Words;
+use std::alloc::{AllocError, Global};
+use typing_frames::{CheckStop, CurrentFrame, FrameStores};
+use word_types::ClassHierarchy;
+
+/// What a walk over a method's instructions knows of its handlers. Handlers whose entries have the same list of locals
+/// are one span where they meet. The locals of a frame are compared with those of each span that covers the instruction,
+/// and only where they are others than before, or the span is new.
+#[derive(Drop)]
+pub struct CoveringHandlers {
+    // By their first instructions.
+    spans: Vec<Span>,
+    // How many of them have begun.
+    begun: usize,
+    // Those that have begun, but for some that have ended.
+    active: Vec<Span>,
+    // The locals that are known to go to those of active spans ..
+    locals: Words,
+    // .. and to how many, from the first one on.
+    held: usize,
+    // The first instruction that a handler covers that takes no frame.
+    limit: u32,
+}
+
+impl CoveringHandlers {
+    ghost use Rattle.std.specs.Prelude.{◌≤◌, true, false, slice_get, length};
+    ghost use Rattle.std.specs.List.{All};
+    ghost use Rattle.std.specs.List.Sorted.{IsNonDecreasingBy};
+    ghost use Rattle.handler_frames.specs.Known.{FitsStores, GoesOn, GoTo, HasBegun, HasSameSpans, KnowsHandlers, TakesFrame};
+
+    /// What is known of a method's handlers before its first instruction.
+    pub fn new<H: ClassHierarchy, P: PoolOperands>(
+        alloc: Global,
+        stores: &FrameStores,
+        hierarchy: &H,
+        pool: &P,
+        method: MethodHandlers<'_>,
+    ) -> Result<Self, AllocError>
+        requires made { AreMade stores.now method }
+        ensures fits { IfOk result (λ made. FitsStores (H.hierarchy hierarchy.now) stores.now made) }
+        ensures knows { (env : Environment) → env.hierarchy ≡ H.hierarchy hierarchy.now → AreHandlersOf env stores.now (P.operands pool.now) method.entry
+            → IfOk result (λ made. KnowsHandlers stores.now made env 0) }
+    {
+        let found = find_spans(alloc, hierarchy, pool, method)?;
+        let spans = join_spans(alloc, found.spans)?;
+        Ok(CoveringHandlers {
+            spans,
+            begun: 0,
+            active: Vec::new(alloc),
+            locals: stores.locals.tops(),
+            held: 0,
+            limit: found.limit,
+        })
+    }
+
+    // The next span that has yet to begin.
+    fn next(&self) -> Option<Span>
+        ensures { result ≡ slice_get self.now.spans.items self.now.begun }
+    {
+        self.spans.get(self.begun).copied()
+    }
+
+    // Lets the next span begin, if it begins by an instruction, and tells whether it does.
+    fn begin_next(&mut self, step: u32) -> Result<bool, AllocError>
+        ensures goes { IfOk result (λ _. GoesOn self.old self.new step) }
+        ensures more { IfOk result (λ b. b ≡ true → (self.new.spans.items ≡ self.old.spans.items) × (self.new.begun ≡ self.old.begun + 1) × (self.new.begun ≤ length self.old.spans.items)) }
+        ensures begun { IsNonDecreasingBy (λ s. s.first) self.old.spans.items → IfOk result (λ b. b ≡ false → HasBegun self.new step) }
+    {
+        let Some(span) = self.next() else {
+            return Ok(false);
+        };
+        if step < span.first {
+            return Ok(false);
+        }
+        self.active.push(span)?;
+        self.begun += 1;
+        Ok(true)
+    }
+
+    // Lets the spans begin that begin by an instruction.
+    fn begin(&mut self, step: u32) -> Result<(), AllocError>
+        ensures goes { IfOk result (λ _. GoesOn self.old self.new step) }
+        ensures begun { IsNonDecreasingBy (λ s. s.first) self.old.spans.items → IfOk result (λ _. HasBegun self.new step) }
+    {
+        while self.begin_next(step)? {}
+        Ok(())
+    }
+
+    // Forgets the spans that have ended before an instruction.
+    fn forget_ended(&mut self, step: u32)
+        ensures goes { GoesOn self.old self.new step }
+    {
+        self.held = 0;
+        self.active.retain(|span| step < span.end);
+    }
+
+    // The same, where the frame isn't like the one before.
+    fn forget_for(&mut self, step: u32, frame: CurrentFrame)
+        ensures goes { GoesOn self.old self.new step }
+    {
+        if frame.unset || frame.locals.number() != self.locals.number() {
+            self.forget_ended(step);
+        }
+    }
+
+    // Holds these locals.
+    fn hold(&mut self, stores: &mut FrameStores, frame: CurrentFrame)
+        requires frame { IsFrame stores.old frame }
+        ensures leaves { LeavesFrames stores.old stores.new }
+        ensures remembered { (h : Hierarchy) → StoresRemember h stores.old → StoresRemember h stores.new }
+        ensures fits { (h : Hierarchy) → FitsStores h stores.old self.old → FitsStores h stores.new self.new }
+        ensures same { HasSameSpans self.old self.new }
+        ensures held { self.new.locals ≡ frame.locals }
+    {
+        if frame.locals.number() == self.locals.number() {
+            return;
+        }
+        stores.locals.keep();
+        self.locals = frame.locals;
+        self.held = 0;
+    }
+
+    // Tests whether the locals that are held go to those of the next active span; true where there is none.
+    fn go_to_next<H: ClassHierarchy>(
+        &mut self,
+        stores: &mut FrameStores,
+        hierarchy: &H,
+        span: Span,
+    ) -> Result<bool, AllocError>
+        requires fits { FitsStores (H.hierarchy hierarchy.now) stores.old self.old }
+        requires remembered { StoresRemember (H.hierarchy hierarchy.now) stores.old }
+        requires next { slice_get self.old.active.items self.old.held ≡ Some span }
+        ensures leaves { LeavesFrames stores.old stores.new }
+        ensures remembered { StoresRemember (H.hierarchy hierarchy.now) stores.new }
+        ensures fits { IfOk result (λ _. FitsStores (H.hierarchy hierarchy.now) stores.new self.new) }
+        ensures same { HasSameSpans self.old self.new }
+        ensures locals { self.new.locals ≡ self.old.locals }
+        ensures more { IfOk result (λ b. b ≡ true → self.new.held ≡ self.old.held + 1) }
+    {
+        if !stores
+            .locals
+            .are_assignable(hierarchy, self.locals, span.locals)?
+        {
+            return Ok(false);
+        }
+        self.held += 1;
+        Ok(true)
+    }
+
+    // Tests whether the locals that are held go to those of all active spans.
+    fn go_to_active<H: ClassHierarchy>(
+        &mut self,
+        stores: &mut FrameStores,
+        hierarchy: &H,
+    ) -> Result<bool, AllocError>
+        requires fits { FitsStores (H.hierarchy hierarchy.now) stores.old self.old }
+        requires remembered { StoresRemember (H.hierarchy hierarchy.now) stores.old }
+        ensures leaves { LeavesFrames stores.old stores.new }
+        ensures remembered { StoresRemember (H.hierarchy hierarchy.now) stores.new }
+        ensures fits { IfOk result (λ _. FitsStores (H.hierarchy hierarchy.now) stores.new self.new) }
+        ensures same { HasSameSpans self.old self.new }
+        ensures told { IfOk result (λ b. b ≡ true → All (λ s. GoTo (H.hierarchy hierarchy.now) stores.new self.old.locals s.locals) self.new.active.items) }
+    {
+        while let Some(span) = self.active.get(self.held).copied() {
+            if !self.go_to_next(stores, hierarchy, span)? {
+                return Ok(false);
+            }
+        }
+        Ok(true)
+    }
+
+    // Tests whether a frame breaks no rule of the active spans.
+    fn takes<H: ClassHierarchy>(
+        &mut self,
+        stores: &mut FrameStores,
+        hierarchy: &H,
+        frame: CurrentFrame,
+    ) -> Result<bool, AllocError>
+        requires fits { FitsStores (H.hierarchy hierarchy.now) stores.old self.old }
+        requires frame { IsFrame stores.old frame }
+        requires remembered { StoresRemember (H.hierarchy hierarchy.now) stores.old }
+        ensures leaves { LeavesFrames stores.old stores.new }
+        ensures remembered { StoresRemember (H.hierarchy hierarchy.now) stores.new }
+        ensures fits { IfOk result (λ _. FitsStores (H.hierarchy hierarchy.now) stores.new self.new) }
+        ensures same { HasSameSpans self.old self.new }
+        ensures told { IfOk result (λ b. b ≡ true → TakesFrame (H.hierarchy hierarchy.now) stores.new frame self.new.active.items) }
+    {
+        if self.active.is_empty() {
+            return Ok(true);
+        }
+        if frame.unset {
+            return Ok(false);
+        }
+        self.hold(stores, frame);
+        self.go_to_active(stores, hierarchy)
+    }
+
+    // Tests whether a frame breaks no rule of the handlers that cover its instruction. It is, where the answer is true.
+    fn passes<H: ClassHierarchy>(
+        &mut self,
+        stores: &mut FrameStores,
+        hierarchy: &H,
+        step: u32,
+        frame: CurrentFrame,
+    ) -> Result<bool, AllocError>
+        requires fits { FitsStores (H.hierarchy hierarchy.now) stores.old self.old }
+        requires frame { IsFrame stores.old frame }
+        requires remembered { StoresRemember (H.hierarchy hierarchy.now) stores.old }
+        ensures leaves { LeavesFrames stores.old stores.new }
+        ensures remembered { StoresRemember (H.hierarchy hierarchy.now) stores.new }
+        ensures fits { IfOk result (λ _. FitsStores (H.hierarchy hierarchy.now) stores.new self.new) }
+        ensures knows { (env : Environment) → KnowsHandlers stores.old self.old env step → IfOk result (λ _. KnowsHandlers stores.new self.new env step) }
+        ensures told { (env : Environment) → env.hierarchy ≡ H.hierarchy hierarchy.now → KnowsHandlers stores.old self.old env step
+            → IfOk result (λ b. b ≡ true → faults.handlers_fault env step (shown stores.old frame) env.handlers ≡ None) }
+    {
+        if self.limit <= step {
+            return Ok(false);
+        }
+        self.begin(step)?;
+        self.forget_for(step, frame);
+        self.takes(stores, hierarchy, frame)
+    }
+
+    /// Checks that each handler that covers an instruction takes the frame there: the object of a constructor is
+    /// initialized, a map frame stands at the handler's entry to which the locals and what is caught are assignable, and
+    /// that is a Throwable (JVMS 4.10.1.6). It is asked once at each instruction, from the first one on. All frames stay
+    /// as they are, also after an error.
+    ///
+    /// # Errors
+    ///
+    /// The first rule that is broken, of the first handler that breaks one.
+    pub fn check<H: ClassHierarchy, P: PoolOperands>(
+        &mut self,
+        stores: &mut FrameStores,
+        hierarchy: &H,
+        pool: &P,
+        method: MethodHandlers<'_>,
+        step: u32,
+        frame: CurrentFrame,
+    ) -> Result<(), CheckStop>
+        requires made { AreMade stores.old method }
+        requires fits { FitsStores (H.hierarchy hierarchy.now) stores.old self.old }
+        requires frame { IsFrame stores.old frame }
+        requires remembered { StoresRemember (H.hierarchy hierarchy.now) stores.old }
+        ensures leaves { LeavesFrames stores.old stores.new }
+        ensures remembered { StoresRemember (H.hierarchy hierarchy.now) stores.new }
+        ensures fits { IfOk result (λ _. FitsStores (H.hierarchy hierarchy.now) stores.new self.new) }
+        ensures told { (env : Environment) → env.hierarchy ≡ H.hierarchy hierarchy.now → AreHandlersOf env stores.old (P.operands pool.now) method.entry
+            → KnowsHandlers stores.old self.old env step → Tells result (faults.handlers_fault env step (shown stores.old frame) env.handlers) }
+        ensures knows { (env : Environment) → KnowsHandlers stores.old self.old env step → IfOk result (λ _. KnowsHandlers stores.new self.new env (step + 1)) }
+    {
+        if self.passes(stores, hierarchy, step, frame)? {
+            return Ok(());
+        }
+        check_in_order(stores, hierarchy, pool, method, step, frame)
+    }
+}

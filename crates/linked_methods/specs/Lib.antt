@@ -1,0 +1,3 @@
+pub mod Members
+pub mod Classes
+pub mod Methods

@@ -1,0 +1,5 @@
+pub mod Refusals
+pub mod Main
+pub mod Accepted
+pub mod Answers
+pub mod Only
