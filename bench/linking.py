@@ -5,68 +5,11 @@ the program is linked, and its memory then. What it prints of the program behind
 usage: bench/linking.py     at the top of the repository, after `rt run` in crates/link_vectors has built the program
 """
 import os
-import struct
-import subprocess
 import sys
-import tempfile
-import time
+
+from class_files import ABSTRACT, INTERFACE, PUBLIC, STATIC, SUPER, Maker, timed, u2
 
 PROGRAM = os.path.join("crates", "link_vectors", "out", "link_vectors")
-PUBLIC, STATIC, SUPER, INTERFACE, ABSTRACT = 1, 8, 32, 512, 1024
-
-
-def u2(*numbers):
-    return struct.pack(">%dH" % len(numbers), *numbers)
-
-
-def u4(number):
-    return struct.pack(">I", number)
-
-
-class Maker:
-    """One class file, whose pool entries are made at their first use."""
-
-    def __init__(self, name, above="java/lang/Object", interfaces=(), flags=PUBLIC | SUPER):
-        self.pool, self.known, self.members = [], {}, {"field": [], "method": []}
-        self.flags = flags
-        self.head = [self.named(name), self.named(above)]
-        self.interfaces = [self.named(it) for it in interfaces]
-
-    def entry(self, content, again=False):
-        if again or content not in self.known:
-            self.pool.append(content)
-            self.known[content] = len(self.pool)
-        return self.known[content]
-
-    def utf8(self, text):
-        data = text.encode()
-        return self.entry(b"\x01" + u2(len(data)) + data)
-
-    def named(self, name, again=False):
-        return self.entry(b"\x07" + u2(self.utf8(name)), again)
-
-    def string(self, text, again=False):
-        return self.entry(b"\x08" + u2(self.utf8(text)), again)
-
-    def reference(self, tag, owner, name, kind, again=False):
-        pair = self.entry(b"\x0c" + u2(self.utf8(name), self.utf8(kind)), again)
-        return self.entry(bytes([tag]) + u2(self.named(owner), pair), again)
-
-    def method(self, name, kind="()V", flags=PUBLIC, code=None):
-        attribute = b""
-        if code is not None:
-            content = u2(10, 10) + u4(len(code)) + code + u2(0, 0)
-            attribute = u2(self.utf8("Code")) + u4(len(content)) + content
-        self.members["method"].append(u2(flags, self.utf8(name), self.utf8(kind), int(code is not None)) + attribute)
-
-    def bytes(self):
-        assert len(self.pool) < 65535
-        body = u2(self.flags, *self.head) + u2(len(self.interfaces), *self.interfaces)
-        for kind in ("field", "method"):
-            body += u2(len(self.members[kind])) + b"".join(self.members[kind])
-        return bytes.fromhex("cafebabe00000034") + u2(len(self.pool) + 1) + b"".join(self.pool) + body + u2(0)
-
-
 RETURN = b"\xb1"
 API = PUBLIC | INTERFACE | ABSTRACT
 
@@ -172,23 +115,7 @@ def one_entry_named_often():
 
 
 def measure(name, files):
-    with tempfile.TemporaryDirectory() as folder:
-        paths = []
-        for i, one in enumerate(files):
-            paths.append(os.path.join(folder, "%04d.class" % i))
-            with open(paths[-1], "wb") as file:
-                file.write(one.bytes())
-        size = sum(os.path.getsize(it) for it in paths)
-        start = time.time()
-        ran = subprocess.Popen([PROGRAM, *paths], stdout=subprocess.PIPE, stderr=subprocess.STDOUT)
-        first = ran.stdout.readline().decode(errors="replace").rstrip()
-        seconds = time.time() - start
-        with open("/proc/%d/status" % ran.pid) as status:
-            most = [int(it.split()[1]) // 1024 for it in status if it.startswith("VmHWM")]
-        ran.kill()
-        ran.wait()
-        ran.stdout.close()
-    memory = most[0] if most else "?"
+    (first,), seconds, memory, size = timed(PROGRAM, files, 1)
     print("%-36s %4d files %8d bytes %6.2f s %5s MB: %s" % (name, len(files), size, seconds, memory, first[:40]), flush=True)
 
 
