@@ -1,19 +1,24 @@
 -- What is known of handlers.
-use Rattle.std.proofs.Common.{◌≡◌, ℕ, zero, suc, ◌+◌, ◌<◌, ◌≤◌, ◌⊎◌, inl, inr, Bool, true, false, nat_le, nat_lt, cond, Some, None, Result, Ok, Err, IfOk, List, [], ◌∷◌, ◌++◌, length, get_or, refl, sym, ◌∙◌, ap, subst, arith}
-use Rattle.std.specs.List.{Contains, filter, slice_get}
+use Rattle.std.proofs.Common.{◌≡◌, ℕ, zero, suc, ◌+◌, ◌<◌, ◌≤◌, ◌⊎◌, inl, inr, Bool, true, false, nat_le, nat_lt, cond, Some, None, Result, Ok, Err, IfOk, List, [], ◌∷◌, ◌++◌, length, get_or, take, refl, sym, ◌∙◌, ap, subst, arith}
+use Rattle.std.specs.List.{All, Contains, filter, slice_get}
 use Rattle.std.specs.List.Sorted.{IsNonDecreasingBy}
 use Rattle.std.proofs.lemmas.Bool.{true≢false, cases_Bool, and_parts}
 use Rattle.std.proofs.lemmas.Bool.Decides.{leb_tells, eqb_tells}
-use Rattle.std.proofs.lemmas.List.{get_or_append_left, length_push}
+use Rattle.std.proofs.lemmas.List.{get_or_append_left, get_or_default, get_or-take, length-take, length_push}
 use Rattle.std.proofs.lemmas.List.Elements.{All-weaker, All-push, All-filter, All-contains, Contains-push, Contains-append_left}
 use Rattle.std.proofs.lemmas.Option.{get_or_from_slice_get, slice_get_within}
+use Rattle.type_rules.specs.declared.types.VerificationType.{VerificationType}
 use Rattle.type_rules.specs.declared.types.VerificationType.TheVariants.{Top}
-use Rattle.type_rules.specs.Assignable.{Hierarchy, are_locals_assignable}
+use Rattle.type_rules.specs.Assignable.{Hierarchy, is_assignable, is_same_type, are_locals_assignable}
 use Rattle.type_rules.specs.Environment.{Environment, TypedHandler}
 use Rattle.type_rules.specs.TypeFaults.{is_covered, handler_fault, handlers_fault}
 use Rattle.shared_words.specs.declared.store.Words.{Words}
+use Rattle.shared_words.specs.Parts.{room}
 use Rattle.shared_words.specs.Store.{word_at, IsKept}
+use Rattle.shared_words.specs.Differ.{DifferAt}
+use Rattle.shared_words.specs.Shown.{first_words, EndsBy}
 use Rattle.shared_words.proofs.ListLaws.{first_count}
+use Rattle.shared_words.proofs.ShownLaws.{locals_told}
 use Rattle.typing_frames.specs.declared.stores.FrameStores.{FrameStores}
 use Rattle.typing_frames.specs.declared.stores.CurrentFrame.{CurrentFrame}
 use Rattle.typing_frames.specs.Frames.{shown, StoresFollow}
@@ -22,7 +27,7 @@ use Rattle.map_frames.proofs.MadeLaws.{locals_follow, same_locals}
 use Rattle.handler_frames.specs.declared.span.Span.{Span}
 use Rattle.handler_frames.specs.declared.covering.CoveringHandlers.{CoveringHandlers}
 use Rattle.handler_frames.specs.Spans.{AreListed, AreWithin, FindsSpans, StandsFor}
-use Rattle.handler_frames.specs.Known.{AreHeld, BeginBehind, FitsStores, GoesOn, GoTo, HasBegun, HasSameSpans, IsSeen, KnowsHandlers, TakesFrame}
+use Rattle.handler_frames.specs.Known.{AreHeld, BeginBehind, FitsStores, GoesAt, GoesOn, GoTo, GoToFirst, HasBegun, HasSameSpans, IsSeen, KnowsHandlers, TakesFrame}
 use Rattle.handler_frames.proofs.RuleLaws.{none_broken}
 use Rattle.handler_frames.proofs.SpanLaws.{stands_follow, stands_within}
 
@@ -134,6 +139,82 @@ goes_further a b c step first later = record {
   limit = later.limit ∙ first.limit;
 }
 
+-- ---- other locals are held
+
+-- the word that a span takes, as the loop reads it
+pub span_takes : (h : Hierarchy) (stores : FrameStores) (spans : List Span) (at j : ℕ) (word low : VerificationType) (d e : Span) → low ≡ word_at stores.locals (get_or spans j e).locals at → is_assignable h word low ≡ true
+    → j < length spans → is_assignable h word (word_at stores.locals (get_or spans j d).locals at) ≡ true
+span_takes h stores spans at j word low d e low_is takes inside =
+    subst (λ (s : Span). is_assignable h word (word_at stores.locals s.locals at) ≡ true) (get_or_default spans j e d inside)
+    (subst (λ w. is_assignable h word w ≡ true) low_is takes)
+
+pub first_take : (h : Hierarchy) (stores : FrameStores) (active slice : List Span) (held at count : ℕ) (locals : Words) (word : VerificationType) → slice ≡ active → word ≡ word_at stores.locals locals at → held ≤ length active
+    → length (take held slice) ≤ count → ((d : Span) (j : ℕ) → j < count → is_assignable h word (word_at stores.locals (get_or (take held slice) j d).locals at) ≡ true)
+    → (j : ℕ) (d : Span) → j < held → is_assignable h (word_at stores.locals locals at) (word_at stores.locals (get_or active j d).locals at) ≡ true
+first_take h stores active slice held at count locals word same word_is inside all so_far j d below =
+    subst (λ w. is_assignable h w (word_at stores.locals (get_or active j d).locals at) ≡ true) word_is
+    (subst (λ (l : List Span). is_assignable h word (word_at stores.locals (get_or l j d).locals at) ≡ true) same
+    (subst (λ (s : Span). is_assignable h word (word_at stores.locals s.locals at) ≡ true) (get_or-take held slice j d below)
+    (so_far d j (let e = ap length same in omega (arith, below, all, inside, e, length-take held slice)))))
+
+room_most : (k : ℕ) → k ≤ 3 → room k ≤ 262144
+room_most zero low = omega arith
+room_most (suc zero) low = omega arith
+room_most (suc (suc zero)) low = omega arith
+room_most (suc (suc (suc zero))) low = omega arith
+room_most (suc (suc (suc (suc k)))) low = absurd (omega (arith, low))
+
+pub few_locals : (stores : FrameStores) → stores.locals.most ≤ 262144
+few_locals stores = omega (arith, stores.locals.fits, room_most stores.locals.height stores.locals.low)
+
+-- each word is assignable where the lists are
+each_word : (h : Hierarchy) (low high : ℕ → VerificationType) (most : ℕ) → EndsBy low most → EndsBy high most → are_locals_assignable h (first_words low most) (first_words high most) ≡ true
+    → (n : ℕ) → is_assignable h (low n) (high n) ≡ true
+each_word h low high most low_ends high_ends go n = elim (cases_Bool (is_assignable h (low n) (high n))) [
+  | inl holds ↦ holds
+  | inr fails ↦ absurd (true≢false (sym go ∙ sym (locals_told h low high most most false low_ends high_ends (n, fails))))
+]
+
+module _ (h : Hierarchy) (stores : FrameStores) (known : CoveringHandlers) (locals : Words) (fits : FitsStores h stores known) where
+  same_goes : (n : ℕ) → word_at stores.locals known.locals n ≡ word_at stores.locals locals n → GoesAt h stores known locals n
+  same_goes n same j d below =
+      let list = fits.active_listed j d (omega (arith, below, fits.inside)) in
+      let high = word_at stores.locals (get_or known.active.items j d).locals in
+      ap (λ w. is_assignable h w (high n)) (sym same)
+      ∙ each_word h (word_at stores.locals known.locals) high stores.locals.most fits.kept.end list.end (fits.go j d below) n
+
+  -- at a place more where they differ
+  pub goes_past : (from at : ℕ) → DifferAt (word_at stores.locals known.locals) (word_at stores.locals locals) from at → GoesAt h stores known locals at
+      → ((n : ℕ) → n < from → GoesAt h stores known locals n) → (n : ℕ) → n < at + 1 → GoesAt h stores known locals n
+  goes_past from at differ here so_far n within = elim (leb_tells from n) [
+    | inr before ↦ so_far n (omega (arith, before.1))
+    | inl past ↦ elim (eqb_tells n at) [
+      | inl same ↦ subst (GoesAt h stores known locals) (sym same.1) here
+      | inr other ↦ same_goes n (differ.2 n past.1 (omega (arith, within, other.1)))
+    ]
+  ]
+
+  -- where they differ at none more
+  pub first_go : (from : ℕ) → EndsBy (word_at stores.locals locals) stores.locals.most → ((n : ℕ) → from ≤ n → word_at stores.locals known.locals n ≡ word_at stores.locals locals n)
+      → ((n : ℕ) → n < from → GoesAt h stores known locals n) → GoToFirst h stores locals known.active.items known.held
+  first_go from end same so_far j d below =
+      let list = fits.active_listed j d (omega (arith, below, fits.inside)) in
+      let high = word_at stores.locals (get_or known.active.items j d).locals in
+      sym (locals_told h (word_at stores.locals locals) high stores.locals.most stores.locals.most true end list.end (λ n. elim (leb_tells from n) [
+        | inl past ↦ same_goes n (same n past.1) j d below
+        | inr before ↦ so_far n (omega (arith, before.1)) j d below
+      ]))
+
+  -- a place where they differ is one of the locals
+  pub differ_inside : (from at : ℕ) → EndsBy (word_at stores.locals locals) stores.locals.most → DifferAt (word_at stores.locals known.locals) (word_at stores.locals locals) from at → at < stores.locals.most
+  differ_inside from at end differ = elim (leb_tells stores.locals.most at) [
+    | inl past ↦
+        let tops : is_same_type (word_at stores.locals known.locals at) (word_at stores.locals locals at) ≡ true =
+        ap (λ w. is_same_type w (word_at stores.locals locals at)) (fits.kept.end at past.1) ∙ ap (λ w. is_same_type Top w) (end at past.1) in
+        absurd (true≢false (sym tops ∙ differ.1))
+    | inr inside ↦ omega (arith, inside.1)
+  ]
+
 -- ---- a span begins
 
 held_more : (h : Hierarchy) (stores : FrameStores) (spans active : List Span) (locals : Words) (held : ℕ) (s : Span) → AreLocals stores s.locals
@@ -217,16 +298,26 @@ seen_kept spans begun active step s (inr (inl there)) = elim (leb_tells (suc ste
 ]
 seen_kept spans begun active step s (inr (inr ended)) = inr (inr ended)
 
-pub ended_forgotten : (old new : CoveringHandlers) (step : ℕ) → new.spans.items ≡ old.spans.items → new.active.items ≡ filter (lasts step) old.active.items → new.begun ≡ old.begun → new.locals ≡ old.locals → new.held ≡ 0
-    → new.limit ≡ old.limit → GoesOn old new step
+pub ended_forgotten : (old new : CoveringHandlers) (step : ℕ) → new.spans.items ≡ old.spans.items → new.active.items ≡ filter (lasts step) old.active.items → new.begun ≡ old.begun → new.locals ≡ old.locals
+    → (new.held ≡ 0) ⊎ ((old.held ≡ length old.active.items) × (new.held ≡ length new.active.items)) → new.limit ≡ old.limit → GoesOn old new step
 ended_forgotten old new step spans active begun locals held limit = record {
   fits = λ h stores fits. record {
     sorted = subst (λ l. IsNonDecreasingBy (λ (s : Span). s.first) l) (sym spans) fits.sorted;
     listed = subst (AreListed stores) (sym spans) fits.listed;
     active_listed = subst (AreListed stores) (sym active) (All-filter (lasts step) (λ (s : Span). AreLocals stores s.locals) old.active.items fits.active_listed);
     kept = subst (AreLocals stores) (sym locals) fits.kept;
-    inside = omega (arith, held);
-    go = λ j d below. absurd (omega (arith, below, held));
+    inside = elim held [
+      | inl none ↦ omega (arith, none)
+      | inr all ↦ omega (arith, all.1)
+    ];
+    go = elim held [
+      | inl none ↦ λ j d below. absurd (omega (arith, below, none))
+      | inr all ↦
+          let go : All (λ (s : Span). GoTo h stores old.locals s.locals) old.active.items = λ j d inside. fits.go j d (omega (arith, inside, all.0)) in
+          subst (λ l. GoToFirst h stores l new.active.items new.held) (sym locals)
+          (subst (λ n. GoToFirst h stores old.locals new.active.items n) (sym all.1)
+          (subst (All (λ (s : Span). GoTo h stores old.locals s.locals)) (sym active) (All-filter (lasts step) (λ (s : Span). GoTo h stores old.locals s.locals) old.active.items go)))
+    ];
   };
   knows = λ env stores. knows_seen stores old new env step limit
       (λ s seen. subst (λ l. IsSeen l new.begun new.active.items step s) (sym spans)

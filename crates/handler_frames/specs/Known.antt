@@ -2,9 +2,10 @@
 use Rattle.std.specs.Prelude.{◌≡◌, ◌≤◌, ◌<◌, ◌⊎◌, ℕ, true, false, List, length, slice_index_or}
 use Rattle.std.specs.List.{All, Contains}
 use Rattle.std.specs.List.Sorted.{IsNonDecreasingBy}
-use Rattle.type_rules.specs.Assignable.{Hierarchy, are_locals_assignable}
+use Rattle.type_rules.specs.Assignable.{Hierarchy, is_assignable, are_locals_assignable}
 use Rattle.type_rules.specs.Environment.{Environment, TypedHandler}
 use Rattle.shared_words.specs.declared.store.Words.{Words}
+use Rattle.shared_words.specs.Store.{word_at}
 use Rattle.typing_frames.specs.declared.stores.FrameStores.{FrameStores}
 use Rattle.typing_frames.specs.declared.stores.CurrentFrame.{CurrentFrame}
 use Rattle.map_frames.specs.Mapped.{shown_locals, AreLocals}
@@ -16,6 +17,11 @@ use Rattle.handler_frames.specs.Spans.{AreListed, StandsFor}
 abbrev pub GoTo : Hierarchy → FrameStores → Words → Words → Type 0
 GoTo h stores low high = are_locals_assignable h (shown_locals stores low) (shown_locals stores high) ≡ true
 
+-- .. and to those of the first so many spans
+abbrev pub GoToFirst : Hierarchy → FrameStores → Words → List Span → ℕ → Type 0
+GoToFirst h stores locals spans count =
+    (j : ℕ) (d : Span) → j < count → GoTo h stores locals (slice_index_or spans j d).locals
+
 -- spans by their first instructions, whose lists are kept, and locals that go to the first so many of the active ones
 pub record AreHeld (h : Hierarchy) (stores : FrameStores) (spans active : List Span) (locals : Words) (held : ℕ) : Type 0 where
   pub sorted : IsNonDecreasingBy (λ (s : Span). s.first) spans
@@ -23,11 +29,17 @@ pub record AreHeld (h : Hierarchy) (stores : FrameStores) (spans active : List S
   pub active_listed : AreListed stores active
   pub kept : AreLocals stores locals
   pub inside : held ≤ length active
-  pub go : (j : ℕ) (d : Span) → j < held → GoTo h stores locals (slice_index_or active j d).locals
+  pub go : GoToFirst h stores locals active held
 
 -- what is known of handlers is of these stores and classes
 abbrev pub FitsStores : Hierarchy → FrameStores → CoveringHandlers → Type 0
 FitsStores h stores known = AreHeld h stores known.spans.items known.active.items known.locals known.held
+
+-- the word of locals at a place is assignable to that of each span to which the held locals go
+abbrev pub GoesAt : Hierarchy → FrameStores → CoveringHandlers → Words → ℕ → Type 0
+GoesAt h stores known locals at =
+    (j : ℕ) (d : Span) → j < known.held
+    → is_assignable h (word_at stores.locals locals at) (word_at stores.locals (slice_index_or known.active.items j d).locals at) ≡ true
 
 -- a span is one of those from a number on
 abbrev pub IsFrom : List Span → ℕ → Span → Type 0

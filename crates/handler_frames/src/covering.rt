@@ -17,7 +17,11 @@ use map_frames::PoolOperands;
 use shared_words::Words;
 use std::alloc::{AllocError, Global};
 use typing_frames::{CheckStop, CurrentFrame, FrameStores};
-use word_types::ClassHierarchy;
+use word_types::{ClassHierarchy, is_assignable};
+
+/// Locals that differ from those before at fewer places are compared with those of spans at these places alone. A store
+/// changes up to three, an append or a chop of map frames up to six.
+const FEW: u32 = 8;
 
 /// What a walk over a method's instructions knows of its handlers. Handlers whose entries have the same list of locals
 /// are one span where they meet. The locals of a frame are compared with those of each span that covers the instruction,
@@ -42,7 +46,9 @@ impl CoveringHandlers {
     ghost use Rattle.std.specs.Prelude.{◌≤◌, true, false, slice_get, length};
     ghost use Rattle.std.specs.List.{All};
     ghost use Rattle.std.specs.List.Sorted.{IsNonDecreasingBy};
-    ghost use Rattle.handler_frames.specs.Known.{FitsStores, GoesOn, GoTo, HasBegun, HasSameSpans, KnowsHandlers, TakesFrame};
+    ghost use Rattle.shared_words.specs.Shown.{EndsBy};
+    ghost use Rattle.shared_words.specs.Store.{word_at};
+    ghost use Rattle.handler_frames.specs.Known.{FitsStores, GoesAt, GoesOn, GoToFirst, GoTo, HasBegun, HasSameSpans, KnowsHandlers, TakesFrame};
 
     /// What is known of a method's handlers before its first instruction.
     pub fn new<H: ClassHierarchy, P: PoolOperands>(
@@ -106,8 +112,9 @@ impl CoveringHandlers {
     fn forget_ended(&mut self, step: u32)
         ensures goes { GoesOn self.old self.new step }
     {
-        self.held = 0;
+        let all = self.held == self.active.len();
         self.active.retain(|span| step < span.end);
+        self.held = if all { self.active.len() } else { 0 };
     }
 
     // The same, where the frame isn't like the one before.
@@ -119,12 +126,64 @@ impl CoveringHandlers {
         }
     }
 
+    // Tests whether the word of locals at a place goes to those of the spans to which the held ones go.
+    fn go_at<H: ClassHierarchy>(
+        &self,
+        stores: &FrameStores,
+        hierarchy: &H,
+        locals: Words,
+        at: u32,
+    ) -> bool
+        requires inside { self.now.held ≤ length self.now.active.items }
+        ensures told { result ≡ true → GoesAt (H.hierarchy hierarchy.now) stores.now self.now locals at }
+    {
+        let word = stores.locals.word(locals, at);
+        for span in &self.active[..self.held] {
+            if !is_assignable(hierarchy, word, stores.locals.word(span.locals, at)) {
+                return false;
+            }
+        }
+        true
+    }
+
+    // To how many of the active spans, from the first one on, other locals than the held ones go for sure: to all to
+    // which those go, or to none. Words are looked at where both differ, if they do so at few places.
+    fn held_by<H: ClassHierarchy>(
+        &self,
+        stores: &FrameStores,
+        hierarchy: &H,
+        locals: Words,
+    ) -> usize
+        requires fits { FitsStores (H.hierarchy hierarchy.now) stores.now self.now }
+        requires end { EndsBy (word_at stores.now.locals locals) stores.now.locals.most }
+        ensures inside { result ≤ self.now.held }
+        ensures go { GoToFirst (H.hierarchy hierarchy.now) stores.now locals self.now.active.items result }
+    {
+        let mut from = 0;
+        for _ in 0..FEW {
+            let Some(at) = stores.locals.next_difference(self.locals, locals, from) else {
+                return self.held;
+            };
+            if !self.go_at(stores, hierarchy, locals, at) {
+                return 0;
+            }
+            from = at + 1;
+        }
+        0
+    }
+
     // Holds these locals.
-    fn hold(&mut self, stores: &mut FrameStores, frame: CurrentFrame)
+    fn hold<H: ClassHierarchy>(
+        &mut self,
+        stores: &mut FrameStores,
+        hierarchy: &H,
+        frame: CurrentFrame,
+    )
+        requires fits { FitsStores (H.hierarchy hierarchy.now) stores.old self.old }
         requires frame { IsFrame stores.old frame }
         ensures leaves { LeavesFrames stores.old stores.new }
         ensures remembered { (h : Hierarchy) → StoresRemember h stores.old → StoresRemember h stores.new }
-        ensures fits { (h : Hierarchy) → FitsStores h stores.old self.old → FitsStores h stores.new self.new }
+        ensures fits { FitsStores (H.hierarchy hierarchy.now) stores.new self.new }
         ensures same { HasSameSpans self.old self.new }
         ensures held { self.new.locals ≡ frame.locals }
     {
@@ -132,8 +191,8 @@ impl CoveringHandlers {
             return;
         }
         stores.locals.keep();
+        self.held = self.held_by(stores, hierarchy, frame.locals);
         self.locals = frame.locals;
-        self.held = 0;
     }
 
     // Tests whether the locals that are held go to those of the next active span; true where there is none.
@@ -207,7 +266,7 @@ impl CoveringHandlers {
         if frame.unset {
             return Ok(false);
         }
-        self.hold(stores, frame);
+        self.hold(stores, hierarchy, frame);
         self.go_to_active(stores, hierarchy)
     }
 
@@ -232,8 +291,8 @@ impl CoveringHandlers {
         if self.limit <= step {
             return Ok(false);
         }
-        self.begin(step)?;
         self.forget_for(step, frame);
+        self.begin(step)?;
         self.takes(stores, hierarchy, frame)
     }
 

@@ -1,6 +1,6 @@
 -- Items of locals, and words of stacks, one behind the other.
 use Rattle.std.proofs.Common.{◌≡◌, ◌≢◌, None, ℕ, zero, suc, ◌+◌, ◌-◌, ◌<◌, ◌≤◌, Bool, List, [], ◌∷◌, ◌++◌, map, take, length, get_or, reverse, append_assoc, refl, sym, ◌∙◌, ap, subst, arith}
-use Rattle.std.proofs.lemmas.List.{length-reverse, length-append, length_push, length-map, take_more, take-take, take-map, reverse-append}
+use Rattle.std.proofs.lemmas.List.{length-reverse, length-append, length_push, length-map, take_more, take-take, take-map, map-append, reverse-append}
 use Rattle.code_frames.specs.declared.types.VType.{VType}
 use Rattle.type_rules.specs.declared.types.VerificationType.{VerificationType}
 use Rattle.type_rules.specs.declared.types.VerificationType.TheVariants.{Top, Int, Float, Long, Double, Second, Null, UninitThis, Uninit, Object}
@@ -149,3 +149,18 @@ only_of_others f (t ∷ u ∷ types) other =
     let first = length-append (in_locals (f t)) (item_words f (u ∷ types)) in
     let second = length-append (in_locals (f u)) (item_words f types) in
     more_words (reverse (item_words f (t ∷ u ∷ types))) (omega (arith, size, first, second, some_word (f t), some_word (f u)))
+
+-- one value more is put
+pub pushed_value : (first items new values : List VerificationType) (i : ℕ) (d : VerificationType) → items ≡ first ++ take i values → new ≡ items ++ get_or values i d ∷ []
+    → i < length values → new ≡ first ++ take (i + 1) values
+pushed_value first items new values i d are is below =
+    is ∙ (ap (λ (l : List VerificationType). l ++ get_or values i d ∷ []) are
+    ∙ (append_assoc first (take i values) (get_or values i d ∷ []) ∙ ap (λ (l : List VerificationType). first ++ l) (sym (take_more values i d below))))
+
+-- .. or what one item more of a table stands for
+pub pushed_type : (f : VType → VerificationType) (first items new : List VerificationType) (types : List VType) (i : ℕ) (d : VType) (item : VerificationType)
+    → items ≡ first ++ map f (take i types) → new ≡ items ++ item ∷ [] → item ≡ f (get_or types i d) → i < length types → new ≡ first ++ map f (take (i + 1) types)
+pushed_type f first items new types i d item are is stands below =
+    let one : map f (take (i + 1) types) ≡ map f (take i types) ++ f (get_or types i d) ∷ [] = ap (λ (l : List VType). map f l) (take_more types i d below) ∙ map-append f (take i types) (get_or types i d ∷ []) in
+    is ∙ (ap (λ (l : List VerificationType). l ++ item ∷ []) are
+    ∙ (append_assoc first (map f (take i types)) (item ∷ []) ∙ (ap (λ (w : VerificationType). first ++ (map f (take i types) ++ w ∷ [])) stands ∙ ap (λ (l : List VerificationType). first ++ l) (sym one))))

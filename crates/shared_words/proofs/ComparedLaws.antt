@@ -92,7 +92,7 @@ word_of_child parts height part digit n tall inside =
     ∙ ap (λ d. word_of parts (height - 1) (child_at parts part d) ((room (height - 1) * digit + n) % room (height - 1))) place.0
     ∙ ap (λ m. word_of parts (height - 1) (child_at parts part digit) m) place.1
 
-inside_node : (height digit n : ℕ) → height ≢ 0 → digit < 32 → n < room (height - 1) → room (height - 1) * digit + n < room height
+pub inside_node : (height digit n : ℕ) → height ≢ 0 → digit < 32 → n < room (height - 1) → room (height - 1) * digit + n < room height
 inside_node height digit n tall within inside = omega (arith, place_inside (height - 1) digit n within inside, room_step height tall)
 
 pub apart_above : (h : Hierarchy) (parts : List Part) (height low high digit : ℕ) → height ≢ 0 → digit < 32

@@ -1,8 +1,10 @@
 pub mod PartLaws
 pub mod SetLaws
+pub mod DifferLaws
 pub mod Replaced
 pub mod ComparedLaws
 pub mod StoreLaws
 pub mod ShownLaws
 pub mod TreeLaws
 pub mod ListLaws
+pub mod MarkLaws

@@ -8,6 +8,7 @@ use Rattle.type_rules.specs.declared.types.VerificationType.{VerificationType}
 use Rattle.type_rules.specs.declared.types.VerificationType.TheVariants.{Top}
 use Rattle.shared_words.specs.declared.parts.Part.{Part}
 use Rattle.shared_words.specs.Parts.{node_children, child_at, room, word_of, replaced_type, IsClosed, Grows}
+use Rattle.shared_words.specs.Marks.{AreMarked}
 use Rattle.shared_words.proofs.PartLaws.{word_step, same_below}
 use Rattle.shared_words.proofs.SetLaws.{rest_small, digit_below}
 use Rattle.shared_words.proofs.ComparedLaws.{all_tops}
@@ -52,9 +53,10 @@ all_words before words old new place r all count top n = elim (leb_tells 8 n) [
 -- ---- the children of a node
 
 -- the children of a part, of which those before a digit are replaced
-pub record Replacing (p0 p : List Part) (height part : ℕ) (old new : VerificationType) (children : List ℕ) (digit : ℕ) (is_changed : Bool) : Type 0 where
+pub record Replacing (p0 p : List Part) (marks : List ℕ) (height part : ℕ) (old new : VerificationType) (children : List ℕ) (digit : ℕ) (is_changed : Bool) : Type 0 where
   pub grows : Grows p0 p
   pub closed : IsClosed p (length p)
+  pub marked : AreMarked p marks
   pub count : length children ≡ 32
   pub list : (j : ℕ) → get_or children j 0 ≤ length p
   pub done : (j : ℕ) → j < digit → (n : ℕ) → n < room (height - 1) → word_of p (height - 1) (get_or children j 0) n ≡ replaced_type old new (word_of p0 (height - 1) (child_at p0 part j) n)
@@ -64,13 +66,14 @@ pub record Replacing (p0 p : List Part) (height part : ℕ) (old new : Verificat
 pub grows_on : (p q r : List Part) → Grows p q → Grows q r → Grows p r
 grows_on p q r a b = (omega (arith, a.0, b.0), λ i h. b.1 i (omega (arith, h, a.0)) ∙ a.1 i h)
 
-module _ (p0 p q : List Part) (height part : ℕ) (old new : VerificationType) (children : List ℕ) (digit : ℕ) (is_changed : Bool) (r : Replacing p0 p height part old new children digit is_changed) where
-  pub next_child : (below made : ℕ) (after : Bool) → below ≡ get_or children digit 0 → digit < 32 → IsClosed p0 (length p0) → part ≤ length p0 → Grows p q → IsClosed q (length q) → made ≤ length q
+module _ (p0 p q : List Part) (marks : List ℕ) (height part : ℕ) (old new : VerificationType) (children : List ℕ) (digit : ℕ) (is_changed : Bool) (r : Replacing p0 p marks height part old new children digit is_changed) where
+  pub next_child : (more : List ℕ) (below made : ℕ) (after : Bool) → below ≡ get_or children digit 0 → digit < 32 → IsClosed p0 (length p0) → part ≤ length p0 → Grows p q → IsClosed q (length q) → AreMarked q more → made ≤ length q
       → ((n : ℕ) → n < room (height - 1) → word_of q (height - 1) made n ≡ replaced_type old new (word_of p (height - 1) below n)) → (after ≡ false → (is_changed ≡ false) × (made ≡ below))
-      → Replacing p0 q height part old new (slice_set children digit made) (digit + 1) after
-  next_child below made after below_is inside closed0 is later closed made_is words after_is = record {
+      → Replacing p0 q more height part old new (slice_set children digit made) (digit + 1) after
+  next_child more below made after below_is inside closed0 is later closed marked made_is words after_is = record {
     grows = grows_on p0 p q r.grows later;
     closed = closed;
+    marked = marked;
     count = length-set children digit made ∙ r.count;
     list = λ j. elim (eqb_tells j digit) [
       | inl here ↦ let e = at j here.1 in omega (arith, e, made_is)
@@ -102,6 +105,28 @@ module _ (p0 p q : List Part) (height part : ℕ) (old new : VerificationType) (
       was_below : below ≡ child_at p0 part digit
       was_below = below_is ∙ r.rest digit (omega arith)
 
+  -- a child that stays
+  pub skip_child : digit < 32 → IsClosed p0 (length p0) → part ≤ length p0
+      → ((n : ℕ) → word_of p (height - 1) (get_or children digit 0) n ≡ replaced_type old new (word_of p (height - 1) (get_or children digit 0) n))
+      → Replacing p0 p marks height part old new children (digit + 1) is_changed
+  skip_child inside closed0 is same = record {
+    grows = r.grows;
+    closed = r.closed;
+    marked = r.marked;
+    count = r.count;
+    list = r.list;
+    done = λ j h n low. elim (eqb_tells j digit) [
+      | inl here ↦
+          let was : get_or children digit 0 ≡ child_at p0 part digit = r.rest digit (omega arith) in
+          ap (λ i. word_of p (height - 1) (get_or children i 0) n) here.1 ∙ same n
+          ∙ ap (λ w. replaced_type old new w) (same_below p0 p (length p0) r.grows.1 closed0 (height - 1) (get_or children digit 0) n (omega (arith, was, closed0 part digit is)))
+          ∙ ap (λ x. replaced_type old new (word_of p0 (height - 1) x n)) (was ∙ ap (child_at p0 part) (sym here.1))
+      | inr there ↦ r.done j (omega (arith, h, there.1)) n low
+    ];
+    rest = λ j h. r.rest j (omega (arith, h));
+    none = r.none;
+  }
+
   -- a node of these children
   pub node_of : (node : ℕ) → height ≢ 0 → 32 ≤ digit → ((j : ℕ) → child_at q node j ≡ get_or children j 0) → Grows p q
       → (n : ℕ) → n < room height → word_of q height node n ≡ replaced_type old new (word_of p0 height part n)
@@ -115,10 +140,10 @@ module _ (p0 p q : List Part) (height part : ℕ) (old new : VerificationType) (
       ∙ ap (λ w. replaced_type old new w) (word_step p0 height part n tall)
 
 -- where none is changed the part is as it was
-pub part_of : (p0 p : List Part) (height part : ℕ) (old new : VerificationType) (children : List ℕ) (digit : ℕ) (is_changed : Bool) (r : Replacing p0 p height part old new children digit is_changed)
+pub part_of : (p0 p : List Part) (marks : List ℕ) (height part : ℕ) (old new : VerificationType) (children : List ℕ) (digit : ℕ) (is_changed : Bool) (r : Replacing p0 p marks height part old new children digit is_changed)
     → height ≢ 0 → 32 ≤ digit → is_changed ≡ false → part ≤ length p0 → (n : ℕ) → n < room height → word_of p height part n ≡ replaced_type old new (word_of p0 height part n)
-part_of p0 p height part old new children digit is_changed r tall all same is =
-    node_of p0 p p height part old new children digit is_changed r part tall all
+part_of p0 p marks height part old new children digit is_changed r tall all same is =
+    node_of p0 p p marks height part old new children digit is_changed r part tall all
     (λ j. ap (λ x. get_or (node_children x) j 0) (r.grows.1 part is) ∙ sym (r.none same j))
     (omega arith, λ i h. refl)
 

@@ -170,19 +170,15 @@ module _ (p0 p1 p2 : List Part) (kept k part place digit rest made node : ℕ) (
   ]
 
   node_above : (j : ℕ) → ¬ IsIn p2 kept k (child_at p2 node j) node
-  node_above j a = elim (leb_tells part kept) [
-    | inl old ↦
-        let new = which.1 old.1 in
-        elim (eqb_tells j digit) [
-          | inl here ↦ absurd (omega (arith, new, in_is_there p1 kept k made node closed1 set.list (from_made j node here.1 a)))
-          | inr away ↦ absurd (omega (arith, new, first.0, there j node (from_other j node away.1 a)))
-        ]
-    | inr new ↦
-        let e = which.0 (omega (arith, new.1)) in
-        elim (from_any j node a) [
-          | inl x ↦ not_part j (subst (λ y. IsIn p0 kept k (child_at p0 part j) y) e x)
-          | inr x ↦ absurd (omega (arith, x.1, e, is))
-        ]
+  node_above j a = elim which [
+    | inl same ↦ elim (from_any j node a) [
+      | inl x ↦ not_part j (subst (λ y. IsIn p0 kept k (child_at p0 part j) y) same.1 x)
+      | inr x ↦ absurd (omega (arith, x.1, same.1, is))
+    ]
+    | inr new ↦ elim (eqb_tells j digit) [
+      | inl here ↦ absurd (omega (arith, new, in_is_there p1 kept k made node closed1 set.list (from_made j node here.1 a)))
+      | inr away ↦ absurd (omega (arith, new, first.0, there j node (from_other j node away.1 a)))
+    ]
   ]
 
   tree_below : (j : ℕ) → IsTree p0 kept k (child_at p0 part j)
@@ -201,9 +197,9 @@ module _ (p0 p1 p2 : List Part) (kept k part place digit rest made node : ℕ) (
 
   node_inside : (q : ℕ) → IsIn p2 kept (suc k) node q → IsIn p0 kept (suc k) part q ⊎ (length p0 < q)
   node_inside q a = elim a.1 [
-    | inl e ↦ elim (leb_tells part kept) [
-      | inl old ↦ inr (omega (arith, which.1 old.1, e, first.0))
-      | inr new ↦ inl (omega (arith, new.1), inl (sym (which.0 (omega (arith, new.1))) ∙ e))
+    | inl e ↦ elim which [
+      | inl same ↦ inl (same.0, inl (sym same.1 ∙ e))
+      | inr new ↦ inr (omega (arith, new, e, first.0))
     ]
     | inr b ↦ elim (from_any b.0 q b.1) [
       | inl x ↦ inl (up b.0 q x)
@@ -272,9 +268,9 @@ leaf_set p0 p1 kept part made place word list which words = record {
   list = list;
   words = words;
   tree = tt;
-  inside = λ q a. elim (leb_tells part kept) [
-    | inl old ↦ inr (omega (arith, which.1 old.1, a.1))
-    | inr new ↦ inl (omega (arith, new.1), sym (which.0 (omega (arith, new.1))) ∙ a.1)
+  inside = λ q a. elim which [
+    | inl same ↦ inl (same.0, sym same.1 ∙ a.1)
+    | inr new ↦ inr (omega (arith, new, a.1))
   ];
 }
 

@@ -34,7 +34,7 @@ pub record IsSet (old new : List Part) (kept height part made place : ℕ) (word
 
 -- a part was put in place of one that isn't kept, or else behind all others
 abbrev pub IsPut : List Part → ℕ → ℕ → ℕ → Type 0
-IsPut old kept part made = (kept < part → made ≡ part) × (part ≤ kept → length old < made)
+IsPut old kept part made = ((kept < part) × (made ≡ part)) ⊎ (length old < made)
 
 abbrev pub LeavesOthers : List Part → List Part → ℕ → ℕ → Type 0
 LeavesOthers old new kept part =

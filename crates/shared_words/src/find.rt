@@ -3,9 +3,11 @@
 ghost use Rattle.std.specs.Prelude.{◌≡◌, ◌<◌, ℕ, false, true};
 ghost use Rattle.type_rules.specs.Assignable as assignable;
 ghost use Rattle.type_rules.specs.declared.types.VerificationType.TheVariants.{Top};
+ghost use Rattle.shared_words.specs.Marks.{AreMarked};
 ghost use Rattle.shared_words.specs.Parts.{leaf_word, room, word_of};
 
-use crate::parts::{CHILDREN, Part, child, words_of_leaf};
+use crate::marks::{mark_of_word, may_have};
+use crate::parts::{Part, children_of, leaf_words};
 use type_rules::VerificationType;
 use word_types::is_same_type;
 
@@ -15,9 +17,8 @@ fn has_leaf(parts: &[Part], part: u32, word: VerificationType) -> bool
     ensures found { result ≡ true → (n : ℕ) × (n < 8) × (assignable.is_same_type word (leaf_word parts.now part n) ≡ true) }
     ensures absent { result ≡ false → (n : ℕ) → n < 8 → assignable.is_same_type word (leaf_word parts.now part n) ≡ false }
 {
-    let words = words_of_leaf(parts, part);
-    for place in 0..8 {
-        if is_same_type(word, words[place]) {
+    for found in leaf_words(parts, part) {
+        if is_same_type(word, *found) {
             return true;
         }
     }
@@ -25,8 +26,15 @@ fn has_leaf(parts: &[Part], part: u32, word: VerificationType) -> bool
 }
 
 // Tests whether a part at a height has a word that isn't Top.
-pub(crate) fn has_in(parts: &[Part], height: u8, part: u32, word: VerificationType) -> bool
-    requires { assignable.is_same_type word Top ≡ false }
+pub(crate) fn has_in(
+    parts: &[Part],
+    marks: &[u64],
+    height: u8,
+    part: u32,
+    word: VerificationType,
+) -> bool
+    requires marked { AreMarked parts.now marks.now }
+    requires word { assignable.is_same_type word Top ≡ false }
     ensures found { result ≡ true → (n : ℕ) × (n < room height) × (assignable.is_same_type word (word_of parts.now height part n) ≡ true) }
     ensures absent { result ≡ false → (n : ℕ) → n < room height → assignable.is_same_type word (word_of parts.now height part n) ≡ false }
 {
@@ -36,8 +44,11 @@ pub(crate) fn has_in(parts: &[Part], height: u8, part: u32, word: VerificationTy
     if height == 0 {
         return has_leaf(parts, part, word);
     }
-    for digit in 0..CHILDREN {
-        if has_in(parts, height - 1, child(parts, part, digit), word) {
+    let mark = mark_of_word(word);
+    let children = children_of(parts, part);
+    for digit in 0..32 {
+        let below = children[digit];
+        if may_have(marks, below, mark) && has_in(parts, marks, height - 1, below, word) {
             return true;
         }
     }

@@ -2,9 +2,11 @@
 #![tactic(auto)]
 
 mod compare;
+mod differ;
 mod find;
 mod known;
 mod laws;
+mod marks;
 mod parts;
 mod replace;
 mod set;

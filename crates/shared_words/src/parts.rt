@@ -3,8 +3,10 @@
 ghost use Rattle.std.specs.Prelude.{◌≡◌, ◌≤◌, ◌<◌, ℕ, [], IfOk, length, slice_index, slice_index_or, unwrap_or};
 ghost use Rattle.std.specs.Option.{option_copied};
 ghost use Rattle.shared_words.specs.Parts.{child_at, leaf_word, node_children, part_at, room, word_of, IsClosed, Grows};
+ghost use Rattle.shared_words.specs.Marks.{AreMarked};
 ghost use Rattle.type_rules.specs.declared.types.VerificationType.TheVariants.{Top};
 
+use crate::marks::mark_for;
 use std::alloc::AllocError;
 use type_rules::VerificationType;
 
@@ -63,6 +65,17 @@ fn no_children() -> [u32; 32]
     [0; 32]
 }
 
+// The words of a leaf, as they stand: none where there is no leaf.
+pub(crate) fn leaf_words(parts: &[Part], part: u32) -> &[VerificationType]
+    ensures few { length result.now ≤ 8 }
+    ensures words { (n : ℕ) → slice_index_or result.now n Top ≡ leaf_word parts.now part n }
+{
+    match part_numbered(parts, part) {
+        Some(Part::Leaf(words)) => words,
+        Some(Part::Node(_)) | None => &[],
+    }
+}
+
 // All words of a leaf.
 pub(crate) fn words_of_leaf(parts: &[Part], part: u32) -> [VerificationType; 8]
     ensures { (n : ℕ) → slice_index_or result n Top ≡ leaf_word parts.now part n }
@@ -83,18 +96,27 @@ pub(crate) fn children_of(parts: &[Part], part: u32) -> [u32; 32]
     }
 }
 
-// A new part, and its number.
-pub(crate) fn push(parts: &mut Vec<Part>, part: Part) -> Result<u32, AllocError>
+// A new part, and its number. A mark that it leaves behind where there is an error is cut the next time.
+pub(crate) fn push(
+    parts: &mut Vec<Part>,
+    marks: &mut Vec<u64>,
+    part: Part,
+) -> Result<u32, AllocError>
     requires closed { IsClosed parts.old.items (length parts.old.items) }
+    requires marked { AreMarked parts.old.items marks.old.items }
     requires children { (j : ℕ) → slice_index (node_children part) j ≤ length parts.old.items }
     ensures grows { Grows parts.old.items parts.new.items }
     ensures closed { IsClosed parts.new.items (length parts.new.items) }
+    ensures marked { AreMarked parts.new.items marks.new.items }
     ensures made { IfOk result (λ made.
         (made ≤ length parts.new.items) × (part_at parts.new.items made ≡ part) × (length parts.old.items < made)) }
 {
     if parts.len() >= u32::MAX as usize {
         return Err(AllocError);
     }
+    let mark = mark_for(marks, &part);
+    marks.truncate(parts.len());
+    marks.push(mark)?;
     parts.push(part)?;
     Ok(parts.len() as u32)
 }
@@ -113,19 +135,36 @@ pub(crate) fn room_of(height: u8) -> u32
     }
 }
 
+// The word at a place of a part at height 1.
+fn word_in_low(parts: &[Part], part: u32, place: u32) -> VerificationType
+    ensures { result ≡ word_of parts.now 1 part place }
+{
+    word_in_leaf(parts, child(parts, part, place / 8), place % 8)
+}
+
+// .. at height 2.
+fn word_in_middle(parts: &[Part], part: u32, place: u32) -> VerificationType
+    ensures { result ≡ word_of parts.now 2 part place }
+{
+    word_in_low(parts, child(parts, part, place / 256), place % 256)
+}
+
+// .. at height 3.
+fn word_in_high(parts: &[Part], part: u32, place: u32) -> VerificationType
+    ensures { result ≡ word_of parts.now 3 part place }
+{
+    word_in_middle(parts, child(parts, part, place / 8192), place % 8192)
+}
+
 // The word at a place of a part at a height.
 pub(crate) fn word_in(parts: &[Part], height: u8, part: u32, place: u32) -> VerificationType
     requires { height ≤ 3 }
     ensures { result ≡ word_of parts.now height part place }
 {
-    if height == 0 {
-        return word_in_leaf(parts, part, place);
+    match height {
+        0 => word_in_leaf(parts, part, place),
+        1 => word_in_low(parts, part, place),
+        2 => word_in_middle(parts, part, place),
+        _ => word_in_high(parts, part, place),
     }
-    let room = room_of(height - 1);
-    word_in(
-        parts,
-        height - 1,
-        child(parts, part, place / room),
-        place % room,
-    )
 }

@@ -3,9 +3,11 @@
 ghost use Rattle.std.specs.Prelude.{◌≡◌, ◌≤◌, ◌<◌, ℕ, false, true, slice_index_or, IfOk, length};
 ghost use Rattle.type_rules.specs.Assignable as assignable;
 ghost use Rattle.type_rules.specs.declared.types.VerificationType.TheVariants.{Top};
+ghost use Rattle.shared_words.specs.Marks.{AreMarked};
 ghost use Rattle.shared_words.specs.Parts.{leaf_word, replaced_type, room, word_of, IsClosed, Grows};
 
-use crate::parts::{CHILDREN, Part, children_of, push, words_of_leaf};
+use crate::marks::{mark_of_word, may_have};
+use crate::parts::{CHILDREN, Part, children_of, leaf_words, push, words_of_leaf};
 use std::alloc::AllocError;
 use type_rules::VerificationType;
 use word_types::is_same_type;
@@ -26,9 +28,8 @@ fn is_without(parts: &[Part], part: u32, old: VerificationType) -> bool
     requires { assignable.is_same_type Top old ≡ false }
     ensures { result ≡ true → (n : ℕ) → assignable.is_same_type (leaf_word parts.now part n) old ≡ false }
 {
-    let words = words_of_leaf(parts, part);
-    for place in 0..8 {
-        if is_same_type(words[place], old) {
+    for word in leaf_words(parts, part) {
+        if is_same_type(*word, old) {
             return false;
         }
     }
@@ -48,15 +49,18 @@ fn replace_words(words: &mut [VerificationType; 8], old: VerificationType, new: 
 // A leaf in which a word stands for another one.
 fn replaced_leaf(
     parts: &mut Vec<Part>,
+    marks: &mut Vec<u64>,
     part: u32,
     old: VerificationType,
     new: VerificationType,
 ) -> Result<u32, AllocError>
     requires closed { IsClosed parts.old.items (length parts.old.items) }
+    requires marked { AreMarked parts.old.items marks.old.items }
     requires list { part ≤ length parts.old.items }
     requires old { assignable.is_same_type Top old ≡ false }
     ensures grows { Grows parts.old.items parts.new.items }
     ensures closed { IsClosed parts.new.items (length parts.new.items) }
+    ensures marked { AreMarked parts.new.items marks.new.items }
     ensures list { IfOk result (λ made. made ≤ length parts.new.items) }
     ensures words { IfOk result (λ made.
         (n : ℕ)
@@ -67,22 +71,25 @@ fn replaced_leaf(
     }
     let mut words = words_of_leaf(parts, part);
     replace_words(&mut words, old, new);
-    push(parts, Part::Leaf(words))
+    push(parts, marks, Part::Leaf(words))
 }
 
 // A part at a height in which a word that isn't Top stands for another one.
 pub(crate) fn replaced_in(
     parts: &mut Vec<Part>,
+    marks: &mut Vec<u64>,
     height: u8,
     part: u32,
     old: VerificationType,
     new: VerificationType,
 ) -> Result<u32, AllocError>
     requires closed { IsClosed parts.old.items (length parts.old.items) }
+    requires marked { AreMarked parts.old.items marks.old.items }
     requires list { part ≤ length parts.old.items }
     requires old { assignable.is_same_type Top old ≡ false }
     ensures grows { Grows parts.old.items parts.new.items }
     ensures closed { IsClosed parts.new.items (length parts.new.items) }
+    ensures marked { AreMarked parts.new.items marks.new.items }
     ensures list { IfOk result (λ made. made ≤ length parts.new.items) }
     ensures words { IfOk result (λ made.
         (n : ℕ)
@@ -92,18 +99,22 @@ pub(crate) fn replaced_in(
         return Ok(0);
     }
     if height == 0 {
-        return replaced_leaf(parts, part, old, new);
+        return replaced_leaf(parts, marks, part, old, new);
     }
+    let mark = mark_of_word(old);
     let mut children = children_of(parts, part);
     let mut is_changed = false;
     for digit in 0..32 {
         let below = children[digit];
-        let made = replaced_in(parts, height - 1, below, old, new)?;
+        if !may_have(marks, below, mark) {
+            continue;
+        }
+        let made = replaced_in(parts, marks, height - 1, below, old, new)?;
         is_changed = is_changed || made != below;
         children[digit] = made;
     }
     if !is_changed {
         return Ok(part);
     }
-    push(parts, Part::Node(children))
+    push(parts, marks, Part::Node(children))
 }

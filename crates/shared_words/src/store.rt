@@ -2,8 +2,10 @@
 
 ghost use Rattle.std.specs.Prelude.{◌≡◌, ◌≤◌, ◌<◌, ℕ, false, IfOk, length};
 ghost use Rattle.shared_words.specs.Parts.{room, IsClosed};
+ghost use Rattle.shared_words.specs.Marks.{AreMarked};
 
 use crate::compare::are_parts_assignable;
+use crate::differ::part_difference;
 use crate::find::has_in;
 use crate::known::KnownPairs;
 use crate::parts::{Part, room_of, word_in};
@@ -40,6 +42,8 @@ impl Words {
 #[derive(Drop)]
 pub struct WordStore {
     parts: Vec<Part>,
+    /// Which uninitialized words each part may have.
+    marks: Vec<u64>,
     height: u8,
     /// How many words a list may have.
     most: u32,
@@ -47,6 +51,7 @@ pub struct WordStore {
     known: KnownPairs,
     ghost closed: { IsClosed parts.items (length parts.items) },
     ghost closed_kept: { IsClosed parts.items kept },
+    ghost marked: { AreMarked parts.items marks.items },
     ghost within: { kept ≤ length parts.items },
     ghost low: { height ≤ 3 },
     ghost fits: { most ≤ room height },
@@ -76,6 +81,7 @@ impl WordStore {
     ghost use Rattle.shared_words.specs.Parts.{replaced_type, with_word};
     ghost use Rattle.shared_words.specs.Shown.{first_words, stack_words, EndsBy};
     ghost use Rattle.shared_words.specs.Store.{word_at, IsList, IsKept, Remembers, Follows};
+    ghost use Rattle.shared_words.specs.Differ.{FirstDifference};
 
     /// A store for lists of so many words at most. Takes no memory.
     pub fn new(alloc: Global, most: u32) -> Self
@@ -85,6 +91,7 @@ impl WordStore {
     {
         WordStore {
             parts: Vec::new(alloc),
+            marks: Vec::new(alloc),
             height: height_for(most),
             most,
             kept: 0,
@@ -100,6 +107,14 @@ impl WordStore {
         Words { root: 0 }
     }
 
+    /// The first place, from one on, at which two lists have words of different types; `None` where there is none. What
+    /// the lists share isn't looked at. Takes no memory.
+    pub fn next_difference(&self, before: Words, after: Words, from: u32) -> Option<u32>
+        ensures { FirstDifference (word_at self.now before) (word_at self.now after) from result }
+    {
+        part_difference(&self.parts, self.height, before.root, after.root, from)
+    }
+
     /// The word of a list at a place. Takes no memory.
     pub fn word(&self, words: Words, at: u32) -> VerificationType
         ensures { result ≡ word_at self.now words at }
@@ -110,7 +125,8 @@ impl WordStore {
         word_in(&self.parts, self.height, words.root, at)
     }
 
-    /// Tests whether a list has a word that isn't Top. Takes no memory.
+    /// Tests whether a list has a word that isn't Top. Takes no memory. Where the word is an uninitialized one, few parts
+    /// without it are looked at.
     pub fn has(&self, words: Words, word: VerificationType) -> bool
         requires { assignable.is_same_type word Top ≡ false }
         ensures first { (count : ℕ) → EndsBy (word_at self.now words) count
@@ -118,7 +134,7 @@ impl WordStore {
         ensures stack { (depth : ℕ) → EndsBy (word_at self.now words) depth
             → result ≡ list_any (assignable.is_same_type word) (stack_words (word_at self.now words) depth) }
     {
-        has_in(&self.parts, self.height, words.root, word)
+        has_in(&self.parts, &self.marks, self.height, words.root, word)
     }
 
     /// Keeps all lists that there are: no change changes them.
@@ -151,6 +167,7 @@ impl WordStore {
         }
         let root = set_in(
             &mut self.parts,
+            &mut self.marks,
             self.kept,
             self.height,
             words.root,
@@ -176,7 +193,14 @@ impl WordStore {
         ensures words { IfOk result (λ made.
             word_at self.new made ≡ (λ n. replaced_type old new (word_at self.old words n))) }
     {
-        let made = replaced_in(&mut self.parts, self.height, words.root, old, new);
+        let made = replaced_in(
+            &mut self.parts,
+            &mut self.marks,
+            self.height,
+            words.root,
+            old,
+            new,
+        );
         self.kept = self.parts.len();
         Ok(Words { root: made? })
     }

@@ -1,10 +1,7 @@
-use Rattle.std.proofs.Common.{◌≡◌, ◌<◌, ℕ, false, length, slice_index_or}
-use Rattle.type_rules.specs.declared.types.VerificationType.TheVariants.{Top}
+use Rattle.std.proofs.Common.{◌≡◌, ◌<◌, ℕ, false}
 use Rattle.type_rules.specs.Assignable.{is_same_type}
+use Rattle.shared_words.specs.Parts.{leaf_word}
 use Rattle.shared_words.proofs.find.has_leaf.Given as goal
 
-abbrev pub invariant-loop-place : goal.invariant-loop-place
-invariant-loop-place l = record {
-  words : length l.words ≡ 8;
-  none : (j : ℕ) → j < l.place → is_same_type l.word (slice_index_or l.words j Top) ≡ false;
-}
+abbrev pub invariant-loop-found : goal.invariant-loop-found
+invariant-loop-found l = (j : ℕ) → j < l.found-index → is_same_type l.word (leaf_word l.parts l.part j) ≡ false

@@ -1,8 +1,10 @@
-use Rattle.std.proofs.Common.{◌≡◌, ◌∙◌, false, get_or, ap, sym, refl, arith}
+use Rattle.std.proofs.Common.{◌≡◌, ◌-◌, ◌∙◌, false, get_or, ap, sym, refl, subst, arith}
 use Rattle.std.proofs.lemmas.Bool.{true≢false}
 use Rattle.shared_words.specs.Parts.{node_children}
 use Rattle.shared_words.proofs.SetLaws.{on_ok}
-use Rattle.shared_words.proofs.Replaced.{next_child, node_of, part_of, none_replaced}
+use Rattle.shared_words.specs.Marks.{word_mark, HasBits, mark_at}
+use Rattle.shared_words.proofs.MarkLaws.{not_replaced}
+use Rattle.shared_words.proofs.Replaced.{next_child, skip_child, node_of, part_of, none_replaced}
 use Rattle.shared_words.proofs.replace.+replaced_in.Goals as goal
 use Rattle.shared_words.proofs.replace.+replaced_in.Goals.{then-is_changed, else-is_changed}
 
@@ -17,12 +19,12 @@ loop-digit-preserved t c =
       | then-is_changed w ↦ λ e. absurd (true≢false (sym (w.is_changed-is ∙ w.if-is_changed.true) ∙ e))
       | else-is_changed w ↦ λ e. (w.if-is_changed.false, search (arith, e, w.is_changed-is))
     ] in
-    next_child c.args.parts.now.items c.loop-digit.parts.items c.replaced_in.new.parts.items c.args.height c.args.part c.args.old c.args.new c.loop-digit.children c.loop-digit.digit c.loop-digit.is_changed c.loop-digit.invariant
-    below made c.if-is_changed.is_changed refl (omega (arith, c.loop-digit-test.true)) c.requires.closed c.requires.list c.in_ok-made.ensures.grows c.in_ok-made.ensures.closed c.in_ok-made.ensures.list c.in_ok-made.ensures.words flag
+    next_child c.args.parts.now.items c.loop-digit.parts.items c.replaced_in.new.parts.items c.loop-digit.marks.items c.args.height c.args.part c.args.old c.args.new c.loop-digit.children c.loop-digit.digit c.loop-digit.is_changed c.loop-digit.invariant
+    c.replaced_in.new.marks.items below made c.if-is_changed.is_changed refl (omega (arith, c.loop-digit-test.true)) c.requires.closed c.requires.list c.in_ok-made.ensures.grows c.in_ok-made.ensures.closed c.in_ok-made.ensures.marked c.in_ok-made.ensures.list c.in_ok-made.ensures.words flag
 
 pub returns-then-not-is_changed-clause-words : goal.returns-then-not-is_changed-clause-words
 returns-then-not-is_changed-clause-words t c =
-    part_of c.args.parts.now.items c.loop-digit.parts.items c.args.height c.args.part c.args.old c.args.new c.loop-digit.children c.loop-digit.digit c.loop-digit.is_changed c.loop-digit.invariant c.if-height-eq0.false (omega (arith, c.loop-digit-test.false))
+    part_of c.args.parts.now.items c.loop-digit.parts.items c.loop-digit.marks.items c.args.height c.args.part c.args.old c.args.new c.loop-digit.children c.loop-digit.digit c.loop-digit.is_changed c.loop-digit.invariant c.if-height-eq0.false (omega (arith, c.loop-digit-test.false))
     c.if-not-is_changed.true c.requires.list
 
 pub returns-clause-words : goal.returns-clause-words
@@ -31,6 +33,17 @@ returns-clause-words t c =
     let p = c.loop-digit.parts.items in
     on_ok _ _ c.push.result
     (λ node made.
-    node_of p0 p c.push.new.parts.items c.args.height c.args.part c.args.old c.args.new c.loop-digit.children c.loop-digit.digit c.loop-digit.is_changed c.loop-digit.invariant node c.if-height-eq0.false (omega (arith, c.loop-digit-test.false))
+    node_of p0 p c.push.new.parts.items c.loop-digit.marks.items c.args.height c.args.part c.args.old c.args.new c.loop-digit.children c.loop-digit.digit c.loop-digit.is_changed c.loop-digit.invariant node c.if-height-eq0.false (omega (arith, c.loop-digit-test.false))
     (λ j. ap (λ x. get_or (node_children x) j 0) made.1) c.push.ensures.grows)
     c.push.ensures.made
+
+pub loop-digit-preserved-then-not-may_have : goal.loop-digit-preserved-then-not-may_have
+loop-digit-preserved-then-not-may_have t c =
+    let p = c.loop-digit.parts.items in
+    let marks = c.loop-digit.marks.items in
+    let below = get_or c.loop-digit.children c.loop-digit.digit 0 in
+    skip_child c.args.parts.now.items p p marks c.args.height c.args.part c.args.old c.args.new c.loop-digit.children c.loop-digit.digit c.loop-digit.is_changed c.loop-digit.invariant
+    (omega (arith, c.loop-digit-test.true)) c.requires.closed c.requires.list
+    (not_replaced p marks (c.args.height - 1) below c.args.old c.args.new c.loop-digit.invariant.marked
+    (subst (λ ms. ¬ HasBits (mark_at ms below) (word_mark c.args.old)) c.deref-in-loop-digit.ensures.value
+    (subst (λ m. ¬ HasBits (mark_at c.deref-in-loop-digit.result.now below) m) c.mark_of_word-mark.ensures (c.if-not-may_have.ensures refl))))

@@ -5,4 +5,4 @@ abbrev pub decreases-replaced_in : goal.decreases-replaced_in
 decreases-replaced_in l = l.height
 
 abbrev pub invariant-loop-digit : goal.invariant-loop-digit
-invariant-loop-digit l = Replacing l.fn.parts.items l.parts.items l.height l.part l.old l.new l.children l.digit l.is_changed
+invariant-loop-digit l = Replacing l.fn.parts.items l.parts.items l.marks.items l.height l.part l.old l.new l.children l.digit l.is_changed

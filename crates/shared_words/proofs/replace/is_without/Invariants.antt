@@ -1,10 +1,7 @@
-use Rattle.std.proofs.Common.{◌≡◌, ◌<◌, ℕ, false, length, slice_index_or}
-use Rattle.type_rules.specs.declared.types.VerificationType.TheVariants.{Top}
+use Rattle.std.proofs.Common.{◌≡◌, ◌<◌, ℕ, false}
 use Rattle.type_rules.specs.Assignable.{is_same_type}
+use Rattle.shared_words.specs.Parts.{leaf_word}
 use Rattle.shared_words.proofs.replace.is_without.Given as goal
 
-abbrev pub invariant-loop-place : goal.invariant-loop-place
-invariant-loop-place l = record {
-  words : length l.words ≡ 8;
-  none : (j : ℕ) → j < l.place → is_same_type (slice_index_or l.words j Top) l.old ≡ false;
-}
+abbrev pub invariant-loop-word : goal.invariant-loop-word
+invariant-loop-word l = (j : ℕ) → j < l.word-index → is_same_type (leaf_word l.parts l.part j) l.old ≡ false

@@ -16,16 +16,19 @@ set_in-requires t c =
       (
         c.requires.closed,
         (
-          c.requires.closed_kept,
+          c.requires.marked,
           (
-            c.requires.within,
+            c.requires.closed_kept,
             (
-              omega (arith, below, c.requires.closed c.args.part digit c.requires.list),
+              c.requires.within,
               (
-                subst (λ x. IsTree p0 c.args.kept k x) (sym below) (child_tree p0 c.args.kept k c.args.part digit c.requires.closed_kept (subst (λ x. IsTree p0 c.args.kept x c.args.part) (sym e) c.requires.tree)),
+                omega (arith, below, c.requires.closed c.args.part digit c.requires.list),
                 (
-                  omega (arith, c.requires.low),
-                  subst (λ r. c.args.place % r < room k) (sym c.room_of-room.ensures.room) (rest_small k c.args.place),
+                  subst (λ x. IsTree p0 c.args.kept k x) (sym below) (child_tree p0 c.args.kept k c.args.part digit c.requires.closed_kept (subst (λ x. IsTree p0 c.args.kept x c.args.part) (sym e) c.requires.tree)),
+                  (
+                    omega (arith, c.requires.low),
+                    subst (λ r. c.args.place % r < room k) (sym c.room_of-room.ensures.room) (rest_small k c.args.place),
+                  ),
                 ),
               ),
             ),

@@ -40,6 +40,7 @@ invariant_of-self c =
     record {
       closed = c.set_in.ensures.closed;
       closed_kept = same_closed old.parts.items c.set_in.new.parts.items old.kept (touched_same old c.set_in.new.parts.items old.height c.args.words.root c.set_in.ensures.touches) old.closed_kept;
+      marked = c.set_in.ensures.marked;
       within = omega (arith, old.within, c.set_in.ensures.touches.0);
       low = old.low;
       fits = old.fits;
