@@ -86,6 +86,17 @@ def abstract_classes_below_one_interface():
     return [api] + [Maker("C%d" % i, interfaces=["Api"], flags=PUBLIC | SUPER | ABSTRACT) for i in range(1000)]
 
 
+def many_interfaces_of_the_same_methods():
+    apis = [Maker("I%d" % i, flags=API) for i in range(500)]
+    for api in apis:
+        for j in range(60):
+            api.method("m%d" % j, flags=PUBLIC | ABSTRACT)
+    top = Maker("Top", interfaces=["All"])
+    for j in range(60):
+        top.method("m%d" % j, code=RETURN)
+    return apis + [Maker("All", interfaces=["I%d" % i for i in range(500)], flags=API), top] + [Maker("C%d" % i, "Top") for i in range(500)]
+
+
 def many_large_classes():
     files = []
     for i in range(9):
@@ -124,7 +135,8 @@ def main():
         sys.exit("build link_vectors first: cd crates/link_vectors && rt run")
     for case in (entries_of_one_name, strings_of_one_text, references_of_one_descriptor, upside_down, a_ring,
                  one_interface_named_often, interfaces_over_interfaces, many_declarers, methods_above_empty_classes,
-                 one_interface_of_many_methods, abstract_classes_below_one_interface, many_large_classes,
+                 one_interface_of_many_methods, abstract_classes_below_one_interface,
+                 many_interfaces_of_the_same_methods, many_large_classes,
                  arrays_of_arrays, one_entry_named_often):
         measure(case.__name__, case())
 

@@ -1,4 +1,5 @@
 mod OpenLaws
 mod RuleLaws
-mod SignatureLaws
+mod CandidateLaws
 mod TestLaws
+mod TestedLaws

@@ -6,10 +6,11 @@ ghost use Rattle.link_rules.specs.Members.{signature_of};
 ghost use Rattle.link_rules.specs.Units.{AreUnits};
 ghost use Rattle.text_numbers.specs.Numbers.{number_of};
 ghost use Rattle.member_lookup.specs.Found.{HaveNumbers};
-ghost use Rattle.link_members.specs.Members.{answers, is_answered};
+ghost use Rattle.link_members.specs.Members.{AreCandidates, answers, is_answered};
 
 use access_flags::{ABSTRACT, PUBLIC, has};
 use member_lookup::{Found, MemberLookup};
+use member_table::MemberRow;
 
 /// What is asked of the method that objects of a class answer with where an abstract method stands above the class.
 #[derive(Clone, Copy)]
@@ -41,18 +42,16 @@ fn answers(asked: Asked, found: Option<Found>) -> bool
     }
 }
 
-/// Whether the method of a name and a descriptor that objects of a class answer with (JVMS 6.5, invokevirtual) is as
-/// asked, by the numbers of their texts. Takes no memory, and as long as the methods of this name and descriptor are
-/// many.
+/// Whether the method that objects of a class answer with (JVMS 6.5, invokevirtual) is as asked, of the methods of a name
+/// and a descriptor that are neither static nor private. Takes no memory, and as long as they are many.
 pub fn is_answered(
     lookup: &MemberLookup<'_>,
     asked: Asked,
     class: u32,
-    name: u32,
-    descriptor: u32,
+    methods: &[MemberRow],
 ) -> bool
     requires { class ≤ length (classes_of lookup.now.units) }
-    ensures { (m : NamedMember) → HaveNumbers lookup.now name descriptor (signature_of m) → result ≡ is_answered asked (classes_of lookup.now.units) class m }
+    ensures { (m : NamedMember) → AreCandidates lookup.now m methods.now → result ≡ is_answered asked (classes_of lookup.now.units) class m }
 {
-    answers(asked, lookup.selected(class, name, descriptor))
+    answers(asked, lookup.selected_among(class, methods))
 }

@@ -24,7 +24,7 @@ use Rattle.member_lookup.specs.declared.found.Found.{Found}
 use Rattle.member_lookup.specs.declared.found.ReferenceNumbers.{ReferenceNumbers}
 use Rattle.member_lookup.specs.declared.tables.Tables.{Tables}
 use Rattle.member_lookup.specs.Rows.{row_of, is_virtual_row, rows_of_classes}
-use Rattle.member_lookup.specs.Found.{found_of, found_row, AreNumbers, HaveNumbers, IsLookup, first_virtual}
+use Rattle.member_lookup.specs.Found.{found_of, found_row, AreNumbers, HaveNumbers, IsLookup, first_virtual, virtuals_of}
 use Rattle.member_lookup.proofs.RowLaws.{row_declared, same_number, signature_is, first_is, one_is}
 
 past_all : (cs : List NamedClass) (c : ℕ) → length cs < c → class_numbered cs c ≡ None
@@ -182,19 +182,17 @@ module _ (us : List ClassUnit) (p : ProgramTexts) (hs : List ℕ) (init : ℕ) (
       ∙ ap (λ k. has_signature (number_of p.texts r.name) k (row_of p.texts c i m)) have.descriptor_is
       ∙ signature_is p.texts r c i m have.name_has have.descriptor_has
 
-  module _ (f : Option Found) (o : Option MemberRow) (members : List MemberRow) (its : f ≡ option_map found_row o) where
-    pub selected_is : (c : ℕ) (order : List ℕ) → o ≡ first_found (of_class members) order → members ≡ filter (has_signature name descriptor) t.virtuals
-        → order ≡ without_repeats (superclasses (classes_of us) c) → f ≡ option_map found_of (selected (classes_of p.units) c r)
-    selected_is c order found mine through =
-        its
-        ∙ ap (option_map found_row) (found
-        ∙ ap (λ ms. first_found (of_class ms) order) (mine ∙ ap (filter (has_signature name descriptor)) is.tables.virtuals_are
-        ∙ both_filters (has_signature name descriptor) is_virtual_row (rows_of_classes p.texts (methods_of (classes_of us)) (length (classes_of us))))
-        ∙ ap (first_found (of_class (filter (λ x. has_signature name descriptor x && is_virtual_row x) (rows_of_classes p.texts (methods_of (classes_of us)) (length (classes_of us)))))) through
-        ∙ first_is p.texts (methods_of (classes_of us)) (length (classes_of us)) (λ x. has_signature name descriptor x && is_virtual_row x) (λ m. is_member r m && is_virtual m) (superclasses (classes_of us) c) refl (no_methods (classes_of us))
-        (λ d i m. ap (λ b. b && is_virtual m) (signed_by d i m)))
-        ∙ read p.texts (first_some (declared (methods_of (classes_of us)) (λ m. is_member r m && is_virtual m)) (superclasses (classes_of us) c))
-        ∙ ap (λ u. option_map found_of (selected (classes_of u) c r)) (sym is.units)
+  pub selected_is : (f : Option Found) (o : Option MemberRow) (members : List MemberRow) (c : ℕ) (order : List ℕ) → f ≡ option_map found_row o → o ≡ first_found (of_class members) order
+      → members ≡ virtuals_of p name descriptor → order ≡ without_repeats (superclasses (classes_of us) c) → f ≡ option_map found_of (selected (classes_of p.units) c r)
+  selected_is f o members c order its found mine through =
+      its
+      ∙ ap (option_map found_row) (found
+      ∙ ap (λ ms. first_found (of_class ms) order) (mine ∙ ap (λ u. filter (λ x. has_signature name descriptor x && is_virtual_row x) (rows_of_classes p.texts (methods_of (classes_of u)) (length (classes_of u)))) is.units)
+      ∙ ap (first_found (of_class (filter (λ x. has_signature name descriptor x && is_virtual_row x) (rows_of_classes p.texts (methods_of (classes_of us)) (length (classes_of us)))))) through
+      ∙ first_is p.texts (methods_of (classes_of us)) (length (classes_of us)) (λ x. has_signature name descriptor x && is_virtual_row x) (λ m. is_member r m && is_virtual m) (superclasses (classes_of us) c) refl (no_methods (classes_of us))
+      (λ d i m. ap (λ b. b && is_virtual m) (signed_by d i m)))
+      ∙ read p.texts (first_some (declared (methods_of (classes_of us)) (λ m. is_member r m && is_virtual m)) (superclasses (classes_of us) c))
+      ∙ ap (λ u. option_map found_of (selected (classes_of u) c r)) (sym is.units)
 
 -- ---- the first of all methods
 
@@ -205,10 +203,13 @@ first_filtered q (x ∷ xs) = elim (q x) as (λ b. slice_get (cond b (x ∷ filt
   | false ↦ first_filtered q xs
 ]
 
-pub first_is_virtual : (us : List ClassUnit) (p : ProgramTexts) (hs : List ℕ) (init : ℕ) (t : Tables) → IsLookup us p hs init t → (name descriptor : ℕ) (members : List MemberRow)
-    → members ≡ filter (has_signature name descriptor) t.virtuals → slice_get members 0 ≡ first_virtual p name descriptor
-first_is_virtual us p hs init t is name descriptor members mine =
-    ap (λ ms. slice_get ms 0) (mine ∙ ap (filter (has_signature name descriptor)) is.tables.virtuals_are
-    ∙ both_filters (has_signature name descriptor) is_virtual_row (rows_of_classes p.texts (methods_of (classes_of us)) (length (classes_of us))))
-    ∙ first_filtered (λ x. has_signature name descriptor x && is_virtual_row x) (rows_of_classes p.texts (methods_of (classes_of us)) (length (classes_of us)))
-    ∙ ap (λ u. find (λ x. has_signature name descriptor x && is_virtual_row x) (rows_of_classes p.texts (methods_of (classes_of u)) (length (classes_of u)))) (sym is.units)
+pub first_is_virtual : (p : ProgramTexts) (name descriptor : ℕ) → slice_get (virtuals_of p name descriptor) 0 ≡ first_virtual p name descriptor
+first_is_virtual p name descriptor = first_filtered (λ x. has_signature name descriptor x && is_virtual_row x) (rows_of_classes p.texts (methods_of (classes_of p.units)) (length (classes_of p.units)))
+
+-- the methods of a signature among those that are neither static nor private
+pub virtuals_are : (us : List ClassUnit) (p : ProgramTexts) (hs : List ℕ) (init : ℕ) (t : Tables) → IsLookup us p hs init t → (name descriptor : ℕ) (members : List MemberRow)
+    → members ≡ filter (has_signature name descriptor) t.virtuals → members ≡ virtuals_of p name descriptor
+virtuals_are us p hs init t is name descriptor members mine =
+    mine ∙ ap (filter (has_signature name descriptor)) is.tables.virtuals_are
+    ∙ both_filters (has_signature name descriptor) is_virtual_row (rows_of_classes p.texts (methods_of (classes_of us)) (length (classes_of us)))
+    ∙ ap (λ u. filter (λ x. has_signature name descriptor x && is_virtual_row x) (rows_of_classes p.texts (methods_of (classes_of u)) (length (classes_of u)))) (sym is.units)

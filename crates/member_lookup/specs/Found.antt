@@ -1,5 +1,5 @@
 -- What look-up is asked for and what it finds, by numbers.
-use Rattle.std.specs.Prelude.{◌≡◌, ◌≢◌, ◌≤◌, ◌-◌, ◌&&◌, ℕ, ⊤, Option, None, Some, List, length, map, codes, slice_index, if◌then◌else◌}
+use Rattle.std.specs.Prelude.{◌≡◌, ◌≢◌, ◌≤◌, ◌-◌, ◌&&◌, ℕ, ⊤, Option, None, Some, List, filter, length, map, codes, slice_index, if◌then◌else◌}
 use Rattle.std.specs.List.{find}
 use Rattle.builtin_world.specs.declared.number.TheConstants.{OBJECT}
 use Rattle.class_pool.specs.Pool.{Reference}
@@ -41,6 +41,12 @@ pub record HaveNumbers (p : ProgramTexts) (name descriptor : ℕ) (r : Reference
   pub descriptor_is : descriptor ≡ number_of p.texts r.descriptor
   pub name_has : number_of p.texts r.name ≢ 0
   pub descriptor_has : number_of p.texts r.descriptor ≢ 0
+
+-- among the rows of all classes, the methods of a signature that are neither static nor private
+abbrev pub virtuals_of : ProgramTexts → ℕ → ℕ → List MemberRow
+virtuals_of p name descriptor =
+    filter (λ m. has_signature name descriptor m && is_virtual_row m)
+    (rows_of_classes p.texts (methods_of (classes_of p.units)) (length (classes_of p.units)))
 
 -- among the rows of all classes, the first method of a signature that is neither static nor private
 abbrev pub first_virtual : ProgramTexts → ℕ → ℕ → Option MemberRow

@@ -13,7 +13,7 @@ ghost use Rattle.link_rules.specs.Classes.{classes_of, superclass_of, methods_of
 ghost use Rattle.link_rules.specs.Members.{Declared, is_member, is_virtual, holder, is_initializer, found_field, found_method, selected, special};
 ghost use Rattle.link_rules.specs.LinkRules.{hierarchy_rules};
 ghost use Rattle.class_texts.specs.Texts.{ProgramTexts};
-ghost use Rattle.member_lookup.specs.Found.{found_of, AreNumbers, AreNumbersOf, HaveNumbers, first_virtual, holder_named};
+ghost use Rattle.member_lookup.specs.Found.{found_of, AreNumbers, AreNumbersOf, HaveNumbers, first_virtual, holder_named, virtuals_of};
 ghost use Rattle.member_lookup.specs.Rows.{class_rows};
 
 use crate::found::{Found, ReferenceNumbers, read_row};
@@ -169,14 +169,30 @@ impl<'a> MemberLookup<'a> {
         read_row(find_first(methods, &self.orders.of(reference.holder).methods))
     }
 
+    /// The methods of a name and a descriptor that are neither static nor private, by the numbers of their texts, by class
+    /// and place. A search of numbers; takes no memory.
+    pub fn virtuals(&self, name: u32, descriptor: u32) -> &[MemberRow]
+        ensures { result.now ≡ virtuals_of self.now name descriptor }
+    {
+        self.tables.virtuals.declarers(name, descriptor)
+    }
+
+    /// The method that an object of a class answers with (JVMS 6.5, invokevirtual), of the methods of its name and
+    /// descriptor that are neither static nor private. Takes no memory, and as long as they are many.
+    pub fn selected_among(&self, class: u32, methods: &[MemberRow]) -> Option<Found>
+        requires { class ≤ length (classes_of self.now.units) }
+        ensures { (name descriptor : ℕ) (r : Reference) → methods.now ≡ virtuals_of self.now name descriptor → HaveNumbers self.now name descriptor r → result ≡ option_map found_of (selected (classes_of self.now.units) class r) }
+    {
+        read_row(find_first(methods, &self.orders.of(class).superclasses))
+    }
+
     /// The method of a name and a descriptor that an object of a class answers with (JVMS 6.5, invokevirtual), by the
     /// numbers of their texts. Takes no memory, and as long as the methods of this name and descriptor are many.
     pub fn selected(&self, class: u32, name: u32, descriptor: u32) -> Option<Found>
         requires { class ≤ length (classes_of self.now.units) }
         ensures { (r : Reference) → HaveNumbers self.now name descriptor r → result ≡ option_map found_of (selected (classes_of self.now.units) class r) }
     {
-        let methods = self.tables.virtuals.declarers(name, descriptor);
-        read_row(find_first(methods, &self.orders.of(class).superclasses))
+        self.selected_among(class, self.virtuals(name, descriptor))
     }
 
     /// Whether a class or a superclass of it has a method of a name and a descriptor that is final and neither static nor
@@ -206,8 +222,7 @@ impl<'a> MemberLookup<'a> {
     pub fn first_virtual(&self, name: u32, descriptor: u32) -> Option<MemberRow>
         ensures { result ≡ first_virtual self.now name descriptor }
     {
-        let methods = self.tables.virtuals.declarers(name, descriptor);
-        methods.first().copied()
+        self.virtuals(name, descriptor).first().copied()
     }
 
     /// The texts by number.

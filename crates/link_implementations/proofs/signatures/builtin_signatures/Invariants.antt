@@ -1,8 +1,0 @@
-use Rattle.std.proofs.Common.{◌≡◌, map, take}
-use Rattle.builtin_world.specs.BuiltinClass.{shown_method}
-use Rattle.link_rules.specs.Classes.{library_method}
-use Rattle.link_implementations.specs.Implementations.{abstract_signatures}
-use Rattle.link_implementations.proofs.signatures.builtin_signatures.Given as goal
-
-abbrev pub invariant-loop-method : goal.invariant-loop-method
-invariant-loop-method l = l.signatures.items ≡ abstract_signatures l.texts.texts (map library_method (map shown_method (take l.method-index l.methods)))
