@@ -3,8 +3,8 @@
 ghost use Rattle.std.specs.Prelude.{◌≡◌, ◌==◌, length};
 ghost use Rattle.access_flags.specs.declared.TheConstants.{INTERFACE as interface_flag};
 ghost use Rattle.link_rules.specs.Classes.{classes_of, class_has, superclass_of};
-ghost use Rattle.link_rules.specs.Supers.{superclasses, is_class_below};
-ghost use Rattle.link_rules.specs.Names.{program_names, class_count, super_number, type_numbered, is_subclass};
+ghost use Rattle.link_rules.specs.Supers.{superclasses};
+ghost use Rattle.link_rules.specs.Names.{program_names, class_count, is_class_number, super_number, type_numbered, is_subclass};
 ghost use Rattle.link_rules.specs.Layout.{object_words};
 ghost use Rattle.link_rules.specs.Readers.{layout, array_type, element_class, primitive_array_number};
 ghost use Rattle.std.specs.List.{list_any};
@@ -13,6 +13,18 @@ use crate::world::World;
 use builtin_world::number::OBJECT;
 use instructions::PrimitiveType;
 use link_types::{Layout, ObjectType};
+use type_relations::{ClassRelation, is_object_below};
+
+impl ClassRelation for World {
+    ghost use Rattle.link_rules.specs.Classes.{classes_of};
+    ghost use Rattle.link_rules.specs.Supers.{is_class_below};
+
+    ghost is_below = { λ us. is_class_below (classes_of us) };
+
+    fn is_class_below(&self, low: u32, high: u32) -> bool {
+        self.tables.classes.relations.is_class_below(low, high)
+    }
+}
 
 impl World {
     /// How many classes and array classes there are: they have the numbers from 1 on.
@@ -61,6 +73,23 @@ impl World {
             Some(kind) => kind,
             None => ObjectType::Class(class),
         }
+    }
+
+    /// Whether a number is that of a class or array class.
+    fn is_class(&self, number: u32) -> bool
+        ensures { result ≡ is_class_number (program_names self.now) number }
+    {
+        1 <= number && number <= self.classes()
+    }
+
+    /// Whether an object of the first class or array class is one of the second, as instanceof has it (JVMS 6.5): by
+    /// superclasses and interfaces, and of arrays by their elements. What is no class is below none, and none below it.
+    pub fn is_subclass(&self, low: u32, high: u32) -> bool
+        ensures { result ≡ is_subclass (program_names self.now) low high }
+    {
+        self.is_class(low)
+            && (self.is_class(high)
+                && is_object_below(self, self.type_numbered(low), self.type_numbered(high)))
     }
 
     /// The words of a class or array class, and the reference of its class object; 0 of what is no class.

@@ -1,12 +1,12 @@
 //! Which type may stand where another one is wanted (JVMS 4.10.1.2).
 
 ghost use Rattle.std.specs.Prelude.{◌≡◌};
-ghost use Rattle.link_types.specs.Subtypes.{is_element_below};
 ghost use Rattle.type_rules.specs.Assignable as assignable;
 
 use crate::ClassHierarchy;
 use builtin_world::number::OBJECT;
-use link_types::{ElementType, ObjectType};
+use link_types::ObjectType;
+use type_relations::{ClassRelation, is_object_below};
 use type_rules::VerificationType;
 
 // Whether a class of the program may stand for another one.
@@ -18,34 +18,20 @@ fn is_class_assignable<H: ClassHierarchy>(hierarchy: &H, low: u32, high: u32) ->
         || (!hierarchy.is_interface(low) && hierarchy.is_superclass(low, high))
 }
 
-// The same of the elements of arrays of as many dimensions.
-fn is_element_assignable<H: ClassHierarchy>(
-    hierarchy: &H,
-    low: ElementType,
-    high: ElementType,
-) -> bool
-    ensures { result ≡ is_element_below (assignable.is_class_assignable (H.hierarchy hierarchy.now)) low high }
-{
-    match (low, high) {
-        (ElementType::Boolean, ElementType::Boolean)
-        | (ElementType::Byte, ElementType::Byte)
-        | (ElementType::Char, ElementType::Char)
-        | (ElementType::Short, ElementType::Short)
-        | (ElementType::Int, ElementType::Int)
-        | (ElementType::Long, ElementType::Long)
-        | (ElementType::Float, ElementType::Float)
-        | (ElementType::Double, ElementType::Double) => true,
-        (ElementType::Class(c), ElementType::Class(d)) => is_class_assignable(hierarchy, c, d),
-        (ElementType::Other(_), ElementType::Class(d)) => d == OBJECT,
-        (ElementType::Other(m), ElementType::Other(n)) => m == n,
-        _ => false,
-    }
+// The classes of a program, related as assignability has it.
+#[derive(Drop)]
+struct Assignability<'a, H: ClassHierarchy> {
+    hierarchy: &'a H,
 }
 
-fn is_object_element(element: ElementType) -> bool
-    ensures { result ≡ Rattle.link_types.specs.Subtypes.is_object_element element }
-{
-    matches!(element, ElementType::Class(OBJECT))
+impl<'a, H: ClassHierarchy> ClassRelation for Assignability<'a, H> {
+    ghost use Rattle.type_rules.specs.Assignable as assignable;
+
+    ghost is_below = { λ a. assignable.is_class_assignable (H.hierarchy a.hierarchy.now) };
+
+    fn is_class_below(&self, low: u32, high: u32) -> bool {
+        is_class_assignable(self.hierarchy, low, high)
+    }
 }
 
 /// Tests whether a reference of one type may stand for one of another type. Each interface takes every class and every
@@ -58,16 +44,7 @@ pub fn is_object_assignable<H: ClassHierarchy>(
 ) -> bool
     ensures { result ≡ assignable.is_object_assignable (H.hierarchy hierarchy.now) low high }
 {
-    match (low, high) {
-        (ObjectType::Class(c), ObjectType::Class(d)) => is_class_assignable(hierarchy, c, d),
-        (ObjectType::Other(m), ObjectType::Other(n)) => m == n,
-        (ObjectType::Other(_) | ObjectType::Array(_, _), ObjectType::Class(d)) => d == OBJECT,
-        (ObjectType::Array(m, x), ObjectType::Array(n, y)) if m == n => is_element_assignable(
-            hierarchy, x, y,
-        ),
-        (ObjectType::Array(m, _), ObjectType::Array(n, y)) => n < m && is_object_element(y),
-        _ => false,
-    }
+    is_object_below(&Assignability { hierarchy }, low, high)
 }
 
 /// Tests whether a word of one type may stand for one of another type: each for Top and for itself, null for every
