@@ -1,6 +1,5 @@
 pub mod PieceLaws
 pub mod WordLaws
-pub mod NumberLaws
 pub mod TextLaws
 pub mod FrontLaws
 pub mod EachLaws

@@ -11,7 +11,7 @@ use Rattle.assembly_lines.specs.declared.line.FieldValue.TheVariants as values
 use Rattle.assembly_lines.specs.declared.line.Room.{Room}
 use Rattle.assembly_lines.specs.declared.line.Line.{Line}
 use Rattle.assembly_lines.specs.declared.line.Line.TheVariants.{Class, Super, Implements, Field, Method, End, Label, Handler, Instruction, Frame}
-use Rattle.assembly_lines.specs.Numbers.{integer_up_to}
+use Rattle.decimal_numbers.specs.Numbers.{integer_up_to}
 use Rattle.assembly_lines.specs.Words.{AreWords, word}
 use Rattle.assembly_lines.specs.Lines.{IsShort, SaysValue, Says, IsLine}
 use Rattle.assembly_lines.specs.Front.{◌>>=◌, Fails, Gives, Answers, plain_at, only, only_plain, only_word, behind, short}

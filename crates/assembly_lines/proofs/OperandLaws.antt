@@ -13,7 +13,7 @@ use Rattle.assembly_lines.specs.declared.operation.Loaded.{Loaded}
 use Rattle.assembly_lines.specs.declared.operation.Loaded.TheVariants as loaded
 use Rattle.assembly_lines.specs.declared.operation.Operands.{Operands}
 use Rattle.assembly_lines.specs.declared.operation.Operands.TheVariants as operands
-use Rattle.assembly_lines.specs.Numbers.{number_up_to, integer_up_to}
+use Rattle.decimal_numbers.specs.Numbers.{number_up_to, integer_up_to}
 use Rattle.assembly_lines.specs.Operands.{IsNumber, IsInteger, IsName, IsElementType, SaysNone, SaysOne, SaysIncrement, IsLoaded, SaysConstant, SaysMember, IsCount, SaysInterfaceMethod, SaysOperands}
 use Rattle.assembly_lines.specs.Front.{◌>>=◌, Fails, Answers, plain_at, only_plain, only_word}
 use Rattle.assembly_lines.specs.ReadingSwitches.{table_switch_at, lookup_switch_at}

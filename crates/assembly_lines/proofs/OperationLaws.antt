@@ -9,7 +9,7 @@ use Rattle.assembly_lines.specs.declared.word.Word.{Word}
 use Rattle.assembly_lines.specs.declared.operation.Operands.{Operands}
 use Rattle.assembly_lines.specs.declared.operation.Operands.TheVariants as operands
 use Rattle.assembly_lines.specs.declared.operation.Operation.{Operation}
-use Rattle.assembly_lines.specs.Numbers.{number_up_to}
+use Rattle.decimal_numbers.specs.Numbers.{number_up_to}
 use Rattle.assembly_lines.specs.Operands.{IsNumber, SaysOperands, SaysWideOperands, IsOperation, IsWideOperation, SaysOperation}
 use Rattle.assembly_lines.specs.Front.{Answers, plain_at}
 use Rattle.assembly_lines.specs.ReadingOperands.{Reads, ReadsOperands, wide_operands_at, wide_at}

@@ -5,7 +5,7 @@ use Rattle.assembly_lines.specs.declared.word.LineRefusal.{LineRefusal}
 use Rattle.assembly_lines.specs.declared.word.LineRefusal.TheVariants.{Malformed, NoMemory}
 use Rattle.assembly_lines.specs.declared.word.Word.{Word}
 use Rattle.assembly_lines.specs.declared.word.Word.TheVariants.{Plain, Quoted}
-use Rattle.assembly_lines.specs.Numbers.{number_up_to}
+use Rattle.decimal_numbers.specs.Numbers.{number_up_to}
 
 infixl 10 ◌>>=◌
 abbrev pub ◌>>=◌ : {A B : Type 0} → Option A → (A → Option B) → Option B

@@ -2,7 +2,6 @@ pub mod Piece
 pub mod Words
 pub mod ReadingPiece
 pub mod ReadingWords
-pub mod Numbers
 pub mod Switches
 pub mod Operands
 pub mod Frames

@@ -7,7 +7,7 @@ use Rattle.assembly_lines.specs.declared.line.FieldValue.TheVariants as values
 use Rattle.assembly_lines.specs.declared.line.Line.{Line}
 use Rattle.assembly_lines.specs.declared.line.Line.TheVariants.{Class, Super, Implements, Field, Method, End, Label, Handler, Instruction, Frame}
 use Rattle.assembly_lines.specs.Words.{AreWords, word}
-use Rattle.assembly_lines.specs.Numbers.{number_up_to, integer_up_to}
+use Rattle.decimal_numbers.specs.Numbers.{number_up_to, integer_up_to}
 use Rattle.assembly_lines.specs.Operands.{IsInstruction}
 use Rattle.assembly_lines.specs.Frames.{IsFrame}
 

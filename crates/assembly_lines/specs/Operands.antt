@@ -15,7 +15,7 @@ use Rattle.assembly_lines.specs.declared.operation.Operands.{Operands}
 use Rattle.assembly_lines.specs.declared.operation.Operands.TheVariants.{None, Number, Local, Increment, Constant, Long, Label, Member, InterfaceMethod, Class, NewArray}
 use Rattle.assembly_lines.specs.declared.operation.Operation.{Operation}
 use Rattle.assembly_lines.specs.Words.{word}
-use Rattle.assembly_lines.specs.Numbers.{number_up_to, integer_up_to}
+use Rattle.decimal_numbers.specs.Numbers.{number_up_to, integer_up_to}
 use Rattle.assembly_lines.specs.Switches.{SaysTableSwitch, SaysLookupSwitch}
 
 -- a number from 0 to this one

@@ -8,7 +8,7 @@ use Rattle.assembly_lines.specs.declared.line.FieldValue.TheVariants as values
 use Rattle.assembly_lines.specs.declared.line.Room.{Room}
 use Rattle.assembly_lines.specs.declared.line.Line.{Line}
 use Rattle.assembly_lines.specs.declared.line.Line.TheVariants.{Class, Super, Implements, Field, Method, End, Label, Handler}
-use Rattle.assembly_lines.specs.Numbers.{integer_up_to}
+use Rattle.decimal_numbers.specs.Numbers.{integer_up_to}
 use Rattle.assembly_lines.specs.Front.{◌>>=◌, plain_at, only_plain, only_word, behind, short}
 use Rattle.assembly_lines.specs.ReadingFrames.{frame_at}
 

@@ -5,7 +5,7 @@ use Rattle.assembly_lines.specs.declared.word.Word.TheVariants.{Plain, Quoted}
 use Rattle.assembly_lines.specs.declared.operation.LabelledCase.{LabelledCase}
 use Rattle.assembly_lines.specs.declared.operation.Operands.{Operands}
 use Rattle.assembly_lines.specs.declared.operation.Operands.TheVariants.{TableSwitch, LookupSwitch}
-use Rattle.assembly_lines.specs.Numbers.{integer_up_to}
+use Rattle.decimal_numbers.specs.Numbers.{integer_up_to}
 use Rattle.assembly_lines.specs.Switches.{highest_key}
 use Rattle.assembly_lines.specs.Front.{◌>>=◌, plain_at, each}
 

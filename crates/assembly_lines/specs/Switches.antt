@@ -7,7 +7,7 @@ use Rattle.assembly_lines.specs.declared.operation.LabelledCase.{LabelledCase}
 use Rattle.assembly_lines.specs.declared.operation.Operands.{Operands}
 use Rattle.assembly_lines.specs.declared.operation.Operands.TheVariants.{TableSwitch, LookupSwitch}
 use Rattle.assembly_lines.specs.Words.{plain_words}
-use Rattle.assembly_lines.specs.Numbers.{integer_up_to}
+use Rattle.decimal_numbers.specs.Numbers.{integer_up_to}
 
 -- a key is an int
 abbrev pub IsKey : List ℕ → ℤ → Type 0

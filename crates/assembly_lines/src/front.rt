@@ -2,10 +2,9 @@
 
 ghost use Rattle.std.specs.Prelude.{◌≡◌, ◌<◌, ◌≤◌, ◌^◌, pos, negsuc, ◌≤ℤ◌, None, Some, IfOk, MatchOption};
 ghost use Rattle.std.specs.Str.{bytes_eq};
-ghost use Rattle.assembly_lines.specs.Numbers.{number_up_to, integer_up_to};
+ghost use Rattle.decimal_numbers.specs.Numbers.{number_up_to, integer_up_to};
 ghost use Rattle.assembly_lines.specs.Front.{Gives, plain_at, only_plain, only_word, behind};
 
-use crate::number;
 use crate::word::{LineRefusal, Word};
 
 pub(crate) fn is_text(bytes: &[u8], text: &[u8]) -> bool
@@ -63,7 +62,7 @@ pub(crate) fn number(limit: u64, written: &[u8]) -> Result<u64, LineRefusal>
     ensures value { Gives (λ number. number) result (number_up_to limit written.now) }
     ensures bound { IfOk result (λ number. number ≤ limit) }
 {
-    match number::number_up_to(limit, written) {
+    match decimal_numbers::number_up_to(limit, written) {
         Some(number) => Ok(number),
         None => Err(LineRefusal::Malformed),
     }
@@ -75,7 +74,7 @@ pub(crate) fn integer(limit: u64, written: &[u8]) -> Result<i64, LineRefusal>
     ensures value { Gives (λ number. number) result (integer_up_to limit written.now) }
     ensures bound { IfOk result (λ number. (negsuc limit ≤ℤ number) × (number ≤ℤ pos limit)) }
 {
-    match number::integer_up_to(limit, written) {
+    match decimal_numbers::integer_up_to(limit, written) {
         Some(number) => Ok(number),
         None => Err(LineRefusal::Malformed),
     }

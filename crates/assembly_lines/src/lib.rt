@@ -9,7 +9,6 @@ mod frames;
 mod front;
 mod laws;
 mod line;
-mod number;
 mod operands;
 mod operation;
 mod piece;

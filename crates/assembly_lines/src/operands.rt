@@ -3,7 +3,7 @@
 ghost use Rattle.std.specs.Prelude.{◌≡◌, ◌≤◌, ◌+◌, MatchOption, option_map};
 ghost use Rattle.assembly_lines.specs.declared.operation.Operands.TheVariants as operands;
 ghost use Rattle.instructions.specs.Table.{shown_row, row_named};
-ghost use Rattle.assembly_lines.specs.Numbers.{number_up_to, integer_up_to};
+ghost use Rattle.decimal_numbers.specs.Numbers.{number_up_to, integer_up_to};
 ghost use Rattle.assembly_lines.specs.Operands.{IsCount, SaysInterfaceMethod, IsOperation, SaysOperation};
 ghost use Rattle.assembly_lines.specs.Front.{Gives, Answers};
 ghost use Rattle.assembly_lines.specs.ReadingOperands.{Reads, none_at, one_at, name_of, increment_at, loaded_of, constant_at, member_words, member_at, element_type, ReadsOperands, wide_operands_at, wide_at};

@@ -15,7 +15,7 @@ use Rattle.assembly_lines.specs.declared.line.Line.TheVariants.{Class, Super, Im
 use Rattle.assembly_lines.specs.declared.operation.Operands.{Operands}
 use Rattle.assembly_lines.specs.declared.operation.Operands.TheVariants as operands
 use Rattle.assembly_lines.specs.declared.operation.Operation.{Operation}
-use Rattle.assembly_lines.specs.Numbers.{number_up_to, integer_up_to}
+use Rattle.decimal_numbers.specs.Numbers.{number_up_to, integer_up_to}
 use Rattle.assembly_lines.specs.Operands.{IsCount, SaysInterfaceMethod, SaysOperands, IsOperation, SaysOperation}
 use Rattle.assembly_lines.specs.Lines.{Says, IsLine}
 use Rattle.assembly_lines.specs.Front.{Gives, Answers, plain_at}

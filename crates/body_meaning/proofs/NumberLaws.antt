@@ -3,7 +3,7 @@ use Rattle.std.proofs.Common.{◌≡◌, ℕ, zero, suc, ◌+◌, ◌^◌, ◌<�
 use Rattle.std.specs.Int.{w16, w32}
 use Rattle.std.proofs.lemmas.Bool.{and_parts, leb-true}
 use Rattle.std.proofs.lemmas.Option.{same_Some}
-use Rattle.assembly_lines.specs.Numbers.{has_no_leading_zero, are_digits, digits_value, number_up_to, negative, integer_up_to}
+use Rattle.decimal_numbers.specs.Numbers.{has_no_leading_zero, are_digits, digits_value, number_up_to, negative, integer_up_to}
 use Rattle.class_names.proofs.Cases.{chosen}
 
 taken : (first last : Bool) (value limit n : ℕ) → (last ≡ true → value ≤ limit) → cond (first && last) (Some value) None ≡ Some n → n ≤ limit

@@ -2,7 +2,7 @@
 use Rattle.std.proofs.Common.{◌≡◌, ℕ, ◌+◌, ◌-◌, ◌*◌, ◌<◌, ◌≤◌, true, false, cond, leb, List, [], ◌∷◌, length, drop, get_or, Option, Some, None, ◌&&◌, refl, ap, ◌∙◌, arith, add-one, drop-cons}
 use Rattle.std.proofs.lemmas.Bool.{lt-leb, le-leb, and_right}
 use Rattle.std.proofs.lemmas.List.{drop_all}
-use Rattle.assembly_lines.specs.Numbers.{is_digit, are_digits, digits_value}
+use Rattle.decimal_numbers.specs.Numbers.{is_digit, are_digits, digits_value}
 
 digits_grow : (n : ℕ) (bytes : List ℕ) → n ≤ digits_value n bytes
 digits_grow n [] = omega arith

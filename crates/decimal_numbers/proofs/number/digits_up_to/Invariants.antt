@@ -1,6 +1,6 @@
 use Rattle.std.proofs.Common.{◌≡◌, ◌≤◌, drop}
-use Rattle.assembly_lines.proofs.NumberLaws.{left_value}
-use Rattle.assembly_lines.proofs.number.digits_up_to.Given as goal
+use Rattle.decimal_numbers.proofs.NumberLaws.{left_value}
+use Rattle.decimal_numbers.proofs.number.digits_up_to.Given as goal
 
 abbrev pub invariant-loop-byte : goal.invariant-loop-byte
 invariant-loop-byte l = record {

@@ -2,7 +2,7 @@
 
 ghost use Rattle.std.specs.Prelude.{◌≡◌, ◌<◌, ◌≤◌, ◌+◌, ◌&&◌, ◌*◌, pos, negsuc, ◌≤ℤ◌, ◌^◌, None, Some, IfSome, nat_le, if◌then◌else◌, option_map};
 ghost use Rattle.std.specs.Option.{option_and_then};
-ghost use Rattle.assembly_lines.specs.Numbers.{is_digit, are_digits, digits_value, has_no_leading_zero, number_up_to, negative, integer_up_to};
+ghost use Rattle.decimal_numbers.specs.Numbers.{is_digit, are_digits, digits_value, has_no_leading_zero, number_up_to, negative, integer_up_to};
 
 /// The number of some digits, if it is at most a limit.
 fn digits_up_to(limit: u64, bytes: &[u8]) -> Option<u64>
@@ -33,7 +33,7 @@ fn has_no_leading_zero(bytes: &[u8]) -> bool
 }
 
 /// The number that bytes are, if it is at most a limit.
-pub(crate) fn number_up_to(limit: u64, bytes: &[u8]) -> Option<u64>
+pub fn number_up_to(limit: u64, bytes: &[u8]) -> Option<u64>
     ensures value { result ≡ number_up_to limit bytes.now }
     ensures bound { IfSome result (λ number. number ≤ limit) }
 {
@@ -57,7 +57,7 @@ fn negative(number: u64) -> Option<i64>
 }
 
 /// The number that bytes are, with its sign: up to a limit, and down to one less than the limit's negative.
-pub(crate) fn integer_up_to(limit: u64, bytes: &[u8]) -> Option<i64>
+pub fn integer_up_to(limit: u64, bytes: &[u8]) -> Option<i64>
     requires { limit < 2 ^ 63 }
     ensures value { result ≡ integer_up_to limit bytes.now }
     ensures bound { IfSome result (λ number. (negsuc limit ≤ℤ number) × (number ≤ℤ pos limit)) }

@@ -1,7 +1,7 @@
 use Rattle.std.proofs.Common.{◌≡◌, ◌∙◌, ◌<◌, ◌+◌, ◌-◌, ◌*◌, true, get_or, drop, sym, arith, rules}
-use Rattle.assembly_lines.specs.Numbers.{is_digit}
-use Rattle.assembly_lines.proofs.NumberLaws.{value_more, value_large}
-use Rattle.assembly_lines.proofs.number.digits_up_to.Goals as goal
+use Rattle.decimal_numbers.specs.Numbers.{is_digit}
+use Rattle.decimal_numbers.proofs.NumberLaws.{value_more, value_large}
+use Rattle.decimal_numbers.proofs.number.digits_up_to.Goals as goal
 
 pub returns-then-value-from-clause-value : goal.returns-then-value-from-clause-value
 returns-then-value-from-clause-value c =

@@ -1,0 +1,4 @@
+pub mod Cut
+pub mod Options
+pub mod Grammar
+pub mod Built

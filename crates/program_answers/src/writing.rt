@@ -1,0 +1,62 @@
+//! Writing what the program answers.
+
+ghost use Rattle.std.specs.Prelude.{◌≡◌, ◌≢◌, ◌<◌, ◌≤◌, [], ◌∷◌, OnOk, OnErr};
+ghost use Rattle.jr_ports.specs.Stream.{Gains, GainsPart};
+ghost use Rattle.program_answers.specs.Written.{Comes, Said};
+
+use crate::answer::Answer;
+use crate::status::Status;
+use jr_ports::{Sink, SinkFault};
+use rows::Bytes;
+
+// Gives pieces to a sink, one put for each.
+fn put_all<S: Sink>(pieces: &[Bytes], sink: &mut S) -> Result<(), SinkFault>
+    ensures ok { OnOk result (Gains (S.given sink.old) (S.given sink.new) pieces.now) }
+    ensures err { OnErr result (GainsPart (S.given sink.old) (S.given sink.new) pieces.now) }
+    ensures some { OnErr result (pieces.now ≢ []) }
+    ensures cause { result ≡ Err SinkFault.Failed → S.faults sink.old < S.faults sink.new }
+    ensures faults { S.faults sink.old ≤ S.faults sink.new }
+{
+    for piece in pieces {
+        sink.put(piece.as_slice())?;
+    }
+    Ok(())
+}
+
+/// Writes a line to the standard error, and ends with a status: the one that is meant, or that of the standard error's
+/// failure.
+pub fn say<E: Sink>(err: &mut E, line: &[u8], meant: Status) -> Status
+    ensures { Said (line.now ∷ []) meant (record { before = E.given err.old; after = E.given err.new; failed = E.faults err.old < E.faults err.new }) result }
+{
+    match err.put(line) {
+        Ok(()) => meant,
+        Err(SinkFault::Failed) => Status::WriteFault,
+        Err(SinkFault::NoMemory) => Status::Memory,
+    }
+}
+
+// Writes lines to the standard error, and ends likewise.
+fn say_all<E: Sink>(err: &mut E, lines: &[Bytes], meant: Status) -> Status
+    ensures { Said lines.now meant (record { before = E.given err.old; after = E.given err.new; failed = E.faults err.old < E.faults err.new }) result }
+{
+    match put_all(lines, err) {
+        Ok(()) => meant,
+        Err(SinkFault::Failed) => Status::WriteFault,
+        Err(SinkFault::NoMemory) => Status::Memory,
+    }
+}
+
+/// Writes an answer, the standard output first, and tells the status with which the program ends: that of the answer, or
+/// that of the failure of a stream. Takes no memory but what the sinks take.
+pub fn report<O: Sink, E: Sink>(answer: &Answer, out: &mut O, err: &mut E) -> Status
+    ensures { Comes answer.now (record {
+      out = record { before = O.given out.old; after = O.given out.new; failed = O.faults out.old < O.faults out.new };
+      err = record { before = E.given err.old; after = E.given err.new; failed = E.faults err.old < E.faults err.new };
+    }) result }
+{
+    match put_all(answer.out.as_slice(), out) {
+        Ok(()) => say_all(err, answer.err.as_slice(), answer.status),
+        Err(SinkFault::Failed) => say(err, b"write fault\n", Status::WriteFault),
+        Err(SinkFault::NoMemory) => say(err, b"no memory\n", Status::Memory),
+    }
+}
