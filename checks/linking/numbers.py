@@ -313,6 +313,22 @@ class Program:
     def string(self, text):
         return self.object(len(self.classes) + len(self.arrays) + 1) + 9 + 2 * self.strings.index(text)
 
+    def descriptor(self, number):
+        named = len(self.classes)
+        return "L%s;" % self.at(number).name if number <= named else self.arrays[number - named - 1]
+
+    def is_subtype(self, low, high):
+        """JVMS 6.5, instanceof, of field descriptors."""
+        if low == high or high == "Ljava/lang/Object;" and low not in BASES:
+            return True
+        if low[0] == high[0] == "[":
+            return self.is_subtype(low[1:], high[1:])
+        if not low[0] == high[0] == "L":
+            return False
+        made = self.at(self.number[low[1:-1]])
+        above = made.interfaces + ([made.above] if made.above else [])
+        return any(self.is_subtype("L%s;" % name, high) for name in above)
+
     # ---- lines
 
     def base(self, name):
@@ -382,6 +398,11 @@ class Program:
         yield "array %d %s of %s three %d" % (number, self.type(dimensions, base), element or "none", 6 if name == "[J" else 3)
         yield self.layout(number)
 
+    def supertype_line(self, number):
+        low, classes = self.descriptor(number), range(1, len(self.classes) + len(self.arrays) + 1)
+        found = [high for high in classes if self.is_subtype(low, self.descriptor(high))]
+        return "supertypes %d:%s" % (number, "".join(" %d" % high for high in found))
+
     def fixed_lines(self):
         yield "newarray:" + "".join(" %s" % (self.number_of("[" + b) or "none") for b in "ZCBSIJ")
         out = self.object(len(self.classes) + len(self.arrays) + 1)
@@ -435,6 +456,8 @@ class Program:
             yield from self.class_lines(number)
         for number in range(named + 1, count + 1):
             yield from self.array_lines(number)
+        for number in range(28, count + 1):
+            yield self.supertype_line(number)
         yield from self.fixed_lines()
         for number in range(28, named + 2):
             yield from self.call_lines(number)

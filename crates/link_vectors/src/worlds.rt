@@ -43,6 +43,17 @@ fn show_superclasses<R: Print>(rt: &R, world: &World, class: u32) -> io::Result<
     println!(rt; "")
 }
 
+/// The classes of which an object of a class is an instance, by number (JVMS 6.5, instanceof).
+fn show_supertypes<R: Print>(rt: &R, world: &World, class: u32) -> io::Result<()> {
+    print!(rt; "supertypes {class}:")?;
+    for high in 1..=world.classes() {
+        if world.is_subclass(class, high) {
+            print!(rt; " {high}")?;
+        }
+    }
+    println!(rt; "")
+}
+
 fn show_class<R: Print>(rt: &R, world: &World, class: u32) -> io::Result<()> {
     show_layout(rt, world, class)?;
     if world.is_interface(class) {
@@ -119,6 +130,9 @@ pub fn show_world<R: Print>(rt: &R, world: &World) -> io::Result<()> {
     }
     for class in named..all {
         show_array(rt, world, class + 1)?;
+    }
+    for class in COUNT..all {
+        show_supertypes(rt, world, class + 1)?;
     }
     show_primitive_arrays(rt, world)?;
     show_fixed(rt, world)?;
