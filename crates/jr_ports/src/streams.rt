@@ -43,10 +43,12 @@ impl<P: Print> Sink for StreamSink<P> {
     }
 }
 
-/// The standard input, which tells nothing of what it holds.
+/// The standard input, which tells nothing of what it holds. Nothing is read behind its first end.
 #[derive(Drop)]
 pub struct StdSource {
     stream: Stdin,
+    // The end of the input was seen. A terminal would go on behind it.
+    is_ended: bool,
     faults: u64,
 }
 
@@ -55,7 +57,11 @@ impl StdSource {
     pub fn new(stream: Stdin) -> Self
         ensures { result.faults ≡ 0 }
     {
-        StdSource { stream, faults: 0 }
+        StdSource {
+            stream,
+            is_ended: false,
+            faults: 0,
+        }
     }
 }
 
@@ -68,8 +74,12 @@ impl Source for StdSource {
 
     fn take(&mut self, alloc: Global, most: u32) -> Result<Vec<u8>, SourceFault> {
         let mut piece = Vec::new(alloc);
+        if self.is_ended {
+            return Ok(piece);
+        }
         match self.stream.take(u64::from(most)).read_to_end(&mut piece) {
             Ok(_) => {
+                self.is_ended = piece.len() < most as usize;
                 piece.truncate(most as usize);
                 Ok(piece)
             }

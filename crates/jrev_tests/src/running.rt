@@ -31,9 +31,14 @@ pub const ONE_FILE: &[u8] = &[
     0x00, 0x00, 0x00, 0x00,
 ];
 
-/// The file of the class One with this code in its main method.
-fn one_with(alloc: Global, code: &[u8]) -> Result<Vec<u8>, Fail> {
-    let mut file = Vec::from_slice(alloc, &ONE_FILE[..216])?;
+/// The file of the class One with these entries behind those of its pool, so many of all, and this code in its main
+/// method.
+fn one_with(alloc: Global, count: u8, entries: &[u8], code: &[u8]) -> Result<Vec<u8>, Fail> {
+    let mut file = Vec::from_slice(alloc, &ONE_FILE[..9])?;
+    file.push(count)?;
+    file.extend_from_slice(&ONE_FILE[10..194])?;
+    file.extend_from_slice(entries)?;
+    file.extend_from_slice(&ONE_FILE[194..216])?;
     let length = code.len().min(200) as u8;
     file.extend_from_slice(&[0, 0, 0, length + 12, 0, 3, 0, 1, 0, 0, 0, length])?;
     file.extend_from_slice(code)?;
@@ -46,6 +51,10 @@ fn one_with(alloc: Global, code: &[u8]) -> Result<Vec<u8>, Fail> {
 pub enum File {
     /// The class One with this code.
     One(&'static str, &'static [u8]),
+    /// The class One with this code, and with a float and an invokedynamic behind the other entries of its pool.
+    Pooled(&'static str, &'static [u8]),
+    /// The class of an assembler's text.
+    Text(&'static str, &'static str),
     /// These bytes.
     Other(&'static str, &'static [u8]),
 }
@@ -56,32 +65,47 @@ pub struct Case {
     pub words: &'static [&'static str],
     pub files: &'static [File],
     pub input: &'static str,
-    /// Which call of the folder, the input, the output and the standard error fails, counted from 1; 0 for none.
-    pub faults: (u32, u32, u32, u32),
+    pub faults: Faults,
     pub status: u8,
     pub out: &'static [u8],
     pub err: &'static str,
 }
 
-fn owned(alloc: Global, file: File) -> Result<(String, Vec<u8>), Fail> {
-    match file {
-        File::One(name, code) => Ok((String::from_str(alloc, name)?, one_with(alloc, code)?)),
-        File::Other(name, bytes) => Ok((
-            String::from_str(alloc, name)?,
-            Vec::from_slice(alloc, bytes)?,
-        )),
-    }
+/// The entries of a float and of an invokedynamic.
+const ENTRIES: &[u8] = &[4, 0, 0, 0, 0, 18, 0, 0, 0, 12];
+
+/// Which call of the folder, the input, the output and the standard error fails, counted from 1; 0 for none.
+pub type Faults = (u32, u32, u32, u32);
+
+fn made<R: Abort + Threads + Sync>(rt: &R, alloc: Global, text: &str) -> Result<Vec<u8>, Fail> {
+    let made = run_over(rt, alloc, &["make"], Vec::new(alloc), text, (0, 0, 0, 0))?;
+    Ok(made.out)
 }
 
-fn folder(rt: &impl Abort, alloc: Global, files: &[File], fault: u32) -> Result<MemDir, Fail>
+fn owned<R: Abort + Threads + Sync>(
+    rt: &R,
+    alloc: Global,
+    file: File,
+) -> Result<(String, Vec<u8>), Fail> {
+    let (name, bytes) = match file {
+        File::One(name, code) => (name, one_with(alloc, 20, &[], code)?),
+        File::Pooled(name, code) => (name, one_with(alloc, 22, ENTRIES, code)?),
+        File::Text(name, text) => (name, made(rt, alloc, text)?),
+        File::Other(name, bytes) => (name, Vec::from_slice(alloc, bytes)?),
+    };
+    Ok((String::from_str(alloc, name)?, bytes))
+}
+
+fn folder(
+    rt: &impl Abort,
+    alloc: Global,
+    files: Vec<(String, Vec<u8>)>,
+    fault: u32,
+) -> Result<MemDir, Fail>
     ensures { IfOk result (λ folder. asked_of folder ≡ None) }
 {
-    let mut all = Vec::new(alloc);
-    for file in files {
-        all.push(owned(alloc, *file)?)?;
-    }
-    assert!(rt; names_differ(all.as_slice()));
-    Ok(MemDir::new(alloc, all, vec![in alloc; fault]?))
+    assert!(rt; names_differ(files.as_slice()));
+    Ok(MemDir::new(alloc, files, vec![in alloc; fault]?))
 }
 
 /// The words of a command line.
@@ -106,12 +130,19 @@ pub struct Seen {
     pub err: Vec<u8>,
 }
 
-/// Runs the program with the words of a case over its files and its input.
-pub fn run<R: Abort + Threads + Sync>(rt: &R, alloc: Global, case: &Case) -> Result<Seen, Fail> {
-    let (folder_fault, input_fault, out_fault, err_fault) = case.faults;
-    let words = owned_words(alloc, case.words)?;
-    let mut classes = folder(rt, alloc, case.files, folder_fault)?;
-    let mut input = input(alloc, case.input, input_fault)?;
+/// Runs the program with these words over files and an input.
+pub fn run_over<R: Abort + Threads + Sync>(
+    rt: &R,
+    alloc: Global,
+    words: &[&str],
+    files: Vec<(String, Vec<u8>)>,
+    text: &str,
+    faults: Faults,
+) -> Result<Seen, Fail> {
+    let (folder_fault, input_fault, out_fault, err_fault) = faults;
+    let words = owned_words(alloc, words)?;
+    let mut classes = folder(rt, alloc, files, folder_fault)?;
+    let mut input = input(alloc, text, input_fault)?;
     let mut out = MemSink::new(alloc, vec![in alloc; out_fault]?);
     let mut err = MemSink::new(alloc, vec![in alloc; err_fault]?);
     let words = words.as_slice();
@@ -130,6 +161,25 @@ pub fn run<R: Abort + Threads + Sync>(rt: &R, alloc: Global, case: &Case) -> Res
         out: Vec::from_slice(alloc, out.given())?,
         err: Vec::from_slice(alloc, err.given())?,
     })
+}
+
+/// The names and bytes of files.
+pub fn owned_files<R: Abort + Threads + Sync>(
+    rt: &R,
+    alloc: Global,
+    files: &[File],
+) -> Result<Vec<(String, Vec<u8>)>, Fail> {
+    let mut all = Vec::new(alloc);
+    for file in files {
+        all.push(owned(rt, alloc, *file)?)?;
+    }
+    Ok(all)
+}
+
+/// Runs the program with the words of a case over its files and its input.
+pub fn run<R: Abort + Threads + Sync>(rt: &R, alloc: Global, case: &Case) -> Result<Seen, Fail> {
+    let files = owned_files(rt, alloc, case.files)?;
+    run_over(rt, alloc, case.words, files, case.input, case.faults)
 }
 
 /// Whether the run ends with the wanted status, and gives the wanted bytes to both streams.

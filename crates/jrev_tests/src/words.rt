@@ -2,8 +2,8 @@ use crate::running::{Case, is_as_wanted, owned_words, run};
 use jrev_top::{Request, Status, words_of};
 use std::test::Fail;
 
-/// Words that ask for nothing that there is.
-const FAULTY: [&[&str]; 9] = [
+/// Words that ask for nothing that there is, or that isn't carried out yet.
+const FAULTY: [&[&str]; 22] = [
     &[],
     &["pick", "D"],
     &["pick", "D", "One", "x"],
@@ -11,8 +11,21 @@ const FAULTY: [&[&str]; 9] = [
     &["pick", "--D", "One"],
     &["pick", "D", "--counts"],
     &["--help", "x"],
-    &["run", "D", "One"],
     &["make", "One"],
+    &["load", "D"],
+    &["load", "D", "One", "x"],
+    &["load", "--D", "One"],
+    &["load", "D", "One", "--counts"],
+    &["run", "D", "One"],
+    &["trace", "D", "One"],
+    &["check", "D", "One"],
+    &["stress", "1"],
+    &["pick", "D", "One", "--counts"],
+    &["pick", "D", "One", "--seed=1"],
+    &["pick", "D", "One", "--order=1*1"],
+    &["pick", "D", "One", "--turns=5"],
+    &["pick", "D", "One", "--heap=5"],
+    &["pick", "D", "One", "--sections=5"],
 ];
 
 fn usage(words: &'static [&'static str]) -> Case {
@@ -65,9 +78,10 @@ const HELP: Case = Case {
 };
 
 /// What the help text says: each command with its words, and each exit status.
-const HELPED: [&str; 15] = [
+const HELPED: [&str; 17] = [
     "jrev executes Java class files",
     "jrev pick DIR MAIN",
+    "jrev load DIR MAIN",
     "jrev make",
     "jrev --help",
     "jrev --version",
@@ -81,6 +95,7 @@ const HELPED: [&str; 15] = [
     "\n  9  ",
     "\n 11  ",
     "one.jasm",
+    "accepted",
 ];
 
 fn has(text: &[u8], part: &str) -> bool {
@@ -102,7 +117,7 @@ fn the_help_text_names_each_command_and_status(rt: HostRuntime) -> Result<(), Fa
 fn a_dot_in_a_class_name_is_a_slash(rt: HostRuntime) -> Result<(), Fail> {
     let words = owned_words(rt.alloc(), &["pick", "dir", "a.b.C"])?;
     match words_of(rt.alloc(), words.as_slice()) {
-        Ok(Request::Pick { dir, main }) => {
+        Ok(Request::Pick { dir, main, .. }) => {
             assert!(rt; dir.as_str() == "dir" && main.as_slice() == b"a/b/C".as_slice());
             Ok(())
         }

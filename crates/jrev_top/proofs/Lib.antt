@@ -1,6 +1,3 @@
-pub mod Names
-pub mod Verdicts
-pub mod Streams
-pub mod Reported
-pub mod Inputs
-pub mod Takes
+pub mod Found
+pub mod Ended
+pub mod Answered

@@ -1,8 +1,4 @@
-pub mod Status
-pub mod Request
-pub mod Loading
-pub mod Answer
+pub mod Answers
+pub mod Touches
+pub mod Folder
 pub mod Headline
-pub mod Verdict
-pub mod Failure
-pub mod Written

@@ -1,16 +1,15 @@
 //! The top call of `jrev`: everything between the words of the command line and the exit status.
 #![tactic(auto)]
 
-mod input;
+mod answers;
+mod deciding;
+mod failure;
 mod loading;
-mod report;
-mod request;
+mod making;
+mod picking;
 mod run;
-mod status;
 mod texts;
-mod verdict;
 
-pub use report::say;
-pub use request::{Request, WordsRefusal, words_of};
+pub use command_words::{Request, WordsRefusal, request_of, words_of};
+pub use program_answers::{Status, say};
 pub use run::jrev;
-pub use status::Status;

@@ -1,88 +1,62 @@
-//! Loading the class files of a folder.
+//! `load`: accepting a program.
 
-ghost use Rattle.std.specs.Prelude.{◌≡◌, ◌<◌, ◌≤◌, List, ℕ, OnOk, IfOk, IfSome, None, Some, filter, map, string_bytes};
-ghost use Rattle.std.specs.List.Sorted.{IsPermutation, IsSorted};
-ghost use Rattle.std.specs.Cmp.Lexicographic.{slice_cmp};
-ghost use Rattle.std.specs.Ordering.{nat_cmp};
-ghost use Rattle.jr_ports.specs.Folder.{Asked};
-ghost use Rattle.jrev_top.specs.Loading.{Given, IsLoaded, IsTold, ReadsOnce, is_class_file};
+ghost use Rattle.std.specs.Prelude.{◌≡◌, ◌<◌, List, ℕ, IfOk, IfSome, None, map, take, string_bytes};
+ghost use Rattle.jrev_top.specs.Answers.{IsJudged, IsLoaded};
+ghost use Rattle.jrev_top.specs.Folder.{AreListed, ReadsInOrder};
 
-use class_read::MOST_BYTES;
-use jr_ports::{ClassDir, DirFault, MOST_READ};
-use rows::Bytes;
-use std::alloc::{AllocError, Global};
+use crate::answers::{accepted, no_main, refused};
+use crate::failure::Failure;
+use jr_ports::ClassDir;
+use program_accept::{AcceptRefusal, accept};
+use program_answers::Answer;
+use program_input::{class_names, read_files};
+use std::alloc::Global;
 
-// A byte more is read of a file than a class file may have, so that one that is too long is seen.
-const _: () = prove!(MOST_READ == MOST_BYTES + 1);
+/// How many class files are read at most: one more than a program has, so that too many are seen.
+const MOST_FILES: usize = 1025;
 
-/// What was loaded of a folder.
-#[derive(Drop)]
-pub enum Loaded {
-    /// No name is that of a class file.
-    NoClass,
-    /// The only class file: its name, and its bytes.
-    OneClass(Bytes, Bytes),
-    /// There are several class files; the name of the second.
-    MoreClasses(Bytes),
-}
-
-/// Whether a name ends in `.class` and is longer than that.
-fn is_class_name(name: &[u8]) -> bool
-    ensures { result ≡ is_class_file name.now }
+// The answer to class files of these names.
+fn judge(
+    alloc: Global,
+    names: &[String],
+    files: Vec<Vec<u8>>,
+    main: &[u8],
+) -> Result<Answer, Failure>
+    ensures answer { IfOk result (λ answer.
+        IsJudged main.now (map string_bytes names.now) (map (λ f. f.items) files.items) answer) }
+    ensures memory { result ≡ Err Failure.Failed → ⊥ }
 {
-    let len = name.len();
-    if len <= 6 {
-        return false;
+    let count = files.len();
+    match accept(alloc, files, main) {
+        Ok(_) => {}
+        Err(AcceptRefusal::NoMain) => return Ok(no_main(alloc)?),
+        Err(AcceptRefusal::Refused(refusal)) => return Ok(refused(alloc, names, refusal)?),
+        Err(AcceptRefusal::NoMemory) => return Err(Failure::NoMemory),
     }
-    let (_, end) = name.split_at(len - 6);
-    end == b".class".as_slice()
+    Ok(accepted(alloc, count)?)
 }
 
-/// The names of class files, in the order of their bytes.
-fn class_names(alloc: Global, names: &[String]) -> Result<Vec<String>, AllocError>
-    ensures are { IfOk result (λ sorted. IsPermutation (filter is_class_file (map string_bytes names.now)) (map string_bytes sorted.items)) }
-    ensures in_order { IfOk result (λ sorted. IsSorted (slice_cmp nat_cmp) (map string_bytes sorted.items)) }
-{
-    let mut found = chosen_names(alloc, names)?;
-    found.sort()?;
-    Ok(found)
-}
-
-fn chosen_names(alloc: Global, names: &[String]) -> Result<Vec<String>, AllocError>
-    ensures { IfOk result (λ chosen. map string_bytes chosen.items ≡ filter is_class_file (map string_bytes names.now)) }
-{
-    let mut chosen = Vec::new(alloc);
-    for name in names {
-        if is_class_name(name.as_bytes()) {
-            chosen.push(String::from_str(alloc, name.as_str())?)?;
-        }
-    }
-    Ok(chosen)
-}
-
-/// Loads the class file of a folder: none, the only one, or the name of the second of several.
+/// The answer of `load` to a folder and the name of its main class. All files are read before any is judged.
 ///
-/// After an error nothing is said of what was loaded. `Failed` comes only where the folder's count of faults
-/// rose in this call.
-pub fn load<D: ClassDir>(alloc: Global, classes: &mut D, dir: &str) -> Result<Loaded, DirFault>
+/// # Errors
+/// `Failed` comes only where the folder's count of faults rose in this call.
+pub(crate) fn load<D: ClassDir>(
+    alloc: Global,
+    dir: &str,
+    main: &[u8],
+    classes: &mut D,
+) -> Result<Answer, Failure>
     requires { D.asked classes.old ≡ None }
-    ensures loaded { IfOk result (λ loaded. (given : Given) × (given.loaded ≡ loaded) × IsLoaded given.names loaded × IsTold (D.contents classes.old) given) }
-    ensures cause { result ≡ Err DirFault.Failed → D.faults classes.old < D.faults classes.new }
+    ensures answer { IfOk result (λ answer. (names : List (List ℕ))
+        × AreListed (D.asked classes.new) (D.contents classes.old) dir.now names
+        × IsLoaded main.now (D.contents classes.old) (take 1025 names) answer) }
+    ensures cause { result ≡ Err Failure.Failed → D.faults classes.old < D.faults classes.new }
     ensures asked { IfSome (D.asked classes.new) (λ asked. asked.dir ≡ dir.now) }
-    ensures once { ReadsOnce (D.read_names classes.old) (D.read_names classes.new) }
+    ensures order { ReadsInOrder 1025 (D.asked classes.new) (D.read_names classes.old) (D.read_names classes.new) }
 {
-    let names = classes.names(alloc, dir)?;
-    let sorted = class_names(alloc, names.as_slice())?;
-    match sorted.as_slice() {
-        [] => Ok(Loaded::NoClass),
-        [only] => {
-            let bytes = classes.read(alloc, dir, only.as_str())?;
-            let name = Bytes::from_slice(alloc, only.as_bytes())?;
-            Ok(Loaded::OneClass(name, Bytes::from_vec(bytes)))
-        }
-        [_, second, ..] => {
-            let name = Bytes::from_slice(alloc, second.as_bytes())?;
-            Ok(Loaded::MoreClasses(name))
-        }
-    }
+    let mut names = class_names(alloc, classes, dir)?;
+    names.truncate(MOST_FILES);
+    let files = read_files(alloc, classes, dir, names.as_slice())?;
+    let answer = judge(alloc, names.as_slice(), files, main)?;
+    Ok(answer)
 }

@@ -1,23 +1,24 @@
 //! The top call: everything between the words of the command line and the exit status.
 
-ghost use Rattle.std.specs.Prelude.{◌≡◌, ◌+◌, ◌<◌, ◌⊎◌, None, map, string_bytes};
-ghost use Rattle.assembly_text.specs.TextLines.{most_bytes};
-ghost use Rattle.jrev_top.specs.Headline.{AsksOnly, AsksFolder, ReadsInput, IsFaultOf, IsMakeStatus};
-ghost use Rattle.jrev_top.specs.Loading.{ReadsOnce, TakesAtMost, TakesUpTo};
-ghost use Rattle.jrev_top.specs.Written.{ReportsOn};
+ghost use Rattle.std.specs.Prelude.{◌≡◌, ◌<◌, ◌⊎◌, IfSome, None, map, string_bytes};
+ghost use Rattle.program_input.specs.Input.{TakesAtMost, TakesUpTo};
+ghost use Rattle.command_words.specs.Built.{built_request};
+ghost use Rattle.jrev_top.specs.Folder.{ReadsInOrder};
+ghost use Rattle.jrev_top.specs.Touches.{files_wanted, folder_named, input_wanted};
+ghost use Rattle.jrev_top.specs.Headline.{AsksOnly, FailsAsked, MayEnd, Reports};
 
-use crate::report::{report, say};
-use crate::status::Status;
-use crate::verdict::{Failure, decide};
+use crate::deciding::decide;
+use crate::failure::Failure;
 use jr_ports::{ClassDir, Gate, Sink, Source};
+use program_answers::{Status, report, say};
 use std::alloc::Global;
 use std::thread::Threads;
 
 /// Runs the program with the words of its command line, its own name left out.
 ///
-/// `pick DIR MAIN` loads the class files of DIR and executes MAIN, `make` makes a class file of the text on `input`,
-/// `--help` and `--version` say what the program is. The answer goes to `out` and `err`, and the status says how the
-/// run ended:
+/// `pick DIR MAIN` executes the program of the class files in DIR that begins with the class MAIN, `load DIR MAIN`
+/// says whether it is accepted, `make` makes a class file of the text on `input`, `--help` and `--version` say what the
+/// program is. The answer goes to `out` and `err`, and the status says how the run ended:
 ///
 /// - `Done`, `Usage`, `Refused`, `NoMain` and `MakeRefused` come exactly where the words, the files and the text say
 ///   so;
@@ -41,28 +42,39 @@ pub fn jrev<R: Threads + Sync, D: ClassDir, I: Source, O: Sink, E: Sink, G: Gate
     requires { D.asked classes.old ≡ None }
 
     // Which status comes, and what both streams were given.
-    ensures answer { ReportsOn (map string_bytes words.now) (D.contents classes.old) (I.left input.old) (O.given out.old) (O.given out.new) (E.given err.old) (E.given err.new)
-        (IsFaultOf (map string_bytes words.now) (D.faults classes.old < D.faults classes.new) (I.faults input.old < I.faults input.new))
-        (O.faults out.old < O.faults out.new) (E.faults err.old < E.faults err.new) result }
+    ensures answer { Reports (built_request (map string_bytes words.now))
+        (record { asked = D.asked classes.new; files = D.contents classes.old; input = I.left input.old })
+        (FailsAsked (built_request (map string_bytes words.now))
+        (D.faults classes.old < D.faults classes.new) (I.faults input.old < I.faults input.new))
+        (record {
+          out = record { before = O.given out.old; after = O.given out.new; failed = O.faults out.old < O.faults out.new };
+          err = record { before = E.given err.old; after = E.given err.new; failed = E.faults err.old < E.faults err.new };
+        }) result }
 
-    ensures read_fault { result ≡ Status.ReadFault → IsFaultOf (map string_bytes words.now) (D.faults classes.old < D.faults classes.new) (I.faults input.old < I.faults input.new) }
-    ensures write_fault { result ≡ Status.WriteFault → (O.faults out.old < O.faults out.new) ⊎ (E.faults err.old < E.faults err.new) }
-    ensures asked { AsksOnly (map string_bytes words.now) (D.asked classes.new) }
-    ensures unasked { (AsksFolder (map string_bytes words.now) → ⊥) → classes.new ≡ classes.old }
-    ensures unread { (ReadsInput (map string_bytes words.now) → ⊥) → input.new ≡ input.old }
+    // Where no count of faults rose, the status is one of the answer, or that of want of memory.
+    ensures complete { (D.faults classes.old < D.faults classes.new → ⊥) → (I.faults input.old < I.faults input.new → ⊥)
+        → (O.faults out.old < O.faults out.new → ⊥) → (E.faults err.old < E.faults err.new → ⊥)
+        → MayEnd (built_request (map string_bytes words.now)) result }
+    ensures read_fault { result ≡ Status.ReadFault → FailsAsked (built_request (map string_bytes words.now))
+        (D.faults classes.old < D.faults classes.new) (I.faults input.old < I.faults input.new) }
+    ensures write_fault { result ≡ Status.WriteFault
+        → (O.faults out.old < O.faults out.new) ⊎ (E.faults err.old < E.faults err.new) }
 
-    // No file is read twice. No more is taken of the input than a text may have and one byte, and that in pieces of
-    // 65,536 bytes or of what is missing, none of them behind the end.
-    ensures once { ReadsOnce (D.read_names classes.old) (D.read_names classes.new) }
-    ensures taken { TakesAtMost (most_bytes + 1) (I.left input.old) (I.left input.new) }
-    ensures calls { TakesUpTo (most_bytes + 1) (I.taken input.old) (I.taken input.new) }
+    // The folder is asked for the one that is named, and the first of its class files are read, in order.
+    ensures asked { AsksOnly (built_request (map string_bytes words.now)) (D.asked classes.new) }
+    ensures unasked { folder_named (built_request (map string_bytes words.now)) ≡ None → classes.new ≡ classes.old }
+    ensures order { ReadsInOrder (files_wanted (built_request (map string_bytes words.now))) (D.asked classes.new)
+        (D.read_names classes.old) (D.read_names classes.new) }
 
-    // Where no stream fails, make ends with 0, 11 or 9.
-    ensures make { ReadsInput (map string_bytes words.now) → (I.faults input.old < I.faults input.new → ⊥)
-        → (O.faults out.old < O.faults out.new → ⊥) → (E.faults err.old < E.faults err.new → ⊥) → IsMakeStatus result }
+    // No more is taken of the input than is wanted, and that in pieces, none of them behind the end.
+    ensures unread { input_wanted (built_request (map string_bytes words.now)) ≡ None → input.new ≡ input.old }
+    ensures taken { IfSome (input_wanted (built_request (map string_bytes words.now)))
+        (λ most. TakesAtMost most (I.left input.old) (I.left input.new)) }
+    ensures calls { IfSome (input_wanted (built_request (map string_bytes words.now)))
+        (λ most. TakesUpTo most (I.taken input.old) (I.taken input.new)) }
 {
     match decide(alloc, words, classes, input) {
-        Ok(verdict) => report(alloc, &verdict, out, err),
+        Ok(answer) => report(&answer, out, err),
         Err(Failure::Failed) => say(err, b"read fault\n", Status::ReadFault),
         Err(Failure::NoMemory) => say(err, b"no memory\n", Status::Memory),
     }

@@ -1,12 +1,13 @@
 //! What `--help` and `--version` print.
 
 ghost use Rattle.std.specs.Prelude.{◌≡◌};
-ghost use Rattle.jrev_top.specs.Answer.{help_text, version_text};
+ghost use Rattle.jrev_top.specs.Answers.{help_text, version_text};
 
 /// What `--help` prints.
 pub const HELP: &str = "jrev executes Java class files whose monitors can be revoked.
 
 usage: jrev pick DIR MAIN
+       jrev load DIR MAIN
        jrev make
        jrev --help
        jrev --version
@@ -14,18 +15,21 @@ usage: jrev pick DIR MAIN
 pick       loads the class files of the folder DIR and executes the class MAIN, a dot or a slash between the
            parts of its name. So far a program is one class whose main method prints the values of integer
            expressions and does nothing else.
+load       says whether the class files of the folder DIR are accepted as a program that begins with the
+           class MAIN: whether they are read, decoded, linked and verified. It executes nothing.
 make       reads the text of an assembler from the standard input and writes the class file that it stands for.
 --help     prints this text.
 --version  prints the version.
 
 examples: jrev pick classes One
-          jrev make < one.jasm > classes/One.class
+          jrev load classes Main
+          jrev make < one.jasm > One.new && mv One.new classes/One.class
 
 exit status:
   0  the command did its work
   2  the words are none of a command
   3  a class file is not accepted
-  4  MAIN is not the name of a class in DIR
+  4  no class in DIR is named MAIN, or it has no main method
   7  the folder or the standard input could not be read
   8  the output could not be written
   9  there was no memory
@@ -37,16 +41,16 @@ pub const VERSION: &str = "jrev 0.1.0
 ";
 
 /// What the program does, with its words and its exit statuses.
-#[tactic(auto, unfolding(crate::specs::Answer::help_text))]
-pub fn help() -> &'static str
+#[tactic(auto, unfolding(crate::specs::Answers::help_text))]
+pub(crate) fn help() -> &'static str
     ensures { result.now ≡ help_text }
 {
     HELP
 }
 
 /// The program's name and version, a line.
-#[tactic(auto, unfolding(crate::specs::Answer::version_text))]
-pub fn version() -> &'static str
+#[tactic(auto, unfolding(crate::specs::Answers::version_text))]
+pub(crate) fn version() -> &'static str
     ensures { result.now ≡ version_text }
 {
     VERSION

@@ -1,0 +1,67 @@
+//! What the program answers to its words, before a byte of it is written.
+
+ghost use Rattle.std.specs.Prelude.{◌≡◌, ◌<◌, IfOk, IfSome, None, map, string_bytes};
+ghost use Rattle.program_input.specs.Input.{TakesAtMost, TakesUpTo};
+ghost use Rattle.command_words.specs.Built.{built_request};
+ghost use Rattle.jrev_top.specs.Answers as answers;
+ghost use Rattle.jrev_top.specs.Folder.{ReadsInOrder};
+ghost use Rattle.jrev_top.specs.Touches.{files_wanted, folder_named, input_wanted};
+ghost use Rattle.jrev_top.specs.Headline.{AsksOnly, FailsAsked, IsAnswer};
+
+use crate::answers::{given, usage};
+use crate::failure::Failure;
+use crate::loading::load;
+use crate::making::make;
+use crate::picking::pick;
+use crate::texts::{help, version};
+use command_words::{Request, WordsRefusal, words_of};
+use jr_ports::{ClassDir, Source};
+use program_answers::Answer;
+use rows::Bytes;
+use std::alloc::Global;
+
+// A text on the standard output.
+fn text(alloc: Global, text: &str) -> Result<Answer, Failure>
+    ensures answer { IfOk result (λ answer. answer ≡ answers.given text.now) }
+    ensures memory { result ≡ Err Failure.Failed → ⊥ }
+{
+    let bytes = Bytes::from_slice(alloc, text.as_bytes())?;
+    Ok(given(alloc, bytes)?)
+}
+
+/// The answer to the words, over what the folder and the input give.
+///
+/// # Errors
+/// `Failed` comes only where the count of faults of the folder that is asked, or of the input that is read, rose in
+/// this call.
+pub(crate) fn decide<D: ClassDir, I: Source>(
+    alloc: Global,
+    words: &[String],
+    classes: &mut D,
+    input: &mut I,
+) -> Result<Answer, Failure>
+    requires { D.asked classes.old ≡ None }
+    ensures answer { IfOk result (λ answer. IsAnswer (built_request (map string_bytes words.now))
+        (record { asked = D.asked classes.new; files = D.contents classes.old; input = I.left input.old }) answer) }
+    ensures cause { result ≡ Err Failure.Failed → FailsAsked (built_request (map string_bytes words.now))
+        (D.faults classes.old < D.faults classes.new) (I.faults input.old < I.faults input.new) }
+    ensures asked { AsksOnly (built_request (map string_bytes words.now)) (D.asked classes.new) }
+    ensures order { ReadsInOrder (files_wanted (built_request (map string_bytes words.now))) (D.asked classes.new)
+        (D.read_names classes.old) (D.read_names classes.new) }
+    ensures unasked { folder_named (built_request (map string_bytes words.now)) ≡ None → classes.new ≡ classes.old }
+    ensures unread { input_wanted (built_request (map string_bytes words.now)) ≡ None → input.new ≡ input.old }
+    ensures taken { IfSome (input_wanted (built_request (map string_bytes words.now)))
+        (λ most. TakesAtMost most (I.left input.old) (I.left input.new)) }
+    ensures calls { IfSome (input_wanted (built_request (map string_bytes words.now)))
+        (λ most. TakesUpTo most (I.taken input.old) (I.taken input.new)) }
+{
+    match words_of(alloc, words) {
+        Ok(Request::Pick { dir, main, .. }) => pick(alloc, dir.as_str(), main.as_slice(), classes),
+        Ok(Request::Load { dir, main }) => load(alloc, dir.as_str(), main.as_slice(), classes),
+        Ok(Request::Make) => make(alloc, input),
+        Ok(Request::Help) => text(alloc, help()),
+        Ok(Request::Version) => text(alloc, version()),
+        Ok(_) | Err(WordsRefusal::Usage) => Ok(usage(alloc)?),
+        Err(WordsRefusal::NoMemory) => Err(Failure::NoMemory),
+    }
+}
