@@ -1,0 +1,13 @@
+pub mod WordLemmas
+pub mod DeedLemmas
+pub mod ClaimLemmas
+pub mod FactLemmas
+pub mod RunLemmas
+pub mod PinLemmas
+pub mod KnownLemmas
+pub mod LogLemmas
+pub mod TagLemmas
+pub mod UndoLemmas
+pub mod SinceLemmas
+pub mod ExampleLemmas
+pub mod CoreRunLemmas

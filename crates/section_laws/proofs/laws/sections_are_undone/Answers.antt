@@ -1,0 +1,5 @@
+use Rattle.section_laws.proofs.ExampleLemmas.{undone_run}
+use Rattle.section_laws.proofs.laws.sections_are_undone.Goals as goal
+
+pub returns : goal.returns
+returns c = undone_run

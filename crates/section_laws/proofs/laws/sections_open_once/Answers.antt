@@ -1,0 +1,5 @@
+use Rattle.section_laws.proofs.PinLemmas.{sections_open_once}
+use Rattle.section_laws.proofs.laws.sections_open_once.Goals as goal
+
+pub returns : goal.returns
+returns g c = sections_open_once g.C.ThreadCode.code

@@ -1,0 +1,5 @@
+pub mod Runs
+pub mod Pinning
+pub mod Observed
+pub mod Undoing
+pub mod Example

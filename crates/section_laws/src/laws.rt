@@ -1,0 +1,75 @@
+//! Sections along runs, of every thread code.
+
+ghost use Rattle.section_laws.specs.Runs.{SectionsComeOn, SectionsComeOnInRuns, SectionsOpenOnce, ZeroIsNoSection, SectionsAreApart, OthersSectionsStay, RunsBeginWithRuns};
+ghost use Rattle.section_laws.specs.Pinning.{PinnedSectionsStay, PinnedSectionsStayInRuns};
+ghost use Rattle.section_laws.specs.Observed.{ObservedSectionsStay};
+ghost use Rattle.section_laws.specs.Undoing.{UndoingPutsBack};
+ghost use Rattle.section_laws.specs.Example.{UndoneRun};
+
+use op_core::ThreadCode;
+
+/// An act leaves the word of a section as it is, or opens the section, whose word was 0, or brings it from its state
+/// into one that may follow, and leaves owner and priority.
+pub fn sections_come_on<C: ThreadCode>()
+    ensures { SectionsComeOn C.code }
+{}
+
+/// So does each entry of a run as one list.
+pub fn sections_come_on_in_runs<C: ThreadCode>()
+    ensures { SectionsComeOnInRuns C.code }
+{}
+
+/// What a run has begun with is a run.
+pub fn runs_begin_with_runs<C: ThreadCode>()
+    ensures { RunsBeginWithRuns C.code }
+{}
+
+/// No number is opened twice.
+pub fn sections_open_once<C: ThreadCode>()
+    ensures { SectionsOpenOnce C.code }
+{}
+
+/// The number 0 is that of no section: its word stays 0.
+pub fn zero_is_no_section<C: ThreadCode>()
+    ensures { ZeroIsNoSection C.code }
+{}
+
+/// No two threads have the same section open.
+pub fn sections_are_apart<C: ThreadCode>()
+    ensures { SectionsAreApart C.code }
+{}
+
+/// A thread leaves the word of a section that was opened and isn't its own as it is, or pins or revokes the section
+/// while it is live: it commits and undoes no section but its own.
+pub fn others_sections_stay<C: ThreadCode>()
+    ensures { OthersSectionsStay C.code }
+{}
+
+/// A section that was pinned stays pinned until it is committed, and no act of the run, earlier or later, revokes it.
+pub fn pinned_sections_stay<C: ThreadCode>()
+    ensures { PinnedSectionsStay C.code }
+{}
+
+/// So it is in each run as one list.
+pub fn pinned_sections_stay_in_runs<C: ThreadCode>()
+    ensures { PinnedSectionsStayInRuns C.code }
+{}
+
+/// A section is never revoked where the thread of another one, or of none, has read or overwritten a word that carries
+/// its number.
+pub fn observed_sections_stay<C: ThreadCode>()
+    ensures { ObservedSectionsStay C.code }
+{}
+
+/// Once a section is undone, each word that its thread has overwritten in it was put back, and no other word: as it
+/// was put back, the word still was as the section had written it, and then it was as the section had found it, value
+/// and tag. No word is left that carries the section's number, and the thread stands where it stood as it was to
+/// enter.
+pub fn undoing_puts_back<C: ThreadCode>()
+    ensures { UndoingPutsBack C.code }
+{}
+
+/// There are runs with all that `undoing_puts_back` asks for, in which a section overwrites a word and is undone.
+pub fn sections_are_undone()
+    ensures { UndoneRun }
+{}

@@ -1,0 +1,14 @@
+//! What is so of the sections of every run: how each comes on, that pinned ones stay, and what undoing leaves.
+//! Laws alone.
+//!
+//! Each function does nothing: its contract is the law.
+#![tactic(auto)]
+
+mod laws;
+
+pub use laws::{
+    observed_sections_stay, others_sections_stay, pinned_sections_stay,
+    pinned_sections_stay_in_runs, runs_begin_with_runs, sections_are_apart, sections_are_undone,
+    sections_come_on, sections_come_on_in_runs, sections_open_once, undoing_puts_back,
+    zero_is_no_section,
+};
