@@ -12,6 +12,7 @@ from class_files import PUBLIC, STATIC, Maker, timed, u2
 PROGRAM = os.path.join("crates", "link_vectors", "out", "link_vectors")
 MOST_BYTES = 1 << 20
 NOP, ICONST, POP, RETURN, ATHROW, ACONST = b"\x00", b"\x03", b"\x57", b"\xb1", b"\xbf", b"\x01"
+NEW, ALOAD, INVOKESPECIAL = b"\xbb", b"\x19", b"\xb7"
 INT, TOP, LONG = b"\x01", b"\x00", b"\x04"
 
 
@@ -183,6 +184,28 @@ def new_over_new_objects(one, name):
     one.method(name, flags=PUBLIC | STATIC, code=code, most=(60000, 2), frames=frames.bytes())
 
 
+def initializations(one, name, objects, blocks):
+    """A method over locals that all hold uninitialized objects, in turn so many. Each block initializes those of these
+    locals, and a frame behind it brings all objects back."""
+    frames, use, init = Frames(), one.named("A"), one.reference(10, "A", "<init>", "()V")
+    code = RETURN + (NEW + u2(use)) * objects + RETURN
+    frames.same(1)
+    frames.full(len(code), [b"\x08" + u2(1 + 3 * (i % objects)) for i in range(60000)])
+    for i, block in enumerate(blocks):
+        if i:
+            frames.same(len(code))
+        code += b"".join(ALOAD + bytes([local]) + INVOKESPECIAL + u2(init) for local in block) + RETURN
+    one.method(name, flags=PUBLIC | STATIC, code=code, most=(60000, objects), frames=frames.bytes())
+
+
+def init_over_wide_locals(one, name):
+    initializations(one, name, 1, [[0]] * 9000)
+
+
+def inits_among_objects(one, name):
+    initializations(one, name, 30, [[i % 30, (i + 1 + i // 30 % 29) % 30] for i in range(5900)])
+
+
 def calls_over_a_deep_stack(one, name):
     frames, use = Frames(), one.reference(10, "A", "f", "(" + "I" * 255 + ")V")
     code = b""
@@ -210,6 +233,9 @@ def measure(make):
     one = filled(make)
     if make is calls_over_a_deep_stack:
         one.method("f", "(" + "I" * 255 + ")V", flags=PUBLIC | STATIC, code=RETURN, most=(255, 0))
+    if make in (init_over_wide_locals, inits_among_objects):
+        above = one.reference(10, "java/lang/Object", "<init>", "()V")
+        one.method("<init>", code=b"\x2a" + INVOKESPECIAL + u2(above) + RETURN, most=(1, 1))
     lines, seconds, memory, size = timed(PROGRAM, [one], 2)
     said = lines[1] if lines[0] == "files linked" else lines[0]
     print("%-28s %8d bytes %6.2f s %5s MB: %s" % (make.__name__, size, seconds, memory, said[:40]), flush=True)
@@ -220,7 +246,8 @@ def main():
         sys.exit("build link_vectors first: cd crates/link_vectors && rt run")
     for make in (same_frames, branches_over_wide_locals, changes_under_branches, branches_over_a_deep_stack,
                  two_frames_in_turn, appends_and_chops, handlers_everywhere, nops_under_handlers, new_over_wide_locals,
-                 new_over_new_objects, calls_over_a_deep_stack, one_switch, many_small_methods, stores_under_handlers):
+                 new_over_new_objects, init_over_wide_locals, inits_among_objects, calls_over_a_deep_stack, one_switch,
+                 many_small_methods, stores_under_handlers):
         measure(make)
 
 

@@ -18,6 +18,7 @@ use Rattle.shared_words.specs.Store.{word_at, IsKept}
 use Rattle.shared_words.specs.Differ.{DifferAt}
 use Rattle.shared_words.specs.Shown.{first_words, EndsBy}
 use Rattle.shared_words.proofs.ListLaws.{first_count}
+use Rattle.shared_words.proofs.StoreLaws.{kept_are_fixed}
 use Rattle.shared_words.proofs.ShownLaws.{locals_told}
 use Rattle.typing_frames.specs.declared.stores.FrameStores.{FrameStores}
 use Rattle.typing_frames.specs.declared.stores.CurrentFrame.{CurrentFrame}
@@ -27,33 +28,43 @@ use Rattle.map_frames.proofs.MadeLaws.{locals_follow, same_locals}
 use Rattle.handler_frames.specs.declared.span.Span.{Span}
 use Rattle.handler_frames.specs.declared.covering.CoveringHandlers.{CoveringHandlers}
 use Rattle.handler_frames.specs.Spans.{AreListed, AreWithin, FindsSpans, StandsFor}
-use Rattle.handler_frames.specs.Known.{AreHeld, BeginBehind, FitsStores, GoesAt, GoesOn, GoTo, GoToFirst, HasBegun, HasSameSpans, IsSeen, KnowsHandlers, TakesFrame}
+use Rattle.handler_frames.specs.Known.{AreFixedLocals, AreHeld, BeginBehind, FitsStores, GoesAt, GoesOn, GoTo, GoToFirst, HasBegun, HasSameSpans, IsSeen, KnowsHandlers, TakesFrame}
 use Rattle.handler_frames.proofs.RuleLaws.{none_broken}
 use Rattle.handler_frames.proofs.SpanLaws.{stands_follow, stands_within}
 
 -- ---- as the stores change
 
-pub go_follow : (h : Hierarchy) (old new : FrameStores) (low high : Words) → StoresFollow old new → AreLocals old low → AreLocals old high → GoTo h old low high → GoTo h new low high
-go_follow h old new low high follows low_is high_is go =
-    ap (λ l. are_locals_assignable h l (shown_locals new high)) (same_locals old new low follows low_is)
-    ∙ ap (λ l. are_locals_assignable h (shown_locals old low) l) (same_locals old new high follows high_is) ∙ go
-
 lists_follow : (old new : FrameStores) (spans : List Span) → StoresFollow old new → AreListed old spans → AreListed new spans
 lists_follow old new spans follows are =
     All-weaker (λ (s : Span). AreLocals old s.locals) (λ (s : Span). AreLocals new s.locals) (λ s a. locals_follow old new s.locals follows a) spans are
 
-held_follow : (h : Hierarchy) (old new : FrameStores) (spans active : List Span) (locals : Words) (held : ℕ) → StoresFollow old new → AreHeld h old spans active locals held → AreHeld h new spans active locals held
-held_follow h old new spans active locals held follows are = record {
-  sorted = are.sorted;
-  listed = lists_follow old new spans follows are.listed;
-  active_listed = lists_follow old new active follows are.active_listed;
-  kept = locals_follow old new locals follows are.kept;
-  inside = are.inside;
-  go = λ j d below. go_follow h old new locals (get_or active j d).locals follows are.kept (are.active_listed j d (omega (arith, below, are.inside))) (are.go j d below);
-}
+held_follow : (h : Hierarchy) (old new : FrameStores) (active : List Span) (locals : Words) (held : ℕ) → StoresFollow old new → new.locals.given_back ≡ old.locals.given_back → AreListed old active
+    → AreHeld h old active locals held → AreHeld h new active locals held
+held_follow h old new active locals held follows same listed are =
+    let stays = follows.locals.fixed same locals are.there.fixed in
+    let shown : shown_locals new locals ≡ shown_locals old locals = ap (λ f. first_words f new.locals.most) stays.1 ∙ ap (first_words (word_at old.locals locals)) follows.locals.most in
+    record {
+      there = record {
+        fixed = stays.0;
+        end = subst (λ m. EndsBy (word_at new.locals locals) m) (sym follows.locals.most) (subst (λ f. EndsBy f old.locals.most) (sym stays.1) are.there.end);
+      };
+      inside = are.inside;
+      go = λ j d below.
+          let high = (get_or active j d).locals in
+          ap (λ l. are_locals_assignable h l (shown_locals new high)) shown
+          ∙ ap (λ l. are_locals_assignable h (shown_locals old locals) l) (same_locals old new high follows (listed j d (omega (arith, below, are.inside)))) ∙ are.go j d below;
+    }
 
 pub fits_follow : (h : Hierarchy) (old new : FrameStores) (known : CoveringHandlers) → StoresFollow old new → FitsStores h old known → FitsStores h new known
-fits_follow h old new known follows fits = held_follow h old new known.spans.items known.active.items known.locals known.held follows fits
+fits_follow h old new known follows fits = record {
+  sorted = fits.sorted;
+  listed = lists_follow old new known.spans.items follows fits.listed;
+  active_listed = lists_follow old new known.active.items follows fits.active_listed;
+  since = omega (arith, fits.since, follows.locals.later);
+  holds = λ still.
+      let same : new.locals.given_back ≡ old.locals.given_back = omega (arith, still, fits.since, follows.locals.later) in
+      held_follow h old new known.active.items known.locals known.held follows same fits.active_listed (fits.holds (sym same ∙ still));
+}
 
 pub knows_follow : (old new : FrameStores) (known : CoveringHandlers) (env : Environment) (step : ℕ) → StoresFollow old new → KnowsHandlers old known env step → KnowsHandlers new known env step
 knows_follow old new known env step follows knows h c = elim (knows h c) [
@@ -73,15 +84,18 @@ known_first env stores limit spans joined active finds within h c = elim (finds 
       inr (wider.0, stands_within env stores h found.0 wider.0 wider.2 found.2, inl (there.0, omega arith, there.1, there.2))
 ]
 
-pub held_first : (h : Hierarchy) (stores : FrameStores) (spans active : List Span) (locals : Words) → IsNonDecreasingBy (λ (s : Span). s.first) spans → AreListed stores spans → active ≡ [] → IsKept stores.locals locals
-    → word_at stores.locals locals ≡ (λ _. Top) → AreHeld h stores spans active locals 0
-held_first h stores spans active locals sorted listed none kept tops = record {
+pub fits_first : (h : Hierarchy) (stores : FrameStores) (known : CoveringHandlers) → IsNonDecreasingBy (λ (s : Span). s.first) known.spans.items → AreListed stores known.spans.items → known.active.items ≡ []
+    → IsKept stores.locals known.locals → word_at stores.locals known.locals ≡ (λ _. Top) → known.since ≡ stores.locals.given_back → known.held ≡ 0 → FitsStores h stores known
+fits_first h stores known sorted listed none kept tops since held = record {
   sorted = sorted;
   listed = listed;
   active_listed = λ k d inside. absurd (let e = ap length none in omega (arith, e, inside));
-  kept = record { kept = kept; end = λ n past. ap (λ f. f n) tops };
-  inside = omega arith;
-  go = λ j d below. absurd (omega (arith, below));
+  since = omega (arith, since);
+  holds = λ still. record {
+    there = record { fixed = kept_are_fixed stores.locals known.locals kept; end = λ n past. ap (λ f. f n) tops };
+    inside = omega (arith, held);
+    go = λ j d below. absurd (omega (arith, below, held));
+  };
 }
 
 -- ---- from one instruction to the next
@@ -175,13 +189,13 @@ each_word h low high most low_ends high_ends go n = elim (cases_Bool (is_assigna
   | inr fails ↦ absurd (true≢false (sym go ∙ sym (locals_told h low high most most false low_ends high_ends (n, fails))))
 ]
 
-module _ (h : Hierarchy) (stores : FrameStores) (known : CoveringHandlers) (locals : Words) (fits : FitsStores h stores known) where
+module _ (h : Hierarchy) (stores : FrameStores) (known : CoveringHandlers) (locals : Words) (fits : FitsStores h stores known) (held : AreHeld h stores known.active.items known.locals known.held) where
   same_goes : (n : ℕ) → word_at stores.locals known.locals n ≡ word_at stores.locals locals n → GoesAt h stores known locals n
   same_goes n same j d below =
-      let list = fits.active_listed j d (omega (arith, below, fits.inside)) in
+      let list = fits.active_listed j d (omega (arith, below, held.inside)) in
       let high = word_at stores.locals (get_or known.active.items j d).locals in
       ap (λ w. is_assignable h w (high n)) (sym same)
-      ∙ each_word h (word_at stores.locals known.locals) high stores.locals.most fits.kept.end list.end (fits.go j d below) n
+      ∙ each_word h (word_at stores.locals known.locals) high stores.locals.most held.there.end list.end (held.go j d below) n
 
   -- at a place more where they differ
   pub goes_past : (from at : ℕ) → DifferAt (word_at stores.locals known.locals) (word_at stores.locals locals) from at → GoesAt h stores known locals at
@@ -198,7 +212,7 @@ module _ (h : Hierarchy) (stores : FrameStores) (known : CoveringHandlers) (loca
   pub first_go : (from : ℕ) → EndsBy (word_at stores.locals locals) stores.locals.most → ((n : ℕ) → from ≤ n → word_at stores.locals known.locals n ≡ word_at stores.locals locals n)
       → ((n : ℕ) → n < from → GoesAt h stores known locals n) → GoToFirst h stores locals known.active.items known.held
   first_go from end same so_far j d below =
-      let list = fits.active_listed j d (omega (arith, below, fits.inside)) in
+      let list = fits.active_listed j d (omega (arith, below, held.inside)) in
       let high = word_at stores.locals (get_or known.active.items j d).locals in
       sym (locals_told h (word_at stores.locals locals) high stores.locals.most stores.locals.most true end list.end (λ n. elim (leb_tells from n) [
         | inl past ↦ same_goes n (same n past.1) j d below
@@ -210,20 +224,16 @@ module _ (h : Hierarchy) (stores : FrameStores) (known : CoveringHandlers) (loca
   differ_inside from at end differ = elim (leb_tells stores.locals.most at) [
     | inl past ↦
         let tops : is_same_type (word_at stores.locals known.locals at) (word_at stores.locals locals at) ≡ true =
-        ap (λ w. is_same_type w (word_at stores.locals locals at)) (fits.kept.end at past.1) ∙ ap (λ w. is_same_type Top w) (end at past.1) in
+        ap (λ w. is_same_type w (word_at stores.locals locals at)) (held.there.end at past.1) ∙ ap (λ w. is_same_type Top w) (end at past.1) in
         absurd (true≢false (sym tops ∙ differ.1))
     | inr inside ↦ omega (arith, inside.1)
   ]
 
 -- ---- a span begins
 
-held_more : (h : Hierarchy) (stores : FrameStores) (spans active : List Span) (locals : Words) (held : ℕ) (s : Span) → AreLocals stores s.locals
-    → AreHeld h stores spans active locals held → AreHeld h stores spans (active ++ s ∷ []) locals held
-held_more h stores spans active locals held s list are = record {
-  sorted = are.sorted;
-  listed = are.listed;
-  active_listed = All-push (λ (x : Span). AreLocals stores x.locals) active s are.active_listed list;
-  kept = are.kept;
+held_more : (h : Hierarchy) (stores : FrameStores) (active : List Span) (locals : Words) (held : ℕ) (s : Span) → AreHeld h stores active locals held → AreHeld h stores (active ++ s ∷ []) locals held
+held_more h stores active locals held s are = record {
+  there = are.there;
   inside = omega (arith, are.inside, length_push active s);
   go = λ j d below.
       subst (λ (x : Span). GoTo h stores locals x.locals) (sym (get_or_append_left active (s ∷ []) d j (omega (arith, below, are.inside)))) (are.go j d below);
@@ -241,16 +251,22 @@ seen_begun spans begun active step next s at (inr (inl there)) = inr (inl (Conta
 seen_begun spans begun active step next s at (inr (inr ended)) = inr (inr ended)
 
 pub one_begins : (old new : CoveringHandlers) (next : Span) (step : ℕ) → slice_get old.spans.items old.begun ≡ Some next
-    → new.spans.items ≡ old.spans.items → new.active.items ≡ old.active.items ++ next ∷ [] → new.begun ≡ old.begun + 1 → new.locals ≡ old.locals → new.held ≡ old.held → new.limit ≡ old.limit → GoesOn old new step
-one_begins old new next step at spans active begun locals held limit = record {
+    → new.spans.items ≡ old.spans.items → new.active.items ≡ old.active.items ++ next ∷ [] → new.begun ≡ old.begun + 1 → new.locals ≡ old.locals → new.since ≡ old.since → new.held ≡ old.held → new.limit ≡ old.limit → GoesOn old new step
+one_begins old new next step at spans active begun locals since held limit = record {
   fits = λ h stores fits.
       let list : AreLocals stores next.locals =
       subst (λ (x : Span). AreLocals stores x.locals) (get_or_from_slice_get old.spans.items old.begun next next at) (fits.listed old.begun next (slice_get_within old.spans.items old.begun next at)) in
-      subst (λ l. AreHeld h stores l new.active.items new.locals new.held) (sym spans)
-      (subst (λ a. AreHeld h stores old.spans.items a new.locals new.held) (sym active)
-      (subst (λ l. AreHeld h stores old.spans.items (old.active.items ++ next ∷ []) l new.held) (sym locals)
-      (subst (λ n. AreHeld h stores old.spans.items (old.active.items ++ next ∷ []) old.locals n) (sym held)
-      (held_more h stores old.spans.items old.active.items old.locals old.held next list fits))));
+      record {
+        sorted = subst (λ l. IsNonDecreasingBy (λ (s : Span). s.first) l) (sym spans) fits.sorted;
+        listed = subst (AreListed stores) (sym spans) fits.listed;
+        active_listed = subst (AreListed stores) (sym active) (All-push (λ (x : Span). AreLocals stores x.locals) old.active.items next fits.active_listed list);
+        since = omega (arith, since, fits.since);
+        holds = λ still.
+            subst (λ a. AreHeld h stores a new.locals new.held) (sym active)
+            (subst (λ l. AreHeld h stores (old.active.items ++ next ∷ []) l new.held) (sym locals)
+            (subst (λ n. AreHeld h stores (old.active.items ++ next ∷ []) old.locals n) (sym held)
+            (held_more h stores old.active.items old.locals old.held next (fits.holds (still ∙ since)))));
+      };
   knows = λ env stores. knows_seen stores old new env step limit
       (λ s seen. subst (λ l. IsSeen l new.begun new.active.items step s) (sym spans)
       (subst (λ n. IsSeen old.spans.items n new.active.items step s) (sym begun)
@@ -298,26 +314,31 @@ seen_kept spans begun active step s (inr (inl there)) = elim (leb_tells (suc ste
 ]
 seen_kept spans begun active step s (inr (inr ended)) = inr (inr ended)
 
-pub ended_forgotten : (old new : CoveringHandlers) (step : ℕ) → new.spans.items ≡ old.spans.items → new.active.items ≡ filter (lasts step) old.active.items → new.begun ≡ old.begun → new.locals ≡ old.locals
+pub ended_forgotten : (old new : CoveringHandlers) (step : ℕ) → new.spans.items ≡ old.spans.items → new.active.items ≡ filter (lasts step) old.active.items → new.begun ≡ old.begun → new.locals ≡ old.locals → new.since ≡ old.since
     → (new.held ≡ 0) ⊎ ((old.held ≡ length old.active.items) × (new.held ≡ length new.active.items)) → new.limit ≡ old.limit → GoesOn old new step
-ended_forgotten old new step spans active begun locals held limit = record {
+ended_forgotten old new step spans active begun locals since held limit = record {
   fits = λ h stores fits. record {
     sorted = subst (λ l. IsNonDecreasingBy (λ (s : Span). s.first) l) (sym spans) fits.sorted;
     listed = subst (AreListed stores) (sym spans) fits.listed;
     active_listed = subst (AreListed stores) (sym active) (All-filter (lasts step) (λ (s : Span). AreLocals stores s.locals) old.active.items fits.active_listed);
-    kept = subst (AreLocals stores) (sym locals) fits.kept;
-    inside = elim held [
-      | inl none ↦ omega (arith, none)
-      | inr all ↦ omega (arith, all.1)
-    ];
-    go = elim held [
-      | inl none ↦ λ j d below. absurd (omega (arith, below, none))
-      | inr all ↦
-          let go : All (λ (s : Span). GoTo h stores old.locals s.locals) old.active.items = λ j d inside. fits.go j d (omega (arith, inside, all.0)) in
-          subst (λ l. GoToFirst h stores l new.active.items new.held) (sym locals)
-          (subst (λ n. GoToFirst h stores old.locals new.active.items n) (sym all.1)
-          (subst (All (λ (s : Span). GoTo h stores old.locals s.locals)) (sym active) (All-filter (lasts step) (λ (s : Span). GoTo h stores old.locals s.locals) old.active.items go)))
-    ];
+    since = omega (arith, since, fits.since);
+    holds = λ still.
+        let held_before = fits.holds (still ∙ since) in
+        record {
+          there = subst (AreFixedLocals stores) (sym locals) held_before.there;
+          inside = elim held [
+            | inl none ↦ omega (arith, none)
+            | inr all ↦ omega (arith, all.1)
+          ];
+          go = elim held [
+            | inl none ↦ λ j d below. absurd (omega (arith, below, none))
+            | inr all ↦
+                let go : All (λ (s : Span). GoTo h stores old.locals s.locals) old.active.items = λ j d inside. held_before.go j d (omega (arith, inside, all.0)) in
+                subst (λ l. GoToFirst h stores l new.active.items new.held) (sym locals)
+                (subst (λ n. GoToFirst h stores old.locals new.active.items n) (sym all.1)
+                (subst (All (λ (s : Span). GoTo h stores old.locals s.locals)) (sym active) (All-filter (lasts step) (λ (s : Span). GoTo h stores old.locals s.locals) old.active.items go)))
+          ];
+        };
   };
   knows = λ env stores. knows_seen stores old new env step limit
       (λ s seen. subst (λ l. IsSeen l new.begun new.active.items step s) (sym spans)

@@ -5,10 +5,11 @@ use Rattle.std.specs.List.Sorted.{IsNonDecreasingBy}
 use Rattle.type_rules.specs.Assignable.{Hierarchy, is_assignable, are_locals_assignable}
 use Rattle.type_rules.specs.Environment.{Environment, TypedHandler}
 use Rattle.shared_words.specs.declared.store.Words.{Words}
-use Rattle.shared_words.specs.Store.{word_at}
+use Rattle.shared_words.specs.Shown.{EndsBy}
+use Rattle.shared_words.specs.Store.{word_at, IsFixed}
 use Rattle.typing_frames.specs.declared.stores.FrameStores.{FrameStores}
 use Rattle.typing_frames.specs.declared.stores.CurrentFrame.{CurrentFrame}
-use Rattle.map_frames.specs.Mapped.{shown_locals, AreLocals}
+use Rattle.map_frames.specs.Mapped.{shown_locals}
 use Rattle.handler_frames.specs.declared.span.Span.{Span}
 use Rattle.handler_frames.specs.declared.covering.CoveringHandlers.{CoveringHandlers}
 use Rattle.handler_frames.specs.Spans.{AreListed, StandsFor}
@@ -22,18 +23,29 @@ abbrev pub GoToFirst : Hierarchy → FrameStores → Words → List Span → ℕ
 GoToFirst h stores locals spans count =
     (j : ℕ) (d : Span) → j < count → GoTo h stores locals (slice_index_or spans j d).locals
 
--- spans by their first instructions, whose lists are kept, and locals that go to the first so many of the active ones
-pub record AreHeld (h : Hierarchy) (stores : FrameStores) (spans active : List Span) (locals : Words) (held : ℕ) : Type 0 where
-  pub sorted : IsNonDecreasingBy (λ (s : Span). s.first) spans
-  pub listed : AreListed stores spans
-  pub active_listed : AreListed stores active
-  pub kept : AreLocals stores locals
+-- locals as many as the method has, which stay until lists are given back
+pub record AreFixedLocals (stores : FrameStores) (words : Words) : Type 0 where
+  pub fixed : IsFixed stores.locals words
+  pub end : EndsBy (word_at stores.locals words) stores.locals.most
+
+-- .. and go to those of the first so many active spans
+pub record AreHeld (h : Hierarchy) (stores : FrameStores) (active : List Span) (locals : Words) (held : ℕ) : Type 0 where
+  pub there : AreFixedLocals stores locals
   pub inside : held ≤ length active
   pub go : GoToFirst h stores locals active held
 
--- what is known of handlers is of these stores and classes
-abbrev pub FitsStores : Hierarchy → FrameStores → CoveringHandlers → Type 0
-FitsStores h stores known = AreHeld h stores known.spans.items known.active.items known.locals known.held
+-- no lists were given back since locals are held
+abbrev pub AreStill : FrameStores → CoveringHandlers → Type 0
+AreStill stores known = stores.locals.given_back ≡ known.since
+
+-- What is known of handlers is of these stores and classes: spans by their first instructions, whose lists are kept, and,
+-- until lists are given back, locals that go to the first so many of the active ones.
+pub record FitsStores (h : Hierarchy) (stores : FrameStores) (known : CoveringHandlers) : Type 0 where
+  pub sorted : IsNonDecreasingBy (λ (s : Span). s.first) known.spans.items
+  pub listed : AreListed stores known.spans.items
+  pub active_listed : AreListed stores known.active.items
+  pub since : known.since ≤ stores.locals.given_back
+  pub holds : AreStill stores known → AreHeld h stores known.active.items known.locals known.held
 
 -- the word of locals at a place is assignable to that of each span to which the held locals go
 abbrev pub GoesAt : Hierarchy → FrameStores → CoveringHandlers → Words → ℕ → Type 0

@@ -36,8 +36,10 @@ pub struct CoveringHandlers {
     active: Vec<Span>,
     // The locals that are known to go to those of active spans ..
     locals: Words,
-    // .. and to how many, from the first one on.
+    // .. and to how many, from the first one on ..
     held: usize,
+    // .. as long as lists aren't given back more often than this.
+    since: u64,
     // The first instruction that a handler covers that takes no frame.
     limit: u32,
 }
@@ -48,7 +50,7 @@ impl CoveringHandlers {
     ghost use Rattle.std.specs.List.Sorted.{IsNonDecreasingBy};
     ghost use Rattle.shared_words.specs.Shown.{EndsBy};
     ghost use Rattle.shared_words.specs.Store.{word_at};
-    ghost use Rattle.handler_frames.specs.Known.{FitsStores, GoesAt, GoesOn, GoToFirst, GoTo, HasBegun, HasSameSpans, KnowsHandlers, TakesFrame};
+    ghost use Rattle.handler_frames.specs.Known.{AreStill, FitsStores, GoesAt, GoesOn, GoToFirst, GoTo, HasBegun, HasSameSpans, KnowsHandlers, TakesFrame};
 
     /// What is known of a method's handlers before its first instruction.
     pub fn new<H: ClassHierarchy, P: PoolOperands>(
@@ -71,6 +73,7 @@ impl CoveringHandlers {
             active: Vec::new(alloc),
             locals: stores.locals.tops(),
             held: 0,
+            since: stores.locals.given_back(),
             limit: found.limit,
         })
     }
@@ -155,6 +158,7 @@ impl CoveringHandlers {
         locals: Words,
     ) -> usize
         requires fits { FitsStores (H.hierarchy hierarchy.now) stores.now self.now }
+        requires still { AreStill stores.now self.now }
         requires end { EndsBy (word_at stores.now.locals locals) stores.now.locals.most }
         ensures inside { result ≤ self.now.held }
         ensures go { GoToFirst (H.hierarchy hierarchy.now) stores.now locals self.now.active.items result }
@@ -172,6 +176,24 @@ impl CoveringHandlers {
         0
     }
 
+    // The same, or none where the held locals are given back.
+    fn still_held_by<H: ClassHierarchy>(
+        &self,
+        stores: &FrameStores,
+        hierarchy: &H,
+        locals: Words,
+    ) -> usize
+        requires fits { FitsStores (H.hierarchy hierarchy.now) stores.now self.now }
+        requires end { EndsBy (word_at stores.now.locals locals) stores.now.locals.most }
+        ensures inside { result ≤ length self.now.active.items }
+        ensures go { GoToFirst (H.hierarchy hierarchy.now) stores.now locals self.now.active.items result }
+    {
+        if self.since != stores.locals.given_back() {
+            return 0;
+        }
+        self.held_by(stores, hierarchy, locals)
+    }
+
     // Holds these locals.
     fn hold<H: ClassHierarchy>(
         &mut self,
@@ -184,15 +206,18 @@ impl CoveringHandlers {
         ensures leaves { LeavesFrames stores.old stores.new }
         ensures remembered { (h : Hierarchy) → StoresRemember h stores.old → StoresRemember h stores.new }
         ensures fits { FitsStores (H.hierarchy hierarchy.now) stores.new self.new }
+        ensures still { AreStill stores.new self.new }
         ensures same { HasSameSpans self.old self.new }
         ensures held { self.new.locals ≡ frame.locals }
     {
-        if frame.locals.number() == self.locals.number() {
+        let given_back = stores.locals.given_back();
+        if frame.locals.number() == self.locals.number() && self.since == given_back {
             return;
         }
-        stores.locals.keep();
-        self.held = self.held_by(stores, hierarchy, frame.locals);
+        stores.locals.fix();
+        self.held = self.still_held_by(stores, hierarchy, frame.locals);
         self.locals = frame.locals;
+        self.since = given_back;
     }
 
     // Tests whether the locals that are held go to those of the next active span; true where there is none.
@@ -203,11 +228,13 @@ impl CoveringHandlers {
         span: Span,
     ) -> Result<bool, AllocError>
         requires fits { FitsStores (H.hierarchy hierarchy.now) stores.old self.old }
+        requires still { AreStill stores.old self.old }
         requires remembered { StoresRemember (H.hierarchy hierarchy.now) stores.old }
         requires next { slice_get self.old.active.items self.old.held ≡ Some span }
         ensures leaves { LeavesFrames stores.old stores.new }
         ensures remembered { StoresRemember (H.hierarchy hierarchy.now) stores.new }
         ensures fits { IfOk result (λ _. FitsStores (H.hierarchy hierarchy.now) stores.new self.new) }
+        ensures still { IfOk result (λ _. AreStill stores.new self.new) }
         ensures same { HasSameSpans self.old self.new }
         ensures locals { self.new.locals ≡ self.old.locals }
         ensures more { IfOk result (λ b. b ≡ true → self.new.held ≡ self.old.held + 1) }
@@ -229,6 +256,7 @@ impl CoveringHandlers {
         hierarchy: &H,
     ) -> Result<bool, AllocError>
         requires fits { FitsStores (H.hierarchy hierarchy.now) stores.old self.old }
+        requires still { AreStill stores.old self.old }
         requires remembered { StoresRemember (H.hierarchy hierarchy.now) stores.old }
         ensures leaves { LeavesFrames stores.old stores.new }
         ensures remembered { StoresRemember (H.hierarchy hierarchy.now) stores.new }

@@ -4,7 +4,7 @@ use Rattle.std.specs.Int.Bits.{bit_and, bit_or}
 use Rattle.std.proofs.lemmas.Nat.{and_le_r, and_assoc, and_or_self, or_comm}
 use Rattle.std.proofs.lemmas.Bool.{cases_Bool}
 use Rattle.std.proofs.lemmas.Bool.Decides.{leb_tells, eqb_tells}
-use Rattle.std.proofs.lemmas.List.{get_or_past, get_or-set_other, get_or_push, get_or_append_left, get_or-take, length-take-le, length_push, length-set}
+use Rattle.std.proofs.lemmas.List.{get_or_past, get_or-set_other, get_or_push, get_or_append_left, get_or-take, length-take, length-take-le, length_push, length-set}
 use Rattle.std.proofs.lemmas.Grind.{get_or-set_at}
 use Rattle.type_rules.specs.Assignable.{is_same_type}
 use Rattle.type_rules.specs.declared.types.VerificationType.{VerificationType}
@@ -95,6 +95,20 @@ marked_on parts marks more closed long same marked = record {
     | inr past ↦ covers_none more (mark_at more i) (part_at parts i) (no_part parts i (omega (arith, past.1)))
   ];
 }
+
+-- parts that are cut
+pub fewer_marked : (parts : List Part) (marks : List ℕ) (count : ℕ) → AreMarked parts marks → AreMarked (take count parts) marks
+fewer_marked parts marks count marked = record {
+  count = omega (arith, length-take count parts, marked.count);
+  covered = λ i. elim (leb_tells i count) [
+    | inl inside ↦ subst (Covers marks (mark_at marks i)) (sym (part_stays i inside.1)) (marked.covered i)
+    | inr past ↦ covers_none marks (mark_at marks i) (part_at (take count parts) i) (no_part (take count parts) i (omega (arith, length-take count parts, past.1)))
+  ];
+}
+  where
+    part_stays : (i : ℕ) → i ≤ count → part_at (take count parts) i ≡ part_at parts i
+    part_stays zero h = refl
+    part_stays (suc i) h = get_or-take count parts i (Leaf []) (omega (arith, h))
 
 pub cut_length : (parts : List Part) (marks cut : List ℕ) → cut ≡ take (length parts) marks → AreMarked parts marks → length cut ≡ length parts
 cut_length parts marks cut e marked = ap length e ∙ length-take-le (length parts) marks marked.count

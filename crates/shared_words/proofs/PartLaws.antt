@@ -1,11 +1,11 @@
 -- Parts of lists.
-use Rattle.std.proofs.Common.{◌≡◌, ◌≢◌, inl, inr, ℕ, zero, suc, ◌+◌, ◌-◌, ◌/◌, ◌%◌, ◌<◌, ◌≤◌, List, [], ◌∷◌, ◌++◌, length, get_or, replicate, refl, sym, ◌∙◌, ap, subst, arith}
+use Rattle.std.proofs.Common.{◌≡◌, ◌≢◌, inl, inr, ℕ, zero, suc, ◌+◌, ◌-◌, ◌*◌, ◌/◌, ◌%◌, ◌<◌, ◌≤◌, List, [], ◌∷◌, ◌++◌, length, get_or, replicate, refl, sym, ◌∙◌, ap, subst, arith}
 use Rattle.std.proofs.lemmas.List.{get_or-replicate, get_or_past, length-replicate, length_push}
 use Rattle.std.proofs.lemmas.Bool.Decides.{leb_tells}
 use Rattle.type_rules.specs.declared.types.VerificationType.TheVariants.{Top}
 use Rattle.shared_words.specs.declared.parts.Part.{Part}
 use Rattle.shared_words.specs.declared.parts.Part.TheVariants.{Leaf}
-use Rattle.shared_words.specs.Parts.{leaf_words, node_children, part_at, child_at, room, word_of, IsClosed, Grows}
+use Rattle.shared_words.specs.Parts.{leaf_words, node_children, part_at, child_at, most_parts, room, word_of, IsClosed, Grows}
 
 pub zeros : (count n : ℕ) → get_or (replicate {A = ℕ} count 0) n 0 ≡ 0
 zeros count n = elim (leb_tells count n) [
@@ -65,3 +65,23 @@ same_below old new bound same closed (suc height) part place h =
     let child : child_at new part (place / room height) ≡ child_at old part (place / room height) = ap (λ p. get_or (node_children p) (place / room height) 0) (same part h) in
     ap (λ c. word_of new height c (place % room height)) child
     ∙ same_below old new bound same closed height (child_at old part (place / room height)) (place % room height) (closed part (place / room height) h)
+
+-- ---- how many parts there are
+
+pub most_more : (height : ℕ) → height ≢ 0 → most_parts height ≡ 1 + 32 * most_parts (height - 1)
+most_more zero h = absurd (h refl)
+most_more (suc height) h = ap (λ k. 1 + 32 * most_parts k) (let e : height ≡ suc height - 1 = omega arith in e)
+
+pub some_parts : (height : ℕ) → 1 ≤ most_parts height
+some_parts zero = omega arith
+some_parts (suc height) = omega arith
+
+-- one child more of a node
+pub few_next : (old now new digit most : ℕ) → digit < 32 → now + (32 - digit) * most ≤ old + 32 * most → new ≤ now + most → new + (32 - (digit + 1)) * most ≤ old + 32 * most
+few_next old now new digit most inside before more =
+    let one : 32 - digit ≡ suc (32 - (digit + 1)) = omega (arith, inside) in
+    let times : (32 - digit) * most ≡ most + (32 - (digit + 1)) * most = ap (λ k. k * most) one ∙ (let more : suc (32 - (digit + 1)) * most ≡ most + (32 - (digit + 1)) * most = omega arith in more) in
+    omega (arith, times, before, more)
+
+pub few_same : (old now digit most : ℕ) → digit < 32 → now + (32 - digit) * most ≤ old + 32 * most → now + (32 - (digit + 1)) * most ≤ old + 32 * most
+few_same old now digit most inside before = few_next old now now digit most inside before (omega arith)

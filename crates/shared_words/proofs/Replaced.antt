@@ -34,6 +34,19 @@ next_word before words old new place made made_is inside r = record {
   rest = λ j h. get_or-set_other words place j made Top (λ e. absurd (omega (arith, e, h))) ∙ r.rest j (omega (arith, h));
 }
 
+pub other_word : (before words : List VerificationType) (old new : VerificationType) (place : ℕ) → is_same_type (get_or words place Top) old ≡ false
+    → ReplacingWords before words old new place → ReplacingWords before words old new (place + 1)
+other_word before words old new place other r = record {
+  count = r.count;
+  done = λ j h. elim (eqb_tells j place) [
+    | inl here ↦
+        ap (λ i. get_or words i Top) here.1 ∙ sym (ap (λ b. cond b new (get_or words place Top)) other) ∙ ap (λ w. replaced_type old new w) (r.rest place (omega arith))
+        ∙ ap (λ i. replaced_type old new (get_or before i Top)) (sym here.1)
+    | inr there ↦ r.done j (omega (arith, h, there.1))
+  ];
+  rest = λ j h. r.rest j (omega (arith, h));
+}
+
 -- what isn't there isn't replaced
 pub without : (old new : VerificationType) (w : VerificationType) → is_same_type w old ≡ false → w ≡ replaced_type old new w
 without old new w e = sym (ap (λ b. cond b new w) e)

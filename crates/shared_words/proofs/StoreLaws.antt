@@ -1,5 +1,5 @@
 -- Lists in a store.
-use Rattle.std.proofs.Common.{◌≡◌, ℕ, ◌<◌, ◌≤◌, ◌==◌, nat_le, Bool, true, false, MatchBool, cond, inl, inr, List, length, refl, sym, ◌∙◌, ap, subst, arith}
+use Rattle.std.proofs.Common.{◌≡◌, ℕ, zero, suc, ◌<◌, ◌≤◌, ◌==◌, nat_le, Bool, true, false, MatchBool, cond, inl, inr, List, [], length, take, refl, sym, ◌∙◌, ap, subst, arith}
 use Rattle.std.proofs.Math.Path.{fun_ext}
 use Rattle.type_rules.specs.declared.types.VerificationType.{VerificationType}
 use Rattle.type_rules.specs.declared.types.VerificationType.TheVariants.{Top}
@@ -9,10 +9,13 @@ use Rattle.shared_words.specs.declared.known.KnownPairs.{KnownPairs}
 use Rattle.shared_words.specs.declared.store.WordStore.{WordStore}
 use Rattle.shared_words.specs.declared.store.Words.{Words}
 use Rattle.shared_words.specs.Parts.{part_at, room, word_of, with_word, replaced_type, IsClosed, Grows}
-use Rattle.shared_words.specs.Compared.{AreAssignable, AreApart, KnowsRightly}
-use Rattle.shared_words.specs.Store.{word_at, list_number, IsList, IsMarked, IsKept, Remembers, Follows}
+use Rattle.shared_words.specs.Compared.{AreAssignable, AreApart, KnowsRightly, knows}
+use Rattle.shared_words.specs.Store.{word_at, list_number, IsList, IsMarked, IsKept, IsWhole, IsFixed, Remembers, Follows}
 use Rattle.shared_words.specs.Trees.{IsTree, Touches}
+use Rattle.std.proofs.lemmas.Bool.{true≢false}
 use Rattle.std.proofs.lemmas.Bool.Decides.{leb_tells}
+use Rattle.std.proofs.lemmas.List.{get_or-take}
+use Rattle.shared_words.specs.declared.parts.Part.TheVariants.{Leaf}
 use Rattle.shared_words.proofs.PartLaws.{same_below}
 use Rattle.shared_words.proofs.SetLaws.{with_other}
 use Rattle.shared_words.proofs.ComparedLaws.{all_tops}
@@ -42,21 +45,24 @@ knows_on h p q bound more known closed same less right k l g is =
           ∙ before.2 n inside,
     )
 
-pub remembers_on : (h : Hierarchy) (old new : WordStore) → new.known ≡ old.known → old.kept ≤ new.kept
-    → IsClosed old.parts.items old.kept → AreSame old.parts.items new.parts.items old.kept → Remembers h old → Remembers h new
+pub remembers_on : (h : Hierarchy) (old new : WordStore) → new.known ≡ old.known → old.fixed ≤ new.fixed
+    → AreSame old.parts.items new.parts.items old.fixed → Remembers h old → Remembers h new
 unfolding Remembers
-remembers_on h old new known more closed same right =
-    subst (λ x. KnowsRightly h new.parts.items new.kept x) (sym known) (knows_on h old.parts.items new.parts.items old.kept new.kept old.known closed same more right)
+remembers_on h old new known more same right =
+    subst (λ x. KnowsRightly h new.parts.items new.fixed x) (sym known) (knows_on h old.parts.items new.parts.items old.fixed new.fixed old.known old.closed_fixed same more right)
 
-pub remembers : (h : Hierarchy) (store : WordStore) → KnowsRightly h store.parts.items store.kept store.known → Remembers h store
+pub remembers : (h : Hierarchy) (store : WordStore) → KnowsRightly h store.parts.items store.fixed store.known → Remembers h store
 unfolding Remembers
 remembers h store right = right
 
-pub remembered : (h : Hierarchy) (store : WordStore) → Remembers h store → KnowsRightly h store.parts.items store.kept store.known
+pub remembers_none : (h : Hierarchy) (store : WordStore) → ((height low high : ℕ) → knows store.known height low high ≡ false) → Remembers h store
+remembers_none h store none = remembers h store (λ k l g is. absurd (true≢false (sym is ∙ none k l g)))
+
+pub remembered : (h : Hierarchy) (store : WordStore) → Remembers h store → KnowsRightly h store.parts.items store.fixed store.known
 unfolding Remembers
 remembered h store right = right
 
-pub is_list : (store : WordStore) (words : Words) → words.root ≤ length store.parts.items → IsTree store.parts.items store.kept store.height words.root → IsList store words
+pub is_list : (store : WordStore) (words : Words) → words.root ≤ length store.parts.items → IsTree store.parts.items store.fixed store.height words.root → IsList store words
 unfolding IsList
 is_list store words h tree = (h, tree)
 
@@ -64,27 +70,56 @@ pub list_is : (store : WordStore) (words : Words) → IsList store words → wor
 unfolding IsList
 list_is store words h = h.0
 
-pub list_tree : (store : WordStore) (words : Words) → IsList store words → IsTree store.parts.items store.kept store.height words.root
+pub list_tree : (store : WordStore) (words : Words) → IsList store words → IsTree store.parts.items store.fixed store.height words.root
 unfolding IsList
 list_tree store words h = h.1
 
+pub is_fixed : (store : WordStore) (words : Words) → words.root ≤ store.fixed → IsFixed store words
+unfolding IsList IsWhole
+is_fixed store words h = ((omega (arith, h, store.within), kept_tree store.parts.items store.fixed store.height words.root h), h)
+
+pub fixed_is : (store : WordStore) (words : Words) → IsFixed store words → words.root ≤ store.fixed
+unfolding IsWhole
+fixed_is store words h = h.1
+
 pub is_kept : (store : WordStore) (words : Words) → words.root ≤ store.kept → IsKept store words
-unfolding IsList IsMarked
-is_kept store words h = ((omega (arith, h, store.within), kept_tree store.parts.items store.kept store.height words.root h), h)
+unfolding IsMarked
+is_kept store words h = ((is_fixed store words (omega (arith, h, store.kept_fixed))).0, h)
+
+pub marked_is : (store : WordStore) (words : Words) → IsMarked store words → words.root ≤ store.kept
+unfolding IsMarked
+marked_is store words h = h
 
 pub kept_is : (store : WordStore) (words : Words) → IsKept store words → words.root ≤ store.kept
-unfolding IsMarked
-kept_is store words h = h.1
+kept_is store words h = marked_is store words h.1
 
-pub follows : (old new : WordStore) → new.most ≡ old.most → new.height ≡ old.height → old.kept ≤ new.kept
-    → IsClosed old.parts.items old.kept → AreSame old.parts.items new.parts.items old.kept → Follows old new
+pub same_words : (old new : WordStore) (bound : ℕ) (words : Words) → new.height ≡ old.height → IsClosed old.parts.items bound → AreSame old.parts.items new.parts.items bound → words.root ≤ bound
+    → word_at new words ≡ word_at old words
 unfolding word_at
-follows old new most height more closed same = record {
+same_words old new bound words height closed same h =
+    ap (λ k. guarded (room k) (word_of new.parts.items k words.root)) height
+    ∙ fun_ext (λ n. ap (λ w. cond (nat_le (room old.height) n) Top w) (same_below old.parts.items new.parts.items bound same closed old.height words.root n h))
+
+pub follows : (old new : WordStore) → new.most ≡ old.most → new.height ≡ old.height → new.given_back ≡ old.given_back → old.kept ≤ new.kept → old.fixed ≤ new.fixed
+    → AreSame old.parts.items new.parts.items old.fixed → Follows old new
+follows old new most height given more further same = record {
   most = most;
   kept = λ words h. is_kept new words (omega (arith, kept_is old words h, more));
-  words = λ words h.
-      ap (λ k. guarded (room k) (word_of new.parts.items k words.root)) height
-      ∙ fun_ext (λ n. ap (λ w. cond (nat_le (room old.height) n) Top w) (same_below old.parts.items new.parts.items old.kept same closed old.height words.root n (kept_is old words h)));
+  words = λ words h. same_words old new old.fixed words height old.closed_fixed same (omega (arith, kept_is old words h, old.kept_fixed));
+  later = omega (arith, given);
+  fixed = λ _ words h.
+      let below = fixed_is old words h in
+      (is_fixed new words (omega (arith, below, further)), same_words old new old.fixed words height old.closed_fixed same below);
+}
+
+-- .. where the lists that aren't kept are given back
+pub follows_given : (old new : WordStore) → new.most ≡ old.most → new.height ≡ old.height → new.kept ≡ old.kept → new.given_back ≡ suc old.given_back → AreSame old.parts.items new.parts.items old.kept → Follows old new
+follows_given old new most height kept given same = record {
+  most = most;
+  kept = λ words h. is_kept new words (omega (arith, kept_is old words h, kept));
+  words = λ words h. same_words old new old.kept words height old.closed_kept same (kept_is old words h);
+  later = omega (arith, given);
+  fixed = λ still. absurd (omega (arith, given, still));
 }
 
 -- the words of a list, by the parts
@@ -109,13 +144,25 @@ word_behind store words n h = elim (leb_tells (room store.height) n) [
 
 -- ---- a change of the parts
 
--- parts up to the mark stay where no others change than those of a tree
-pub touched_same : (old : WordStore) (new : List Part) (height part : ℕ) → Touches old.parts.items new old.kept height part → AreSame old.parts.items new old.kept
+-- fixed parts stay where no others change than those of a tree
+pub touched_same : (old : WordStore) (new : List Part) (height part : ℕ) → Touches old.parts.items new old.fixed height part → AreSame old.parts.items new old.fixed
 touched_same old new height part touches i h =
-    touches.1 i (omega (arith, h, old.within)) (λ a. absurd (omega (arith, h, in_is_new old.parts.items old.kept height part i a)))
+    touches.1 i (omega (arith, h, old.within)) (λ a. absurd (omega (arith, h, in_is_new old.parts.items old.fixed height part i a)))
 
-pub grown_same : (old : WordStore) (new : List Part) → Grows old.parts.items new → AreSame old.parts.items new old.kept
+-- .. and so do the kept ones
+pub kept_same : (old : WordStore) (new : List Part) → AreSame old.parts.items new old.fixed → AreSame old.parts.items new old.kept
+kept_same old new same i h = same i (omega (arith, h, old.kept_fixed))
+
+pub grown_same : (old : WordStore) (new : List Part) → Grows old.parts.items new → AreSame old.parts.items new old.fixed
 grown_same old new grows i h = grows.1 i (omega (arith, h, old.within))
+
+-- parts that are cut
+cut_same : (parts : List Part) (count : ℕ) → AreSame parts (take count parts) count
+cut_same parts count zero h = refl
+cut_same parts count (suc i) h = get_or-take count parts i (Leaf []) (omega (arith, h))
+
+pub cut_stays : (parts cut : List Part) (count : ℕ) → cut ≡ take count parts → AreSame parts cut count
+cut_stays parts cut count e = subst (λ ps. AreSame parts ps count) (sym e) (cut_same parts count)
 
 -- the words of a list that was made of another one
 pub set_words : (old new : WordStore) (words made : Words) (at : ℕ) (word : VerificationType) → new.height ≡ old.height → at < room old.height
@@ -184,12 +231,25 @@ same_list a b e = ap (λ n. one n) e
     one : ℕ → Words
     one n = record { root = n }
 
+pub kept_are_fixed : (store : WordStore) (words : Words) → IsKept store words → IsFixed store words
+kept_are_fixed store words h = is_fixed store words (omega (arith, kept_is store words h, store.kept_fixed))
+
 pub follows_itself : (store : WordStore) → Follows store store
-follows_itself store = record { most = refl; kept = λ words h. h; words = λ words h. refl }
+follows_itself store = record { most = refl; kept = λ words h. h; words = λ words h. refl; later = omega arith; fixed = λ _ words h. (h, refl) }
 
 pub follows_on : (a b c : WordStore) → Follows a b → Follows b c → Follows a c
 follows_on a b c first later = record {
   most = later.most ∙ first.most;
   kept = λ words h. later.kept words (first.kept words h);
   words = λ words h. later.words words (first.kept words h) ∙ first.words words h;
+  later = omega (arith, first.later, later.later);
+  fixed = λ same words h.
+      let one = first.fixed (omega (arith, same, first.later, later.later)) words h in
+      let two = later.fixed (omega (arith, same, first.later, later.later)) words one.0 in
+      (two.0, two.1 ∙ one.1);
 }
+
+-- .. where fixed parts stay behind a first step
+pub follows_more : (first old new : WordStore) → Follows first old → new.most ≡ old.most → new.height ≡ old.height → new.given_back ≡ old.given_back → old.kept ≤ new.kept → old.fixed ≤ new.fixed
+    → AreSame old.parts.items new.parts.items old.fixed → Follows first new
+follows_more first old new before most height given more further same = follows_on first old new before (follows old new most height given more further same)

@@ -1,5 +1,5 @@
 -- Lists of words as trees whose parts are shared.
-use Rattle.std.specs.Prelude.{◌≡◌, ℕ, zero, suc, ◌*◌, ◌/◌, ◌%◌, ◌==◌, ◌≤◌, List, [], length, slice_index, slice_index_or, if◌then◌else◌}
+use Rattle.std.specs.Prelude.{◌≡◌, ℕ, zero, suc, ◌+◌, ◌*◌, ◌/◌, ◌%◌, ◌==◌, ◌≤◌, List, [], length, slice_index, slice_index_or, if◌then◌else◌}
 use Rattle.type_rules.specs.declared.types.VerificationType.{VerificationType}
 use Rattle.type_rules.specs.declared.types.VerificationType.TheVariants.{Top}
 use Rattle.type_rules.specs.Assignable.{is_same_type}
@@ -50,3 +50,8 @@ Grows old new = (length old ≤ length new) × ((i : ℕ) → i ≤ length old �
 -- a type, or another one where it is the old one
 abbrev pub replaced_type : VerificationType → VerificationType → VerificationType → VerificationType
 replaced_type old new type = if is_same_type type old then new else type
+
+-- how many parts a list of a height has at most
+abbrev pub most_parts : ℕ → ℕ
+most_parts zero = 1
+most_parts (suc height) = 1 + 32 * most_parts height

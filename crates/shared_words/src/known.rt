@@ -34,6 +34,14 @@ impl KnownPairs {
         self.pairs.contains(&(height, low, high))
     }
 
+    // Forgets all pairs, and gives back their memory.
+    pub(crate) fn forget(&mut self)
+        ensures { (height low high : ℕ) → knows self.new height low high ≡ false }
+    {
+        self.pairs.clear();
+        self.pairs.shrink_to_fit();
+    }
+
     // Forgets all pairs where there are too many.
     fn make_room(&mut self)
         ensures { (h l g : ℕ) → knows self.new h l g ≡ true → knows self.old h l g ≡ true }

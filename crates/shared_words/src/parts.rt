@@ -1,6 +1,6 @@
 //! The parts of lists.
 
-ghost use Rattle.std.specs.Prelude.{◌≡◌, ◌≤◌, ◌<◌, ℕ, [], IfOk, length, slice_index, slice_index_or, unwrap_or};
+ghost use Rattle.std.specs.Prelude.{◌≡◌, ◌+◌, ◌≤◌, ◌<◌, ℕ, [], IfOk, length, slice_index, slice_index_or, unwrap_or};
 ghost use Rattle.std.specs.Option.{option_copied};
 ghost use Rattle.shared_words.specs.Parts.{child_at, leaf_word, node_children, part_at, room, word_of, IsClosed, Grows};
 ghost use Rattle.shared_words.specs.Marks.{AreMarked};
@@ -106,6 +106,7 @@ pub(crate) fn push(
     requires marked { AreMarked parts.old.items marks.old.items }
     requires children { (j : ℕ) → slice_index (node_children part) j ≤ length parts.old.items }
     ensures grows { Grows parts.old.items parts.new.items }
+    ensures one { length parts.new.items ≤ length parts.old.items + 1 }
     ensures closed { IsClosed parts.new.items (length parts.new.items) }
     ensures marked { AreMarked parts.new.items marks.new.items }
     ensures made { IfOk result (λ made.

@@ -1,10 +1,10 @@
 //! Lists in which a word stands for another one.
 
-ghost use Rattle.std.specs.Prelude.{◌≡◌, ◌≤◌, ◌<◌, ℕ, false, true, slice_index_or, IfOk, length};
+ghost use Rattle.std.specs.Prelude.{◌≡◌, ◌+◌, ◌≤◌, ◌<◌, ℕ, false, true, slice_index_or, IfOk, length};
 ghost use Rattle.type_rules.specs.Assignable as assignable;
 ghost use Rattle.type_rules.specs.declared.types.VerificationType.TheVariants.{Top};
 ghost use Rattle.shared_words.specs.Marks.{AreMarked};
-ghost use Rattle.shared_words.specs.Parts.{leaf_word, replaced_type, room, word_of, IsClosed, Grows};
+ghost use Rattle.shared_words.specs.Parts.{leaf_word, most_parts, replaced_type, room, word_of, IsClosed, Grows};
 
 use crate::marks::{mark_of_word, may_have};
 use crate::parts::{CHILDREN, Part, children_of, leaf_words, push, words_of_leaf};
@@ -12,15 +12,17 @@ use std::alloc::AllocError;
 use type_rules::VerificationType;
 use word_types::is_same_type;
 
-// A word, or another one where it is the old one.
-fn replaced(
-    word: VerificationType,
-    old: VerificationType,
-    new: VerificationType,
-) -> VerificationType
-    ensures { result ≡ replaced_type old new word }
+// Tests whether a word is the old one. That is an uninitialized object where there is much to compare: so it is told
+// without a call.
+#[inline(always)]
+fn is_old(word: VerificationType, old: VerificationType) -> bool
+    ensures { result ≡ assignable.is_same_type word old }
 {
-    if is_same_type(word, old) { new } else { word }
+    match (word, old) {
+        (VerificationType::Uninit(made), VerificationType::Uninit(other)) => made == other,
+        (_, VerificationType::Uninit(_)) => false,
+        _ => is_same_type(word, old),
+    }
 }
 
 // Tests whether a leaf hasn't got a word.
@@ -29,7 +31,7 @@ fn is_without(parts: &[Part], part: u32, old: VerificationType) -> bool
     ensures { result ≡ true → (n : ℕ) → assignable.is_same_type (leaf_word parts.now part n) old ≡ false }
 {
     for word in leaf_words(parts, part) {
-        if is_same_type(*word, old) {
+        if is_old(*word, old) {
             return false;
         }
     }
@@ -42,7 +44,9 @@ fn replace_words(words: &mut [VerificationType; 8], old: VerificationType, new: 
     ensures { (n : ℕ) → slice_index_or words.new n Top ≡ replaced_type old new (slice_index_or words.old n Top) }
 {
     for place in 0..8 {
-        words[place] = replaced(words[place], old, new);
+        if is_old(words[place], old) {
+            words[place] = new;
+        }
     }
 }
 
@@ -59,6 +63,7 @@ fn replaced_leaf(
     requires list { part ≤ length parts.old.items }
     requires old { assignable.is_same_type Top old ≡ false }
     ensures grows { Grows parts.old.items parts.new.items }
+    ensures one { length parts.new.items ≤ length parts.old.items + 1 }
     ensures closed { IsClosed parts.new.items (length parts.new.items) }
     ensures marked { AreMarked parts.new.items marks.new.items }
     ensures list { IfOk result (λ made. made ≤ length parts.new.items) }
@@ -88,6 +93,7 @@ pub(crate) fn replaced_in(
     requires list { part ≤ length parts.old.items }
     requires old { assignable.is_same_type Top old ≡ false }
     ensures grows { Grows parts.old.items parts.new.items }
+    ensures few { length parts.new.items ≤ length parts.old.items + most_parts height }
     ensures closed { IsClosed parts.new.items (length parts.new.items) }
     ensures marked { AreMarked parts.new.items marks.new.items }
     ensures list { IfOk result (λ made. made ≤ length parts.new.items) }

@@ -1,7 +1,7 @@
 //! Lists of which one word is changed.
 
-ghost use Rattle.std.specs.Prelude.{◌≡◌, ◌≤◌, ◌<◌, ◌==◌, ℕ, IfOk, length, slice_index, if◌then◌else◌};
-ghost use Rattle.shared_words.specs.Parts.{child_at, node_children, part_at, room, IsClosed};
+ghost use Rattle.std.specs.Prelude.{◌≡◌, ◌+◌, ◌≤◌, ◌<◌, ◌==◌, ℕ, IfOk, length, slice_index, if◌then◌else◌};
+ghost use Rattle.shared_words.specs.Parts.{child_at, most_parts, node_children, part_at, room, IsClosed};
 ghost use Rattle.shared_words.specs.Marks.{mark_at, AreMarked, Covers, HasBits};
 ghost use Rattle.shared_words.specs.Trees.{IsTree, IsSet, IsPut, Touches, LeavesOthers};
 
@@ -27,6 +27,7 @@ fn put(
     requires covers { HasBits (mark_at marks.old.items part) more
         → Covers marks.old.items (mark_at marks.old.items part) new }
     ensures others { LeavesOthers parts.old.items parts.new.items kept part }
+    ensures one { length parts.new.items ≤ length parts.old.items + 1 }
     ensures closed { IsClosed parts.new.items (length parts.new.items) }
     ensures marked { AreMarked parts.new.items marks.new.items }
     ensures made { IfOk result (λ made. (made ≤ length parts.new.items) × (part_at parts.new.items made ≡ new)) }
@@ -53,6 +54,7 @@ fn leaf_with(
     requires list { part ≤ length parts.old.items }
     requires place { place < 8 }
     ensures touches { Touches parts.old.items parts.new.items kept 0 part }
+    ensures one { length parts.new.items ≤ length parts.old.items + 1 }
     ensures closed { IsClosed parts.new.items (length parts.new.items) }
     ensures marked { AreMarked parts.new.items marks.new.items }
     ensures set { IfOk result (λ made. IsSet parts.old.items parts.new.items kept 0 part made place word) }
@@ -84,6 +86,7 @@ fn node_with(
     requires child { made ≤ length parts.old.items }
     requires digit { digit < 32 }
     ensures others { LeavesOthers parts.old.items parts.new.items kept part }
+    ensures one { length parts.new.items ≤ length parts.old.items + 1 }
     ensures closed { IsClosed parts.new.items (length parts.new.items) }
     ensures marked { AreMarked parts.new.items marks.new.items }
     ensures list { IfOk result (λ node. node ≤ length parts.new.items) }
@@ -116,6 +119,7 @@ pub(crate) fn set_in(
     requires low { height ≤ 3 }
     requires place { place < room height }
     ensures touches { Touches parts.old.items parts.new.items kept height part }
+    ensures few { length parts.new.items ≤ length parts.old.items + most_parts height }
     ensures closed { IsClosed parts.new.items (length parts.new.items) }
     ensures marked { AreMarked parts.new.items marks.new.items }
     ensures set { IfOk result (λ made. IsSet parts.old.items parts.new.items kept height part made place word) }

@@ -1,6 +1,6 @@
 //! The lists of one method.
 
-ghost use Rattle.std.specs.Prelude.{◌≡◌, ◌≤◌, ◌<◌, ℕ, false, IfOk, length};
+ghost use Rattle.std.specs.Prelude.{◌≡◌, ◌+◌, ◌≤◌, ◌<◌, ℕ, false, max, IfOk, length};
 ghost use Rattle.shared_words.specs.Parts.{room, IsClosed};
 ghost use Rattle.shared_words.specs.Marks.{AreMarked};
 
@@ -35,7 +35,8 @@ impl Words {
 /// Lists of words that share their parts: a list begins as another one and is changed in places, at the cost of what
 /// changes. Contracts see a list as a function of places from 0 (`word_at`), with Top behind its end, and say which
 /// lists are there (`IsList`). A change stands in place of the list that it is made of: behind it there are its result
-/// and the lists that are kept (`IsKept`), which stay as they are.
+/// and the lists that are kept (`IsKept`), which stay as they are. Lists that are fixed (`IsFixed`) stay too, until those
+/// that aren't kept are given back: that happens where a kept list is changed and the others have much memory.
 ///
 /// The store remembers which of its parts were found assignable to which, so it serves the classes of one program
 /// (`Remembers`).
@@ -48,14 +49,23 @@ pub struct WordStore {
     /// How many words a list may have.
     most: u32,
     kept: usize,
+    /// The parts up to here aren't changed in their places.
+    fixed: usize,
+    /// How often lists were given back.
+    given_back: u64,
     known: KnownPairs,
     ghost closed: { IsClosed parts.items (length parts.items) },
     ghost closed_kept: { IsClosed parts.items kept },
+    ghost closed_fixed: { IsClosed parts.items fixed },
     ghost marked: { AreMarked parts.items marks.items },
-    ghost within: { kept ≤ length parts.items },
+    ghost kept_fixed: { kept ≤ fixed },
+    ghost within: { fixed ≤ length parts.items },
     ghost low: { height ≤ 3 },
     ghost fits: { most ≤ room height },
 }
+
+/// So many parts of lists that aren't kept stay in any case.
+const FEW: usize = 65_536;
 
 // The height of lists of so many words.
 fn height_for(most: u32) -> u8
@@ -80,7 +90,7 @@ impl WordStore {
     ghost use Rattle.type_rules.specs.declared.types.VerificationType.TheVariants.{Top};
     ghost use Rattle.shared_words.specs.Parts.{replaced_type, with_word};
     ghost use Rattle.shared_words.specs.Shown.{first_words, stack_words, EndsBy};
-    ghost use Rattle.shared_words.specs.Store.{word_at, IsList, IsKept, Remembers, Follows};
+    ghost use Rattle.shared_words.specs.Store.{word_at, IsList, IsKept, IsMarked, IsFixed, HasFewOthers, Remembers, Follows};
     ghost use Rattle.shared_words.specs.Differ.{FirstDifference};
 
     /// A store for lists of so many words at most. Takes no memory.
@@ -95,6 +105,8 @@ impl WordStore {
             height: height_for(most),
             most,
             kept: 0,
+            fixed: 0,
+            given_back: 0,
             known: KnownPairs::new(alloc),
         }
     }
@@ -145,10 +157,54 @@ impl WordStore {
         ensures words { (words : Words) → IsList self.old words → word_at self.new words ≡ word_at self.old words }
     {
         self.kept = self.parts.len();
+        self.fixed = self.kept;
     }
 
-    /// A list with another word at a place, in place of the list. What isn't kept is changed where it stands. Each kept
-    /// list stays as it was, also after an error.
+    /// Fixes all lists that there are: no change changes them, until lists are given back.
+    pub fn fix(&mut self)
+        ensures follows { Follows self.old self.new }
+        ensures remembered { (h : assignable.Hierarchy) → Remembers h self.old → Remembers h self.new }
+        ensures given_back { self.new.given_back ≡ self.old.given_back }
+        ensures fixed { (words : Words) → IsList self.old words → IsFixed self.new words }
+        ensures words { (words : Words) → IsList self.old words → word_at self.new words ≡ word_at self.old words }
+    {
+        self.fixed = self.parts.len();
+    }
+
+    /// How often lists were given back: a fixed list is there as long as this is the same.
+    pub fn given_back(&self) -> u64
+        ensures { result ≡ self.now.given_back }
+    {
+        self.given_back
+    }
+
+    // Before a change of a list, which stays: gives back the lists that aren't kept, where it is a kept one and they have
+    // many parts.
+    fn give_back_before(&mut self, words: Words) -> Result<(), AllocError>
+        requires list { IsList self.old words }
+        ensures follows { Follows self.old self.new }
+        ensures remembered { (h : assignable.Hierarchy) → Remembers h self.old → Remembers h self.new }
+        ensures list { IsList self.new words }
+        ensures words { word_at self.new words ≡ word_at self.old words }
+        ensures few { IsMarked self.old words → IfOk result (λ _.
+            length self.new.parts.items ≤ self.new.kept + max 65536 self.new.kept) }
+    {
+        let others = self.parts.len() - self.kept;
+        if self.kept < words.root as usize || others <= FEW.max(self.kept) {
+            return Ok(());
+        }
+        let Some(given_back) = self.given_back.checked_add(1) else {
+            return Err(AllocError);
+        };
+        self.given_back = given_back;
+        self.parts.truncate(self.kept);
+        self.known.forget();
+        self.fixed = self.kept;
+        Ok(())
+    }
+
+    /// A list with another word at a place, in place of the list. What isn't fixed is changed where it stands. Each kept
+    /// list stays as it was, also after an error. Where the list is a kept one, little is left of lists that aren't.
     pub fn set(
         &mut self,
         words: Words,
@@ -161,14 +217,16 @@ impl WordStore {
         ensures remembered { (h : assignable.Hierarchy) → Remembers h self.old → Remembers h self.new }
         ensures list { IfOk result (λ made. IsList self.new made) }
         ensures words { IfOk result (λ made. word_at self.new made ≡ with_word (word_at self.old words) at word) }
+        ensures few { IsKept self.old words → IfOk result (λ _. HasFewOthers self.new) }
     {
+        self.give_back_before(words)?;
         if is_same_type(self.word(words, at), word) {
             return Ok(words);
         }
         let root = set_in(
             &mut self.parts,
             &mut self.marks,
-            self.kept,
+            self.fixed,
             self.height,
             words.root,
             at,
@@ -178,7 +236,7 @@ impl WordStore {
     }
 
     /// A list in which a word stands for each word that is the old one, which isn't Top, in place of the list. Each kept
-    /// list stays as it was, also after an error.
+    /// list stays as it was, also after an error. Where the list is a kept one, little is left of lists that aren't.
     pub fn replaced(
         &mut self,
         words: Words,
@@ -192,7 +250,9 @@ impl WordStore {
         ensures list { IfOk result (λ made. IsList self.new made) }
         ensures words { IfOk result (λ made.
             word_at self.new made ≡ (λ n. replaced_type old new (word_at self.old words n))) }
+        ensures few { IsKept self.old words → IfOk result (λ _. HasFewOthers self.new) }
     {
+        self.give_back_before(words)?;
         let made = replaced_in(
             &mut self.parts,
             &mut self.marks,
@@ -201,11 +261,11 @@ impl WordStore {
             old,
             new,
         );
-        self.kept = self.parts.len();
+        self.fixed = self.parts.len();
         Ok(Words { root: made? })
     }
 
-    /// Tests whether each word of a list is assignable to that of another one at its place. The lists are kept. Only
+    /// Tests whether each word of a list is assignable to that of another one at its place. All lists are fixed. Only
     /// parts are looked at that weren't found assignable before. After an error nothing is lost but what was remembered.
     pub fn are_assignable<H: ClassHierarchy>(
         &mut self,
@@ -218,7 +278,8 @@ impl WordStore {
         requires remembered { Remembers (H.hierarchy hierarchy.now) self.old }
         ensures follows { Follows self.old self.new }
         ensures remembered { Remembers (H.hierarchy hierarchy.now) self.new }
-        ensures kept { (words : Words) → IsList self.old words → IsKept self.new words }
+        ensures given_back { self.new.given_back ≡ self.old.given_back }
+        ensures fixed { (words : Words) → IsList self.old words → IsFixed self.new words }
         ensures words { (words : Words) → IsList self.old words → word_at self.new words ≡ word_at self.old words }
         ensures locals { (n m : ℕ) → EndsBy (word_at self.old low) n → EndsBy (word_at self.old high) m
             → IfOk result (λ b.
@@ -229,7 +290,7 @@ impl WordStore {
             b ≡ assignable.are_assignable (H.hierarchy hierarchy.now)
             (stack_words (word_at self.old low) depth) (stack_words (word_at self.old high) depth)) }
     {
-        self.kept = self.parts.len();
+        self.fixed = self.parts.len();
         are_parts_assignable(
             &self.parts,
             &mut self.known,

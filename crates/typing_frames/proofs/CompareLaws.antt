@@ -7,7 +7,7 @@ use Rattle.type_rules.specs.TypeFaults.{is_frame_assignable}
 use Rattle.shared_words.specs.declared.store.WordStore.{WordStore}
 use Rattle.shared_words.specs.declared.store.Words.{Words}
 use Rattle.shared_words.specs.Shown.{first_words, stack_words, EndsBy}
-use Rattle.shared_words.specs.Store.{word_at, IsList, IsKept, Follows}
+use Rattle.shared_words.specs.Store.{word_at, IsList, IsFixed, Follows}
 use Rattle.shared_words.proofs.StoreLaws.{follows_itself}
 use Rattle.typing_frames.specs.declared.stores.FrameStores.{FrameStores}
 use Rattle.typing_frames.specs.Frames.{shown, LeavesFrames}
@@ -27,13 +27,13 @@ leaves_on a b c first later = record {
 
 module _ (old new : FrameStores) where
   pub leaves_stacks : new.locals ≡ old.locals → Follows old.stacks new.stacks
-      → ((words : Words) → IsList old.stacks words → IsKept new.stacks words)
+      → ((words : Words) → IsList old.stacks words → IsFixed new.stacks words)
       → ((words : Words) → IsList old.stacks words → word_at new.stacks words ≡ word_at old.stacks words) → LeavesFrames old new
-  leaves_stacks e follows kept same = record {
+  leaves_stacks e follows fixed same = record {
     follows = record { locals = subst (λ l. Follows old.locals l) (sym e) (follows_itself old.locals); stacks = follows };
     there = λ f h. record {
       locals = subst (λ l. IsList l f.locals) (sym e) h.locals;
-      stack = (kept f.stack h.stack).0;
+      stack = (fixed f.stack h.stack).0;
       locals_end = subst (λ (l : WordStore). EndsBy (word_at l f.locals) l.most) (sym e) h.locals_end;
       stack_ends = subst (λ g. EndsBy g f.depth) (sym (same f.stack h.stack)) h.stack_ends;
       room = subst (λ m. f.depth ≤ m) (sym follows.most) h.room;
@@ -44,12 +44,12 @@ module _ (old new : FrameStores) where
   }
 
   pub leaves_locals : new.stacks ≡ old.stacks → Follows old.locals new.locals
-      → ((words : Words) → IsList old.locals words → IsKept new.locals words)
+      → ((words : Words) → IsList old.locals words → IsFixed new.locals words)
       → ((words : Words) → IsList old.locals words → word_at new.locals words ≡ word_at old.locals words) → LeavesFrames old new
-  leaves_locals e follows kept same = record {
+  leaves_locals e follows fixed same = record {
     follows = record { locals = follows; stacks = subst (λ s. Follows old.stacks s) (sym e) (follows_itself old.stacks) };
     there = λ f h. record {
-      locals = (kept f.locals h.locals).0;
+      locals = (fixed f.locals h.locals).0;
       stack = subst (λ s. IsList s f.stack) (sym e) h.stack;
       locals_end = subst (λ m. EndsBy (word_at new.locals f.locals) m) (sym follows.most) (subst (λ g. EndsBy g old.locals.most) (sym (same f.locals h.locals)) h.locals_end);
       stack_ends = subst (λ s. EndsBy (word_at s f.stack) f.depth) (sym e) h.stack_ends;

@@ -1,3 +1,5 @@
+use Rattle.std.proofs.Common.{◌+◌, ◌-◌, ◌*◌, ◌≤◌, length}
+use Rattle.shared_words.specs.Parts.{most_parts}
 use Rattle.shared_words.proofs.Replaced.{Replacing}
 use Rattle.shared_words.proofs.replace.+replaced_in.Given as goal
 
@@ -5,4 +7,7 @@ abbrev pub decreases-replaced_in : goal.decreases-replaced_in
 decreases-replaced_in l = l.height
 
 abbrev pub invariant-loop-digit : goal.invariant-loop-digit
-invariant-loop-digit l = Replacing l.fn.parts.items l.parts.items l.marks.items l.height l.part l.old l.new l.children l.digit l.is_changed
+invariant-loop-digit l = record {
+  replacing : Replacing l.fn.parts.items l.parts.items l.marks.items l.height l.part l.old l.new l.children l.digit l.is_changed;
+  few : length l.parts.items + (32 - l.digit) * most_parts (l.height - 1) ≤ length l.fn.parts.items + 32 * most_parts (l.height - 1);
+}

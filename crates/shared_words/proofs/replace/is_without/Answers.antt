@@ -5,4 +5,4 @@ use Rattle.shared_words.proofs.replace.is_without.Goals as goal
 pub loop-word-preserved : goal.loop-word-preserved
 loop-word-preserved c =
     below_more _ _ c.loop-word.invariant
-    (ap (λ w. is_same_type w c.args.old) (sym (c.leaf_words-word-items.ensures.words c.loop-word.word-index)) ∙ sym c.is_same_type.ensures ∙ c.if-is_same_type.false)
+    (ap (λ w. is_same_type w c.args.old) (sym (c.leaf_words-word-items.ensures.words c.loop-word.word-index)) ∙ sym c.is_old.ensures ∙ c.if-is_old.false)

@@ -1,6 +1,7 @@
 use Rattle.std.proofs.Common.{◌≡◌, suc, ◌-◌, ◌/◌, ◌%◌, ◌<◌, arith, sym, ap, subst, ◌∙◌}
 use Rattle.shared_words.specs.Parts.{child_at, room}
 use Rattle.shared_words.specs.Trees.{IsTree, IsSet, Touches}
+use Rattle.shared_words.proofs.PartLaws.{most_more, some_parts}
 use Rattle.shared_words.proofs.SetLaws.{on_three, rest_small, digit_below}
 use Rattle.shared_words.proofs.TreeLaws.{child_tree, child_touches, node_touches, node_set}
 use Rattle.shared_words.proofs.set.+set_in.Goals as goal
@@ -86,3 +87,6 @@ returns-clause-set t c =
 pub node_with-requires-clause-digit : goal.node_with-requires-clause-digit
 node_with-requires-clause-digit t c =
     subst (λ r. c.args.place / r < 32) (sym c.room_of-room.ensures.room) (digit_below c.args.height c.args.place c.if-height-eq0.false c.requires.place)
+
+pub returns-clause-few : goal.returns-clause-few
+returns-clause-few t c = omega (arith, c.set_in.ensures.few, c.node_with.ensures.one, most_more c.args.height c.if-height-eq0.false, some_parts (c.args.height - 1))

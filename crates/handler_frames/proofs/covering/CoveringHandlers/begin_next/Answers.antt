@@ -8,4 +8,4 @@ returns-then-step-span-clause-begun c = λ sorted _.
 
 pub returns-clause-goes : goal.returns-clause-goes
 returns-clause-goes c =
-    one_begins c.args.self.now _ c.in-Some.span c.args.step (sym c.in-Some.ensures) refl c.in_ok-push.ensures.items refl refl refl refl
+    one_begins c.args.self.now _ c.in-Some.span c.args.step (sym c.in-Some.ensures) refl c.in_ok-push.ensures.items refl refl refl refl refl

@@ -2,7 +2,7 @@ use Rattle.std.proofs.Common.{◌≤◌, length, MatchBool, refl, sym, subst, ar
 use Rattle.shared_words.specs.Compared.{AreAssignable, AreApart, KnowsRightly}
 use Rattle.shared_words.specs.Store.{word_at}
 use Rattle.shared_words.proofs.SetLaws.{on_ok}
-use Rattle.shared_words.proofs.StoreLaws.{follows, remembers, remembered, knows_on, is_kept, list_is, words_are, all_assignable}
+use Rattle.shared_words.proofs.StoreLaws.{follows, remembers, remembered, knows_on, is_fixed, list_is, words_are, all_assignable}
 use Rattle.shared_words.proofs.ShownLaws.{locals_told, stacks_told}
 use Rattle.shared_words.proofs.store.WordStore.are_assignable.Goals as goal
 
@@ -11,7 +11,7 @@ are_parts_assignable-requires-clause-known g c =
     let h = g.H.ClassHierarchy.hierarchy c.args.hierarchy.now in
     let store = c.args.self.now in
     subst (λ ps. KnowsRightly h ps (length ps) store.known) (sym c.deref.ensures.value)
-    (knows_on h store.parts.items store.parts.items store.kept (length store.parts.items) store.known store.closed_kept (λ i within. refl) store.within
+    (knows_on h store.parts.items store.parts.items store.fixed (length store.parts.items) store.known store.closed_fixed (λ i within. refl) store.within
     (remembered h store c.requires.remembered))
 
 pub are_parts_assignable-requires-clause-low : goal.are_parts_assignable-requires-clause-low
@@ -21,10 +21,10 @@ pub are_parts_assignable-requires-clause-high : goal.are_parts_assignable-requir
 are_parts_assignable-requires-clause-high g c = subst (λ ps. c.args.high.root ≤ length ps) (sym c.deref.ensures.value) (list_is c.args.self.now c.args.high c.requires.high)
 
 pub returns-clause-follows : goal.returns-clause-follows
-returns-clause-follows g c = follows c.args.self.now _ refl refl (omega (arith, c.len-self.ensures, c.args.self.now.within)) c.args.self.now.closed_kept (λ i h. refl)
+returns-clause-follows g c = follows c.args.self.now _ refl refl refl (omega arith) (omega (arith, c.len-self.ensures, c.args.self.now.within)) (λ i h. refl)
 
-pub returns-clause-kept : goal.returns-clause-kept
-returns-clause-kept g c = λ words h. is_kept _ words (omega (arith, c.len-self.ensures, list_is c.args.self.now words h))
+pub returns-clause-fixed : goal.returns-clause-fixed
+returns-clause-fixed g c = λ words h. is_fixed _ words (omega (arith, c.len-self.ensures, list_is c.args.self.now words h))
 
 pub returns-clause-words : goal.returns-clause-words
 returns-clause-words g c = λ words h. words_are _ words ∙ sym (words_are c.args.self.now words)

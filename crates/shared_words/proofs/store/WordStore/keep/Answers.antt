@@ -3,10 +3,10 @@ use Rattle.shared_words.proofs.StoreLaws.{follows, remembers_on, is_kept, list_i
 use Rattle.shared_words.proofs.store.WordStore.keep.Goals as goal
 
 pub returns-clause-follows : goal.returns-clause-follows
-returns-clause-follows c = follows c.args.self.now _ refl refl (omega (arith, c.len-self.ensures, c.args.self.now.within)) c.args.self.now.closed_kept (λ i h. refl)
+returns-clause-follows c = follows c.args.self.now _ refl refl refl (omega (arith, c.len-self.ensures, c.args.self.now.kept_fixed, c.args.self.now.within)) (omega (arith, c.len-self.ensures, c.args.self.now.within)) (λ i h. refl)
 
 pub returns-clause-remembered : goal.returns-clause-remembered
-returns-clause-remembered c = λ h. remembers_on h c.args.self.now _ refl (omega (arith, c.len-self.ensures, c.args.self.now.within)) c.args.self.now.closed_kept (λ i h. refl)
+returns-clause-remembered c = λ h. remembers_on h c.args.self.now _ refl (omega (arith, c.len-self.ensures, c.args.self.now.within)) (λ i h. refl)
 
 pub returns-clause-kept : goal.returns-clause-kept
 returns-clause-kept c = λ words h. is_kept _ words (omega (arith, c.len-self.ensures, list_is c.args.self.now words h))
