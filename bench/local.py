@@ -35,16 +35,16 @@ JAVA = """public class Loop {
     }
 }
 """
-MAIN = """//! `local_bench FILE ROUNDS` times the second method of a class file, one step after the other.
+MAIN = """//! `local_bench FILE ROUNDS` times the second method of a class file, many steps in one call.
 #![tactic(auto)]
 
 ghost use Rattle.code_decode.specs.Method.{StandsForFile};
 
 use anyhow::Result;
 use class_read::{ClassFile, MOST_BYTES, read_class};
-use code_decode::{Code, Instr, Target, decode_class};
+use code_decode::{Code, decode_class};
 use frame_snapshot::{Frames, NewFrame, Stage};
-use interp_local::{Constant, Constants, LocalStep, local_step};
+use interp_local::{Constant, Constants, make_quicks, run_local};
 use link_types::MethodId;
 use std::env;
 use std::fs::File;
@@ -69,15 +69,6 @@ impl Constants for NoConstants {
     }
 }
 
-fn run(steps: &[Instr<Target>], frames: &mut Frames) {
-    for _ in 0..u64::MAX {
-        match local_step(&NoConstants, steps, frames) {
-            LocalStep::Moved => {}
-            _ => return,
-        }
-    }
-}
-
 fn times<R: Print + Clock + AllocGlobal>(rt: &R, code: &Code, rounds: u32) -> Result<()> {
     let mut frames = Frames::launch(rt.alloc(), METHOD, Stage::Begun, 1)?;
     if !frames.has_room(1) {
@@ -95,8 +86,10 @@ fn times<R: Print + Clock + AllocGlobal>(rt: &R, code: &Code, rounds: u32) -> Re
     if code.max_locals == 0 || frames.push(call).is_err() {
         return Ok(());
     }
+    let steps = code.steps.as_slice();
+    let quicks = make_quicks(rt.alloc(), steps)?;
     let begin = Instant::now(rt)?;
-    run(code.steps.as_slice(), &mut frames);
+    let _ = run_local(&NoConstants, steps, quicks.as_slice(), &mut frames, u64::MAX);
     let nanos = begin.elapsed(rt)?.as_nanos();
     if frames.has(1) {
         let answer = frames.word(0).cast_signed();

@@ -10,6 +10,7 @@ use crate::stage::Stage;
 use link_types::MethodId;
 use std::alloc::{AllocError, Global};
 use std::marker::Model;
+use std::mem;
 
 /// The frames of a thread. Contracts see the top frame, those below it, and the saves.
 #[derive(Drop)]
@@ -116,6 +117,32 @@ impl Frames {
             saves: Vec::new(alloc),
             kept: Vec::new(alloc),
         })
+    }
+
+    /// Takes the frames out, and leaves one with no words in their place. Takes no memory.
+    pub fn take(&mut self) -> Frames
+        ensures taken { result ≡ self.old }
+        ensures left { self.new ≡ launch_frame self.old.here.method self.old.here.stage 0 }
+    {
+        let alloc = *self.words.allocator();
+        let here = Activation {
+            method: self.here.method,
+            step: 0,
+            stage: self.here.stage,
+            monitor: 0,
+            base: 0,
+            floor: 0,
+            top: 0,
+            limit: 0,
+        };
+        let left = Frames {
+            words: Vec::new(alloc),
+            here,
+            below: Vec::new(alloc),
+            saves: Vec::new(alloc),
+            kept: Vec::new(alloc),
+        };
+        mem::replace(self, left)
     }
 
     /// The method that the top frame executes.

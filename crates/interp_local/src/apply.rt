@@ -54,7 +54,7 @@ fn push_words(frames: &mut Frames, words: Words)
 
 /// Takes words off the stack, pushes others, and goes to the next instruction.
 #[inline(always)]
-fn replace(frames: &mut Frames, taken: usize, words: Words)
+pub fn replace(frames: &mut Frames, taken: usize, words: Words)
     requires words { taken ≤ length frames.old.here.stack }
     requires room { length (words_of words) ≤ frames.old.here.free + taken }
     requires step { frames.old.here.step + 1 < 2 ^ 64 }

@@ -1,19 +1,24 @@
 //! The instructions that need no operation (JVMS SE 8, 2.11.2 to 2.11.4, 2.11.6, 2.11.7, 6.5): what they make of the
 //! top frame of a thread.
 //!
-//! [`local_step`] executes one, [`look_ahead`] tells what it would come to. Neither takes memory, and nothing is copied
-//! or searched by name.
+//! [`local_step`] executes one, [`look_ahead`] tells what it would come to, [`run_local`] executes many. None takes
+//! memory, and nothing is copied or searched by name.
 #![tactic(auto)]
 
 mod apply;
 mod branches;
 mod constants;
 mod effect;
+mod execute;
 mod locals;
 mod numbers;
 mod operands;
 mod plain;
+mod quick;
+mod run;
 mod step;
 
 pub use constants::{Constant, Constants};
+pub use quick::{Quick, make_quick, make_quicks};
+pub use run::{LocalRun, run_local};
 pub use step::{LocalStep, local_step, look_ahead};

@@ -1,6 +1,9 @@
 use crate::setting::{NoConstants, frames_with, stack_is};
-use instructions::{Arithmetic, Conversion, Instr, Plain, Shift, StackOperation, Target, What};
-use interp_local::{LocalStep, local_step, look_ahead};
+use instructions::{
+    Arithmetic, Conversion, Instr, LocalAccess, Plain, Shift, StackOperation, Target, Test,
+    ValueKind, What,
+};
+use interp_local::{LocalStep, local_step, look_ahead, make_quicks, run_local};
 use std::test::Fail;
 
 /// The words of -1 and of the least int; the high half of the least long is the same.
@@ -179,5 +182,42 @@ fn what_is_not_executed_changes_nothing(rt: HostRuntime) -> Result<(), Fail> {
         assert!(rt; !matches!(step, LocalStep::Moved) && thrown(step) == class);
         assert!(rt; stack_is(&frames, words) && frames.step() == 0);
     }
+    Ok(())
+}
+
+fn at_zero(what: What<Target>) -> Instr<Target> {
+    Instr {
+        at: 0,
+        next: 1,
+        what,
+    }
+}
+
+/// It adds numbers until the divisor is 0: quick instructions, and two that aren't.
+fn counting_down() -> [Instr<Target>; 6] {
+    let again = Target { at: 0, step: 0 };
+    [
+        at_zero(What::Int(-1)),
+        plain(Plain::IntArithmetic(Arithmetic::Add)),
+        plain(Plain::Stack(StackOperation::Dup)),
+        at_zero(What::Branch(Test::NonNull, again)),
+        plain(Plain::IntArithmetic(Arithmetic::Divide)),
+        at_zero(What::Local(LocalAccess::Load(ValueKind::Int), 0)),
+    ]
+}
+
+#[test]
+fn a_run_stops_where_no_step_comes_next(rt: HostRuntime) -> Result<(), Fail> {
+    let steps = counting_down();
+    let quicks = make_quicks(rt.alloc(), &steps)?;
+    let mut frames = frames_with(rt.alloc(), &[9, 3])?;
+    let run = run_local(&NoConstants, &steps, &quicks, &mut frames, 7);
+    assert!(rt; run.steps == 7 && matches!(run.stop, LocalStep::Moved));
+    assert!(rt; stack_is(&frames, &[9, 1, 1]) && frames.step() == 3);
+    let run = run_local(&NoConstants, &steps, &quicks, &mut frames, 100);
+    assert!(rt; run.steps == 5 && thrown(run.stop) == Some(13));
+    assert!(rt; stack_is(&frames, &[9, 0]) && frames.step() == 4);
+    let run = run_local(&NoConstants, &steps, &quicks, &mut frames, 0);
+    assert!(rt; run.steps == 0 && matches!(run.stop, LocalStep::Moved));
     Ok(())
 }

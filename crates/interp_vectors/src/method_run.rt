@@ -1,13 +1,19 @@
 //! Running a method that takes no arguments and calls nothing.
 
+ghost use Rattle.std.specs.Prelude.{◌≡◌};
+ghost use Rattle.interp_local.specs.Quick.{quicks_of};
+
 use code_decode::{Code, Instr, Plain, Target, ValueKind, What};
 use frame_snapshot::{Frames, NewFrame, PushRefusal, Stage};
-use interp_local::{Constant, Constants, LocalStep, local_step};
+use interp_local::{Constant, Constants, LocalStep, Quick, make_quicks, run_local};
 use link_types::MethodId;
 use std::alloc::{AllocError, Global};
 
-/// How many instructions a method executes at most.
-const MOST_STEPS: usize = 1_000_000;
+/// How many instructions are executed in one call at most, so few that most methods take many calls.
+const MOST_AT_ONCE: u64 = 5;
+
+/// How many calls are made for a method at most.
+const MOST_CALLS: usize = 200_000;
 
 const METHOD: MethodId = MethodId {
     class: 28,
@@ -69,9 +75,11 @@ fn stopped(steps: &[Instr<Target>], frames: &Frames) -> Answer {
     answer.unwrap_or(Answer::Stopped(step))
 }
 
-fn run_steps(steps: &[Instr<Target>], frames: &mut Frames) -> Answer {
-    for _ in 0..MOST_STEPS {
-        match local_step(&NoConstants, steps, frames) {
+fn run_steps(steps: &[Instr<Target>], quicks: &[Quick], frames: &mut Frames) -> Answer
+    requires { quicks.now ≡ quicks_of steps.now }
+{
+    for _ in 0..MOST_CALLS {
+        match run_local(&NoConstants, steps, quicks, frames, MOST_AT_ONCE).stop {
             LocalStep::Moved => {}
             LocalStep::Throw(class) => return Answer::Thrown(class),
             LocalStep::Other => return stopped(steps, frames),
@@ -91,8 +99,10 @@ pub fn run_method(alloc: Global, code: &Code) -> Result<Answer, AllocError> {
         max_stack: code.max_stack,
         caller: Stage::Launched,
     };
+    let steps = code.steps.as_slice();
+    let quicks = make_quicks(alloc, steps)?;
     match frames.push(call) {
-        Ok(()) => Ok(run_steps(code.steps.as_slice(), &mut frames)),
+        Ok(()) => Ok(run_steps(steps, &quicks, &mut frames)),
         Err(PushRefusal::Full) => Ok(Answer::Stopped(0)),
         Err(PushRefusal::NoMemory) => Err(AllocError),
     }

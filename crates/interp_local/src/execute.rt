@@ -1,0 +1,197 @@
+//! One instruction that one look tells, executed where it stands.
+
+ghost use Rattle.std.specs.Prelude.{◌≡◌, ◌≤◌, ◌<◌, ◌+◌, ◌++◌, ◌^◌, length, drop, slice_get};
+ghost use Rattle.instructions.specs.declared.operation.Test.{Test as tests};
+ghost use Rattle.java_rows.specs.LocalRows.{leaving, loaded, stored, incremented, int_arithmetic, int_shift, jumps_if};
+ghost use Rattle.interp_local.specs.Effects.{words_of};
+ghost use Rattle.interp_local.specs.Frames.{frame_now};
+ghost use Rattle.interp_local.specs.Quick.{quick_row, branches_if};
+ghost use Rattle.interp_local.specs.Steps.{outcome, IsLocal, KeptUnlessMoved};
+
+use crate::apply::replace;
+use crate::effect::Words;
+use crate::numbers::{compare, int_result, shift_int};
+use crate::operands::{one, two};
+use crate::quick::Quick;
+use crate::step::LocalStep;
+use builtin_world::number::ARITHMETIC_EXCEPTION;
+use frame_snapshot::Frames;
+use instructions::{Arithmetic, Condition, Shift};
+
+#[inline(always)]
+fn leave(frames: &mut Frames, taken: usize, words: Words) -> LocalStep
+    requires words { taken ≤ length frames.old.here.stack }
+    requires step { frames.old.here.step + 1 < 2 ^ 64 }
+    ensures row { leaving (frame_now frames.old) (words_of words ++ drop taken frames.old.here.stack) ≡ outcome result frames.new }
+    ensures kept { KeptUnlessMoved result frames.old frames.new }
+    ensures local { IsLocal frames.old frames.new }
+{
+    let count = words.len();
+    if count <= taken || frames.has_room(count - taken) {
+        replace(frames, taken, words);
+        LocalStep::Moved
+    } else {
+        LocalStep::Other
+    }
+}
+
+#[inline(always)]
+fn load(frames: &mut Frames, local: usize) -> LocalStep
+    requires { frames.old.here.step + 1 < 2 ^ 64 }
+    ensures row { loaded (frame_now frames.old) frames.old.here.stack (slice_get frames.old.here.locals local) ≡ outcome result frames.new }
+    ensures kept { KeptUnlessMoved result frames.old frames.new }
+    ensures local { IsLocal frames.old frames.new }
+{
+    if !frames.has_local(local) {
+        return LocalStep::Other;
+    }
+    let word = frames.local(local);
+    leave(frames, 0, Words::One(word))
+}
+
+#[inline(always)]
+fn store(frames: &mut Frames, local: usize) -> LocalStep
+    requires { frames.old.here.step + 1 < 2 ^ 64 }
+    ensures row { stored (frame_now frames.old) local frames.old.here.stack ≡ outcome result frames.new }
+    ensures kept { KeptUnlessMoved result frames.old frames.new }
+    ensures local { IsLocal frames.old frames.new }
+{
+    match one(frames) {
+        Some(word) if frames.has_local(local) => {
+            frames.set_local(local, word);
+            replace(frames, 1, Words::None);
+            LocalStep::Moved
+        }
+        _ => LocalStep::Other,
+    }
+}
+
+#[inline(always)]
+fn increment(frames: &mut Frames, local: usize, by: i16) -> LocalStep
+    requires { frames.old.here.step + 1 < 2 ^ 64 }
+    ensures row { incremented (frame_now frames.old) local by frames.old.here.stack (slice_get frames.old.here.locals local) ≡ outcome result frames.new }
+    ensures kept { KeptUnlessMoved result frames.old frames.new }
+    ensures local { IsLocal frames.old frames.new }
+{
+    if !frames.has_local(local) {
+        return LocalStep::Other;
+    }
+    let sum = frames
+        .local(local)
+        .cast_signed()
+        .wrapping_add(i32::from(by));
+    frames.set_local(local, sum.cast_unsigned());
+    replace(frames, 0, Words::None);
+    LocalStep::Moved
+}
+
+#[inline(always)]
+fn compute(frames: &mut Frames, op: Arithmetic) -> LocalStep
+    requires { frames.old.here.step + 1 < 2 ^ 64 }
+    ensures row { int_arithmetic (frame_now frames.old) op frames.old.here.stack ≡ outcome result frames.new }
+    ensures kept { KeptUnlessMoved result frames.old frames.new }
+    ensures local { IsLocal frames.old frames.new }
+{
+    match two(frames) {
+        Some((b, a)) => match int_result(op, a, b) {
+            Some(word) => leave(frames, 2, Words::One(word)),
+            None => LocalStep::Throw(ARITHMETIC_EXCEPTION),
+        },
+        None => LocalStep::Other,
+    }
+}
+
+#[inline(always)]
+fn shift(frames: &mut Frames, op: Shift) -> LocalStep
+    requires { frames.old.here.step + 1 < 2 ^ 64 }
+    ensures row { int_shift (frame_now frames.old) op frames.old.here.stack ≡ outcome result frames.new }
+    ensures kept { KeptUnlessMoved result frames.old frames.new }
+    ensures local { IsLocal frames.old frames.new }
+{
+    match two(frames) {
+        Some((by, a)) => leave(frames, 2, Words::One(shift_int(op, a, by))),
+        None => LocalStep::Other,
+    }
+}
+
+#[inline(always)]
+fn jump_if(frames: &mut Frames, taken: usize, step: u32, holds: bool) -> LocalStep
+    requires words { taken ≤ length frames.old.here.stack }
+    requires step { frames.old.here.step + 1 < 2 ^ 64 }
+    ensures row { jumps_if (frame_now frames.old) (record { at = 0; step = step }) (drop taken frames.old.here.stack) holds ≡ outcome result frames.new }
+    ensures kept { KeptUnlessMoved result frames.old frames.new }
+    ensures local { IsLocal frames.old frames.new }
+{
+    if holds {
+        frames.drop_words(taken);
+        frames.set_step(step as usize);
+    } else {
+        replace(frames, taken, Words::None);
+    }
+    LocalStep::Moved
+}
+
+#[inline(always)]
+fn branch(frames: &mut Frames, condition: Condition, step: u32) -> LocalStep
+    requires { frames.old.here.step + 1 < 2 ^ 64 }
+    ensures row { branches_if (frame_now frames.old) (tests.Zero condition) step ≡ outcome result frames.new }
+    ensures kept { KeptUnlessMoved result frames.old frames.new }
+    ensures local { IsLocal frames.old frames.new }
+{
+    match one(frames) {
+        Some(a) => jump_if(frames, 1, step, compare(condition, a, 0)),
+        None => LocalStep::Other,
+    }
+}
+
+#[inline(always)]
+fn branch_ints(frames: &mut Frames, condition: Condition, step: u32) -> LocalStep
+    requires { frames.old.here.step + 1 < 2 ^ 64 }
+    ensures row { branches_if (frame_now frames.old) (tests.Ints condition) step ≡ outcome result frames.new }
+    ensures kept { KeptUnlessMoved result frames.old frames.new }
+    ensures local { IsLocal frames.old frames.new }
+{
+    match two(frames) {
+        Some((b, a)) => jump_if(frames, 2, step, compare(condition, a, b)),
+        None => LocalStep::Other,
+    }
+}
+
+/// Executes an instruction in the top frame; `Other` is left alone.
+#[inline(always)]
+pub fn execute(quick: Quick, frames: &mut Frames) -> LocalStep
+    requires { frames.old.here.step + 1 < 2 ^ 64 }
+    ensures row { quick_row (frame_now frames.old) quick ≡ outcome result frames.new }
+    ensures kept { KeptUnlessMoved result frames.old frames.new }
+    ensures local { IsLocal frames.old frames.new }
+{
+    match quick {
+        Quick::Load(local) => load(frames, usize::from(local)),
+        Quick::Store(local) => store(frames, usize::from(local)),
+        Quick::Increment(local, by) => increment(frames, usize::from(local), by),
+        Quick::Push(word) => leave(frames, 0, Words::One(word)),
+        Quick::Add => compute(frames, Arithmetic::Add),
+        Quick::Subtract => compute(frames, Arithmetic::Subtract),
+        Quick::Multiply => compute(frames, Arithmetic::Multiply),
+        Quick::And => compute(frames, Arithmetic::And),
+        Quick::Or => compute(frames, Arithmetic::Or),
+        Quick::Xor => compute(frames, Arithmetic::Xor),
+        Quick::ShiftLeft => shift(frames, Shift::Left),
+        Quick::ShiftRight => shift(frames, Shift::Right),
+        Quick::ShiftRightUnsigned => shift(frames, Shift::UnsignedRight),
+        Quick::IfEqual(step) => branch(frames, Condition::Equal, step),
+        Quick::IfNotEqual(step) => branch(frames, Condition::NotEqual, step),
+        Quick::IfLess(step) => branch(frames, Condition::Less, step),
+        Quick::IfGreaterOrEqual(step) => branch(frames, Condition::GreaterOrEqual, step),
+        Quick::IfGreater(step) => branch(frames, Condition::Greater, step),
+        Quick::IfLessOrEqual(step) => branch(frames, Condition::LessOrEqual, step),
+        Quick::IfIntsEqual(step) => branch_ints(frames, Condition::Equal, step),
+        Quick::IfIntsNotEqual(step) => branch_ints(frames, Condition::NotEqual, step),
+        Quick::IfIntsLess(step) => branch_ints(frames, Condition::Less, step),
+        Quick::IfIntsGreaterOrEqual(step) => branch_ints(frames, Condition::GreaterOrEqual, step),
+        Quick::IfIntsGreater(step) => branch_ints(frames, Condition::Greater, step),
+        Quick::IfIntsLessOrEqual(step) => branch_ints(frames, Condition::LessOrEqual, step),
+        Quick::Goto(step) => jump_if(frames, 0, step, true),
+        Quick::Other => LocalStep::Other,
+    }
+}
