@@ -4,7 +4,7 @@ one=crates/jrev_main/data/One.class
 
 # The class files of the texts in the standard input, a blank line between two, in the folder NAME: texts NAME.
 texts() {
-    mkdir -p "$folder/$1"
+    mkdir "$folder/$1"
     awk -v base="$folder/$1/" 'BEGIN { RS = "" } { print > (base NR ".jasm") }'
     for text in "$folder/$1"/*.jasm; do
         class=$(sed -n '1s/^class \([^ ]*\).*/\1/p' "$text")
@@ -48,6 +48,11 @@ loads "an abstract private method" 3 '' 'refused: read A.class 11 0 0\n' <<END
 class A 1057
 method 1026 m ()V
 END
+loads "two fields of one name" 3 '' 'refused: read A.class 12 0 65\n' <<END
+class A
+field 1 x I
+field 1 x I
+END
 
 # code.
 loads "a method without code" 3 '' 'refused: code A.class 7 0 0\n' <<END
@@ -55,11 +60,20 @@ class A
 method 9 m ()V stack 0 locals 0
 end
 END
-loads "an addition of doubles" 3 '' 'refused: code A.class 2 0 0\n' <<END
+mkdir "$folder/doubles" && one_with 2 '\143\261' >"$folder/doubles/A.class"
+expect "an addition of doubles" 3 '' 'refused: code A.class 2 0 0\n' load "$folder/doubles" A
+loads "a handler that ends before it begins" 3 '' 'refused: code A.class 5 0 0\n' <<END
 class A
-method 9 m ()V stack 4 locals 0
-dadd
+method 9 m ()V stack 1 locals 0
+a:
+nop
+b:
+nop
+c:
+frame / java/lang/Throwable
+pop
 return
+handler b a c any
 end
 END
 loads "keys that fall" 3 '' 'refused: code A.class 8 0 1\n' <<END
