@@ -1,3 +1,4 @@
+pub mod Slashes
 pub mod CutLaws
 pub mod OrderLaws
 pub mod GivenLaws

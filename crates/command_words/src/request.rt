@@ -1,7 +1,7 @@
 //! What the words of the command line ask for.
 
 use op_core::Limits;
-use rows::{Bytes, Text};
+use rows::Text;
 use schedules::Schedule;
 
 /// A command over the class files of a folder.
@@ -21,7 +21,7 @@ pub enum Request {
     /// Executes a program on one host thread, by a schedule, and prints its lines.
     Pick {
         dir: Text,
-        main: Bytes,
+        main: Text,
         limits: Limits,
         schedule: Schedule,
         /// Whether the sections that were opened and undone are counted.
@@ -30,14 +30,14 @@ pub enum Request {
     /// Does the same, and prints the journal.
     Trace {
         dir: Text,
-        main: Bytes,
+        main: Text,
         limits: Limits,
         schedule: Schedule,
     },
     /// Executes a program on several host threads, and prints its lines.
     Run {
         dir: Text,
-        main: Bytes,
+        main: Text,
         limits: Limits,
         /// How many host threads, from 1 to 64.
         workers: u32,
@@ -48,12 +48,12 @@ pub enum Request {
     /// Replays the journal on the standard input.
     Check {
         dir: Text,
-        main: Bytes,
+        main: Text,
     },
     /// Says whether the program of a folder is accepted.
     Load {
         dir: Text,
-        main: Bytes,
+        main: Text,
     },
     /// Makes a class file of the text on the standard input.
     Make,

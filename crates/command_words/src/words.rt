@@ -10,7 +10,7 @@ use crate::given::{are_different, counts_given, limits_of, number_given, options
 use crate::options::{CommandOption, NumberOption};
 use crate::request::{ProgramCommand, Request};
 use decimal_numbers::number_up_to;
-use rows::{Bytes, Text};
+use rows::Text;
 use std::alloc::{AllocError, AllocFailed, Global};
 
 /// Why there is no request.
@@ -51,15 +51,21 @@ fn is_positional(word: &[u8]) -> bool
     !matches!(word, [] | [b'-', b'-', ..])
 }
 
+fn slashed(alloc: Global, name: &[u8]) -> Result<Vec<u8>, AllocError>
+    ensures { IfOk result (λ main. main.items ≡ grammar.with_slashes name.now) }
+{
+    name.iter()
+        .map(|b| if *b == b'.' { b'/' } else { *b })
+        .collect(alloc)
+}
+
 // A class's name with slashes for its dots.
-fn with_slashes(alloc: Global, name: &[u8]) -> Result<Bytes, AllocError>
+fn with_slashes(alloc: Global, name: &str) -> Result<Text, AllocError>
     ensures { IfOk result (λ main. main ≡ grammar.with_slashes name.now) }
 {
-    let main: Vec<u8> = name
-        .iter()
-        .map(|b| if *b == b'.' { b'/' } else { *b })
-        .collect(alloc)?;
-    Ok(Bytes::from_vec(main))
+    let main = slashed(alloc, name.as_bytes())?;
+    let text = String::from_utf8_lossy(alloc, main.as_slice())?;
+    Ok(Text::from_string(text))
 }
 
 fn command_named(word: &[u8]) -> Option<ProgramCommand>
@@ -137,7 +143,7 @@ fn request_for(
     alloc: Global,
     command: ProgramCommand,
     dir: Text,
-    main: Bytes,
+    main: Text,
     given: &[CommandOption],
 ) -> Result<Request, AllocError>
     requires { All options.IsInRange given.now }
@@ -184,7 +190,7 @@ fn command_request(
 {
     let given = options_for(alloc, command, written)?;
     let dir = Text::copy_of(alloc, dir.as_str())?;
-    let main = with_slashes(alloc, name.as_bytes())?;
+    let main = with_slashes(alloc, name.as_str())?;
     let request = request_for(alloc, command, dir, main, given.as_slice())?;
     Ok(request)
 }

@@ -118,7 +118,7 @@ fn a_dot_in_a_class_name_is_a_slash(rt: HostRuntime) -> Result<(), Fail> {
     let words = owned_words(rt.alloc(), &["pick", "dir", "a.b.C"])?;
     match words_of(rt.alloc(), words.as_slice()) {
         Ok(Request::Pick { dir, main, .. }) => {
-            assert!(rt; dir.as_str() == "dir" && main.as_slice() == b"a/b/C".as_slice());
+            assert!(rt; dir.as_str() == "dir" && main.as_str() == "a/b/C");
             Ok(())
         }
         _ => Err(Fail::from("no request")),

@@ -56,8 +56,8 @@ pub(crate) fn decide<D: ClassDir, I: Source>(
         (λ most. TakesUpTo most (I.taken input.old) (I.taken input.new)) }
 {
     match words_of(alloc, words) {
-        Ok(Request::Pick { dir, main, .. }) => pick(alloc, dir.as_str(), main.as_slice(), classes),
-        Ok(Request::Load { dir, main }) => load(alloc, dir.as_str(), main.as_slice(), classes),
+        Ok(Request::Pick { dir, main, .. }) => pick(alloc, dir.as_str(), main.as_bytes(), classes),
+        Ok(Request::Load { dir, main }) => load(alloc, dir.as_str(), main.as_bytes(), classes),
         Ok(Request::Make) => make(alloc, input),
         Ok(Request::Help) => text(alloc, help()),
         Ok(Request::Version) => text(alloc, version()),

@@ -7,4 +7,4 @@ use Rattle.jrev_top.proofs.deciding.decide.Goals as goal
 pub returns-in-Ok-Load-clause-answer : goal.returns-in-Ok-Load-clause-answer
 returns-in-Ok-Load-clause-answer g c =
     IfOk-weaker c.load.result _ _ (λ answer is. load-asked _ c.in-Ok-Load.dir c.in-Ok-Load.main _ _ _ answer
-    (c.in-Ok-Load.ensures.found ∙ ap (λ (r : Request). let o : Option Request = Some r in o) c.in-Ok-Load.field-0-is) c.as_str-in-Ok-Load.ensures c.as_slice-in-Ok-Load.ensures is) c.load.ensures.answer
+    (c.in-Ok-Load.ensures.found ∙ ap (λ (r : Request). let o : Option Request = Some r in o) c.in-Ok-Load.field-0-is) c.as_str-in-Ok-Load.ensures c.as_bytes-in-Ok-Load.ensures is) c.load.ensures.answer
