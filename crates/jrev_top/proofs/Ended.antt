@@ -39,9 +39,9 @@ picked main outside (only ∷ []) answer is = executed main only is.0 answer is.
 picked main outside (first ∷ second ∷ names) answer is = ends-as is_of_program answer _ is refl
 
 judged : (main : List ℕ) (names files : List (List ℕ)) (answer : Answer) → IsJudged main names files answer → is_of_program answer.status ≡ true
-judged main names files answer (inl program) = ends-as is_of_program answer _ program.2 refl
-judged main names files answer (inr (inl none)) = ends-as is_of_program answer _ none.1 refl
-judged main names files answer (inr (inr refusal)) = ends-as is_of_program answer _ refusal.2 refl
+judged main names files answer (inl program) = ends-as is_of_program answer _ program.3 refl
+judged main names files answer (inr (inl none)) = ends-as is_of_program answer _ none.2 refl
+judged main names files answer (inr (inr refusal)) = ends-as is_of_program answer _ refusal.3 refl
 
 made : (text : List ℕ) (answer : Answer) → IsMade text answer → is_of_text answer.status ≡ true
 made text answer (inl bytes) = ends-as is_of_text answer _ bytes.2 refl

@@ -13,6 +13,7 @@ use Rattle.program_answers.specs.Written.{line}
 use Rattle.program_accept.specs.declared.refusal.Stage.{Stage}
 use Rattle.program_accept.specs.declared.refusal.Stage.TheVariants as stages
 use Rattle.program_accept.specs.declared.refusal.Refusal.{Refusal}
+use Rattle.program_accept.specs.declared.refusal.AcceptRefusal.{AcceptRefusal}
 use Rattle.program_accept.specs.declared.refusal.AcceptRefusal.TheVariants.{NoMain, Refused}
 use Rattle.program_accept.specs.Accepted.{Accepted, IsProgram, program_rules}
 use Rattle.jrev_top.specs.declared.texts.TheConstants.{HELP, VERSION}
@@ -103,12 +104,14 @@ abbrev pub refused : List (List ℕ) → Refusal → Answer
 refused names refusal =
     told statuses.Refused (refusal_words (stage_word refusal.stage) (slice_index_or names refusal.class []) refusal.number refusal.method refusal.place)
 
--- the answer of load to class files of these names and bytes
+-- The answer of load to class files of these names and bytes. Accepted and refused exclude each other.
 abbrev pub IsJudged : List ℕ → List (List ℕ) → List (List ℕ) → Answer → Type 0
 IsJudged main names files answer =
-    ((program : Accepted) × IsProgram files main program × (answer ≡ accepted (length files)))
-    ⊎ ((program_rules files main).Refuse NoMain × (answer ≡ no_main))
-    ⊎ ((refusal : Refusal) × (program_rules files main).Refuse (Refused refusal) × (answer ≡ refused names refusal))
+    ((program : Accepted) × IsProgram files main program × ((e : AcceptRefusal) → ¬ (program_rules files main).Refuse e)
+    × (answer ≡ accepted (length files)))
+    ⊎ ((program_rules files main).Refuse NoMain × ¬ (program_rules files main).Hold × (answer ≡ no_main))
+    ⊎ ((refusal : Refusal) × (program_rules files main).Refuse (Refused refusal) × ¬ (program_rules files main).Hold
+    × (answer ≡ refused names refusal))
 
 -- the answer of load to the class files of these names
 abbrev pub IsLoaded : List ℕ → Option (List File) → List (List ℕ) → Answer → Type 0

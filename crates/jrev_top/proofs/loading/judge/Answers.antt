@@ -1,4 +1,6 @@
-use Rattle.std.proofs.Common.{inl, inr, map}
+use Rattle.std.proofs.Common.{◌≡◌, ◌∙◌, ap, inl, inr, length, map, rules}
+use Rattle.std.proofs.lemmas.List.{length-map}
+use Rattle.jrev_top.specs.Answers.{accepted}
 use Rattle.program_accept.specs.declared.refusal.AcceptRefusal.TheVariants.{NoMain, Refused}
 use Rattle.program_accept.specs.Accepted.{program_rules}
 use Rattle.jrev_top.proofs.Answered.{refuses-as}
@@ -6,15 +8,24 @@ use Rattle.jrev_top.proofs.loading.judge.Goals as goal
 
 pub returns-in-Err-NoMain-clause-answer : goal.returns-in-Err-NoMain-clause-answer
 returns-in-Err-NoMain-clause-answer c =
+    let rules = program_rules (map (λ f. f.items) c.args.files.items) c.args.main.now in
     inr (inl (
-      refuses-as (program_rules (map (λ f. f.items) c.args.files.items) c.args.main.now) c.in-Err-NoMain.field-0 NoMain c.in-Err-NoMain.ensures.exact c.in-Err-NoMain.field-0-is (λ e. cc),
+      refuses-as rules c.in-Err-NoMain.field-0 NoMain c.in-Err-NoMain.ensures.exact c.in-Err-NoMain.field-0-is (λ e. cc),
+      (λ holds. let none = c.in-Err-NoMain.ensures.only holds in let is = c.in-Err-NoMain.field-0-is in cc),
       c.in_ok-no_main-in-Err-NoMain.ensures,
     ))
 
 pub returns-in-Err-Refused-clause-answer : goal.returns-in-Err-Refused-clause-answer
 returns-in-Err-Refused-clause-answer c =
+    let rules = program_rules (map (λ f. f.items) c.args.files.items) c.args.main.now in
     inr (inr (
       c.in-Err-Refused.refusal,
-      refuses-as (program_rules (map (λ f. f.items) c.args.files.items) c.args.main.now) c.in-Err-Refused.field-0 (Refused c.in-Err-Refused.refusal) c.in-Err-Refused.ensures.exact c.in-Err-Refused.field-0-is (λ e. cc),
+      refuses-as rules c.in-Err-Refused.field-0 (Refused c.in-Err-Refused.refusal) c.in-Err-Refused.ensures.exact c.in-Err-Refused.field-0-is (λ e. cc),
+      (λ holds. let none = c.in-Err-Refused.ensures.only holds in let is = c.in-Err-Refused.field-0-is in cc),
       c.in_ok-refused-in-Err-Refused.ensures,
     ))
+
+pub returns-clause-answer : goal.returns-clause-answer
+returns-clause-answer c =
+    let long : c.len-count.result ≡ length (map (λ f. f.items) c.args.files.items) = search (length-map, rules) in
+    inl (c.in-Ok.field-0, c.in-Ok.ensures.accepted, (λ e refused. c.in-Ok.ensures.first e refused), c.in_ok-accepted.ensures ∙ ap accepted long)
