@@ -53,7 +53,7 @@ pub record IsOpened (old new : ℕ) : Type 0 where
   pub unopened : old ≡ 0
   pub live : is_in Live new ≡ true
 
--- a section comes from one state into another that may follow, and its word says the same else
+-- a section comes from one state into another that may follow, and the rest of its word stays
 pub record ComesOn (old new : ℕ) : Type 0 where
   pub from : State
   pub to : State

@@ -45,7 +45,7 @@ pub record IsFirstWrite (acts : List Act) (p j t at : ℕ) : Type 0 where
   pub first : (i : ℕ) → p < i → i < j → Overwrites acts i t at → ⊥
 
 -- Act number i puts the word at a place back that thread t has overwritten in its section s, which act number p has
--- opened. The word is as the section has written it, and is then as the section found it, value and tag.
+-- opened. The word still carries the section's number, and is then as the section found it, value and tag.
 pub record IsPutBack {S : Type 0} (c : ℕ → Core S) (acts : List Act) (p i t s at : ℕ) : Type 0 where
   pub old : ℕ
   pub puts : slice_get acts i ≡ Some (did t (RestoreWord at old) Done)
@@ -63,7 +63,7 @@ pub record IsUndone {S : Type 0} (c : ℕ → Core S) (acts : List Act) (p q t s
   -- and no other word
   pub nothing_else : (i at old : ℕ) → p < i → i < q → slice_get acts i ≡ Some (did t (RestoreWord at old) Done)
       → IsPutBack c acts p i t s at
-  -- no word that is ever overwritten says then that it is the section's
+  -- no word that is ever overwritten carries its number then
   pub none_left : (j u at : ℕ) → Overwrites acts j u at → tag_of ((c q).words (Object at)) ≡ s → ⊥
   -- its thread stands where it stood as it was to enter
   pub stands_again : (before behind : ThreadState S)

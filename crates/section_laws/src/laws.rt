@@ -61,10 +61,10 @@ pub fn observed_sections_stay<C: ThreadCode>()
     ensures { ObservedSectionsStay C.code }
 {}
 
-/// Once a section is undone, each word that its thread has overwritten in it was put back, and no other word: as it
-/// was put back, the word still was as the section had written it, and then it was as the section had found it, value
-/// and tag. No word is left that carries the section's number, and the thread stands where it stood as it was to
-/// enter.
+/// Where the words that are overwritten are words of objects alone (`HasPlainWords`): once a section is undone, each word
+/// that its thread has overwritten in it was put back, and no other word. As it was put back the word still carried the
+/// section's number, and then it was as the section had found it, value and tag. As the section is noted undone, no word
+/// that is ever overwritten carries its number, and the thread stands where it stood as it was to enter.
 pub fn undoing_puts_back<C: ThreadCode>()
     ensures { UndoingPutsBack C.code }
 {}
