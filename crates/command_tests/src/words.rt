@@ -256,3 +256,21 @@ fn other_words_ask_for_nothing(rt: HostRuntime) -> Result<(), Fail> {
     }
     Ok(())
 }
+
+/// How many items an order that is so many times `1*1` has, where its words ask for something.
+fn items_of(alloc: Global, count: u32) -> Result<Option<usize>, Fail> {
+    let mut option = String::from_str(alloc, "--order=1*1")?;
+    for _ in 1..count {
+        option.push_str(",1*1")?;
+    }
+    let words = owned_words(alloc, &["pick", "D", "M", option.as_str()])?;
+    let request = request_of(alloc, words.as_slice());
+    Ok(request.ok().map(|request| order_of(&request).len()))
+}
+
+#[test]
+fn an_order_has_a_thousand_items_at_most(rt: HostRuntime) -> Result<(), Fail> {
+    assert!(rt; items_of(rt.alloc(), 1000)? == Some(1000));
+    assert!(rt; items_of(rt.alloc(), 1001)?.is_none());
+    Ok(())
+}

@@ -1,24 +1,13 @@
 -- What is built of the grammar.
-use Rattle.std.specs.Prelude.{ℕ, ◌==◌, ◌&&◌, Bool, true, false, not, List, [], ◌∷◌, if◌then◌else◌, Option, None, Some}
+use Rattle.std.specs.Prelude.{ℕ, Bool, true, false, List, length, nat_lt, if◌then◌else◌, Option, None, Some}
 use Rattle.std.specs.Option.{option_and_then}
-use Rattle.op_core.specs.declared.Limits.{Limits}
-use Rattle.schedules.specs.declared.order.OrderItem.{OrderItem}
 use Rattle.command_words.specs.declared.request.Request.{Request}
 use Rattle.command_words.specs.declared.request.Request.TheVariants.{Pick, Trace, Run, Check, Load, Make, Stress, Help, Version}
 use Rattle.command_words.specs.Grammar.{request_of}
 
--- the limits that hold without an option
-abbrev pub are_default : Limits → Bool
-are_default limits = limits.turns == 1000000000 && limits.heap == 4194304 && limits.sections == 4194304
-
-abbrev pub is_plain_schedule : List OrderItem → Option ℕ → Bool
-is_plain_schedule [] None = true
-is_plain_schedule [] (Some seed) = false
-is_plain_schedule (item ∷ order) seed = false
-
--- whether a request is carried out: pick without options, load, make, and what says what the program is
+-- the commands that are carried out: pick, load, make, and what says what the program is
 abbrev pub is_built : Request → Bool
-is_built (Pick dir main limits schedule counts) = are_default limits && is_plain_schedule schedule.order schedule.seed && not counts
+is_built (Pick dir main limits schedule counts) = true
 is_built (Trace dir main limits schedule) = false
 is_built (Run dir main limits workers slice counts) = false
 is_built (Check dir main) = false
@@ -28,6 +17,12 @@ is_built (Stress number) = false
 is_built Help = true
 is_built Version = true
 
+-- options stand behind a command with a folder and a class; none is carried out yet
+abbrev pub has_options : List (List ℕ) → Bool
+has_options words = nat_lt 3 (length words)
+
 -- what the words ask for that is carried out
 abbrev pub built_request : List (List ℕ) → Option Request
-built_request words = option_and_then (λ request. if is_built request then Some request else None) (request_of words)
+built_request words =
+    if has_options words then None
+    else option_and_then (λ request. if is_built request then Some request else None) (request_of words)

@@ -36,7 +36,7 @@ end
 );
 
 /// `new B(c ? 1 : 2)`, with an object in two stack map frames that isn't initialized.
-const CONDITIONAL: File = File::Text(
+pub const CONDITIONAL: File = File::Text(
     "A.class",
     "class A
 method 9 make (I)LB; stack 4 locals 1
@@ -61,7 +61,8 @@ end
 ",
 );
 
-const B: File = File::Text(
+/// The class of the objects that it makes.
+pub const B: File = File::Text(
     "B.class",
     "class B
 method 1 <init> (I)V stack 1 locals 2
@@ -76,7 +77,6 @@ end
 struct Load {
     main: &'static str,
     files: &'static [File],
-    faults: Faults,
     status: u8,
     out: &'static str,
     err: &'static str,
@@ -86,7 +86,6 @@ const LOADED: [Load; 13] = [
     Load {
         main: "One",
         files: &[SUM],
-        faults: NO_FAULTS,
         status: 0,
         out: "accepted 1\n",
         err: "",
@@ -95,7 +94,6 @@ const LOADED: [Load; 13] = [
     Load {
         main: "One",
         files: &[File::Pooled("One.class", &[177])],
-        faults: NO_FAULTS,
         status: 0,
         out: "accepted 1\n",
         err: "",
@@ -103,7 +101,6 @@ const LOADED: [Load; 13] = [
     Load {
         main: "A",
         files: &[B, CONDITIONAL],
-        faults: NO_FAULTS,
         status: 0,
         out: "accepted 2\n",
         err: "",
@@ -116,7 +113,6 @@ const LOADED: [Load; 13] = [
             File::Other(".class", b"any"),
             File::One("other.class", &[177]),
         ],
-        faults: NO_FAULTS,
         status: 0,
         out: "accepted 1\n",
         err: "",
@@ -124,7 +120,6 @@ const LOADED: [Load; 13] = [
     Load {
         main: "One",
         files: &[File::Pooled("F.class", &[186, 0, 21, 0, 0, 177])],
-        faults: NO_FAULTS,
         status: 3,
         out: "",
         err: "refused: code F.class 2 0 0\n",
@@ -132,7 +127,6 @@ const LOADED: [Load; 13] = [
     Load {
         main: "One",
         files: &[],
-        faults: NO_FAULTS,
         status: 4,
         out: "",
         err: "no main\n",
@@ -140,7 +134,6 @@ const LOADED: [Load; 13] = [
     Load {
         main: "Two",
         files: &[SUM],
-        faults: NO_FAULTS,
         status: 4,
         out: "",
         err: "no main\n",
@@ -148,7 +141,6 @@ const LOADED: [Load; 13] = [
     Load {
         main: "B",
         files: &[B, CONDITIONAL],
-        faults: NO_FAULTS,
         status: 4,
         out: "",
         err: "no main\n",
@@ -156,7 +148,6 @@ const LOADED: [Load; 13] = [
     Load {
         main: "a.Main",
         files: &[MAIN],
-        faults: NO_FAULTS,
         status: 4,
         out: "",
         err: "no main\n",
@@ -164,7 +155,6 @@ const LOADED: [Load; 13] = [
     Load {
         main: "Main",
         files: &[BELOW_GONE, MAIN],
-        faults: NO_FAULTS,
         status: 3,
         out: "",
         err: "refused: link Low.class 2 0 4\n",
@@ -172,7 +162,6 @@ const LOADED: [Load; 13] = [
     Load {
         main: "Main",
         files: &[MAIN, WRONG_RETURN],
-        faults: NO_FAULTS,
         status: 3,
         out: "",
         err: "refused: verify Low.class 9 1 1\n",
@@ -185,7 +174,6 @@ const LOADED: [Load; 13] = [
             File::Other("b.class", b"any"),
             File::Other("C.class", b"any"),
         ],
-        faults: NO_FAULTS,
         status: 3,
         out: "",
         err: "refused: read C.class 3 0 3\n",
@@ -194,68 +182,15 @@ const LOADED: [Load; 13] = [
     Load {
         main: "Two",
         files: &[File::Other("b.class", b"any")],
-        faults: NO_FAULTS,
         status: 3,
         out: "",
         err: "refused: read b.class 3 0 3\n",
     },
 ];
 
-/// Each call of the folder and of both sinks fails in turn.
-const FAILING: [Load; 6] = [
-    Load {
-        main: "A",
-        files: &[B, CONDITIONAL],
-        faults: (1, 0, 0, 0),
-        status: 7,
-        out: "",
-        err: "read fault\n",
-    },
-    Load {
-        main: "A",
-        files: &[B, CONDITIONAL],
-        faults: (2, 0, 0, 0),
-        status: 7,
-        out: "",
-        err: "read fault\n",
-    },
-    Load {
-        main: "A",
-        files: &[B, CONDITIONAL],
-        faults: (3, 0, 0, 0),
-        status: 7,
-        out: "",
-        err: "read fault\n",
-    },
-    Load {
-        main: "A",
-        files: &[B, CONDITIONAL],
-        faults: (0, 0, 1, 0),
-        status: 8,
-        out: "",
-        err: "write fault\n",
-    },
-    Load {
-        main: "A",
-        files: &[B, CONDITIONAL],
-        faults: (0, 0, 1, 1),
-        status: 8,
-        out: "",
-        err: "",
-    },
-    Load {
-        main: "B",
-        files: &[B, CONDITIONAL],
-        faults: (0, 0, 0, 1),
-        status: 8,
-        out: "",
-        err: "",
-    },
-];
-
 fn is_loaded<R: Abort + Threads + Sync>(rt: &R, alloc: Global, load: &Load) -> Result<bool, Fail> {
     let files = owned_files(rt, alloc, load.files)?;
-    let seen = run_over(rt, alloc, &["load", "D", load.main], files, "", load.faults)?;
+    let seen = run_over(rt, alloc, &["load", "D", load.main], files, "", NO_FAULTS)?;
     Ok(
         seen.status == load.status
             && seen.out.as_slice() == load.out.as_bytes()
@@ -266,14 +201,6 @@ fn is_loaded<R: Abort + Threads + Sync>(rt: &R, alloc: Global, load: &Load) -> R
 #[test]
 fn what_load_says_of_a_folder(rt: HostRuntime) -> Result<(), Fail> {
     for load in &LOADED {
-        assert!(rt; is_loaded(&rt, rt.alloc(), load)?);
-    }
-    Ok(())
-}
-
-#[test]
-fn each_call_of_load_that_fails_is_reported(rt: HostRuntime) -> Result<(), Fail> {
-    for load in &FAILING {
         assert!(rt; is_loaded(&rt, rt.alloc(), load)?);
     }
     Ok(())

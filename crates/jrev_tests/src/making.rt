@@ -2,7 +2,7 @@ use crate::running::{Case, ONE_FILE, is_as_wanted};
 use std::test::Fail;
 
 /// The text of the class One, whose main method prints a sum.
-const ONE_TEXT: &str = "class One
+pub const ONE_TEXT: &str = "class One
 method 9 main ([Ljava/lang/String;)V stack 3 locals 1
 getstatic java/lang/System out Ljava/io/PrintStream;
 iconst_2
@@ -13,8 +13,8 @@ return
 end
 ";
 
-/// A text that is made, one that is refused, and each call that fails.
-const MAKING: [Case; 5] = [
+/// A text that is made, and one that is refused.
+const MAKING: [Case; 2] = [
     Case {
         words: &["make"],
         files: &[],
@@ -32,33 +32,6 @@ const MAKING: [Case; 5] = [
         status: 11,
         out: b"",
         err: "make: line 3\n",
-    },
-    Case {
-        words: &["make"],
-        files: &[],
-        input: ONE_TEXT,
-        faults: (0, 1, 0, 0),
-        status: 7,
-        out: b"",
-        err: "read fault\n",
-    },
-    Case {
-        words: &["make"],
-        files: &[],
-        input: ONE_TEXT,
-        faults: (0, 2, 0, 0),
-        status: 7,
-        out: b"",
-        err: "read fault\n",
-    },
-    Case {
-        words: &["make"],
-        files: &[],
-        input: ONE_TEXT,
-        faults: (0, 0, 1, 0),
-        status: 8,
-        out: b"",
-        err: "write fault\n",
     },
 ];
 

@@ -3,7 +3,7 @@ use jrev_top::{Request, Status, words_of};
 use std::test::Fail;
 
 /// Words that ask for nothing that there is, or that isn't carried out yet.
-const FAULTY: [&[&str]; 22] = [
+const FAULTY: [&[&str]; 23] = [
     &[],
     &["pick", "D"],
     &["pick", "D", "One", "x"],
@@ -24,6 +24,7 @@ const FAULTY: [&[&str]; 22] = [
     &["pick", "D", "One", "--seed=1"],
     &["pick", "D", "One", "--order=1*1"],
     &["pick", "D", "One", "--turns=5"],
+    &["pick", "D", "One", "--turns=1000000000"],
     &["pick", "D", "One", "--heap=5"],
     &["pick", "D", "One", "--sections=5"],
 ];

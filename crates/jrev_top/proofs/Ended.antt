@@ -40,16 +40,16 @@ picked main outside (first ∷ second ∷ names) answer is = ends-as is_of_progr
 
 judged : (main : List ℕ) (names files : List (List ℕ)) (answer : Answer) → IsJudged main names files answer → is_of_program answer.status ≡ true
 judged main names files answer (inl program) = ends-as is_of_program answer _ program.3 refl
-judged main names files answer (inr (inl none)) = ends-as is_of_program answer _ none.2 refl
-judged main names files answer (inr (inr refusal)) = ends-as is_of_program answer _ refusal.3 refl
+judged main names files answer (inr (inl none)) = ends-as is_of_program answer _ none.1 refl
+judged main names files answer (inr (inr refusal)) = ends-as is_of_program answer _ refusal.2 refl
 
 made : (text : List ℕ) (answer : Answer) → IsMade text answer → is_of_text answer.status ≡ true
 made text answer (inl bytes) = ends-as is_of_text answer _ bytes.2 refl
 made text answer (inr number) = ends-as is_of_text answer _ number.2 refl
 
 request-ends : (request : Request) (outside : Outside) (answer : Answer) → IsAnswerTo request outside answer → may_end request answer.status ≡ true
-request-ends (Pick dir main limits schedule counts) outside answer is = picked main outside is.0 answer is.2
-request-ends (Load dir main) outside answer is = judged main _ is.2.0 answer is.2.2
+request-ends (Pick dir main limits schedule counts) outside answer is = picked main outside is.0 answer is.3
+request-ends (Load dir main) outside answer is = judged main _ is.3.0 answer is.3.2
 request-ends Make outside answer is = made is.0 answer is.2
 request-ends Help outside answer is = ends-as is_done answer _ is refl
 request-ends Version outside answer is = ends-as is_done answer _ is refl

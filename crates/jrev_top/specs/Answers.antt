@@ -5,6 +5,7 @@ use Rattle.jr_ports.specs.Folder.{File}
 use Rattle.class_read.specs.Expression.{Statement, values_of}
 use Rattle.class_read.specs.StraightClass.{IsStraight}
 use Rattle.class_make.specs.Texts.{IsAssembled}
+use Rattle.rules.specs.Rules.{Rules}
 use Rattle.program_input.specs.Folder.{AreRead}
 use Rattle.program_answers.specs.declared.status.Status.{Status}
 use Rattle.program_answers.specs.declared.status.Status.TheVariants as statuses
@@ -48,7 +49,7 @@ abbrev pub refusal_words : List ℕ → List ℕ → ℕ → ℕ → ℕ → Lis
 refusal_words stage file number method place =
     with_word (with_word (with_word (with_word (with_word (codes "refused:") stage) file) (decimal number)) (decimal method)) (decimal place)
 
--- the file is well formed, but isn't executed yet
+-- the file isn't executed yet
 abbrev pub not_yet : List ℕ → Answer
 not_yet file = told statuses.Refused (refusal_words (codes "stage") file 99 0 0)
 
@@ -89,6 +90,11 @@ IsPicked main files (only ∷ []) answer =
     (bytes : List ℕ) × AreRead files (only ∷ []) (bytes ∷ []) × IsExecuted main only bytes answer
 IsPicked main files (first ∷ second ∷ names) answer = answer ≡ not_yet second
 
+-- which of them are read for it
+abbrev pub executed_files : List (List ℕ) → List (List ℕ)
+executed_files (only ∷ []) = only ∷ []
+executed_files names = []
+
 abbrev pub stage_word : Stage → List ℕ
 stage_word stages.Read = codes "read"
 stage_word stages.Code = codes "code"
@@ -104,14 +110,19 @@ abbrev pub refused : List (List ℕ) → Refusal → Answer
 refused names refusal =
     told statuses.Refused (refusal_words (stage_word refusal.stage) (slice_index_or names refusal.class []) refusal.number refusal.method refusal.place)
 
--- The answer of load to class files of these names and bytes. Accepted and refused exclude each other.
+-- the rules refuse this and nothing else, and don't hold
+pub record RefuseOnly (rules : Rules AcceptRefusal) (refusal : AcceptRefusal) : Type 0 where
+  pub refused : rules.Refuse refusal
+  pub only : (other : AcceptRefusal) → rules.Refuse other → other ≡ refusal
+  pub broken : ¬ rules.Hold
+
+-- The answer of load to class files of these names and bytes, one and no other.
 abbrev pub IsJudged : List ℕ → List (List ℕ) → List (List ℕ) → Answer → Type 0
 IsJudged main names files answer =
     ((program : Accepted) × IsProgram files main program × ((e : AcceptRefusal) → ¬ (program_rules files main).Refuse e)
     × (answer ≡ accepted (length files)))
-    ⊎ ((program_rules files main).Refuse NoMain × ¬ (program_rules files main).Hold × (answer ≡ no_main))
-    ⊎ ((refusal : Refusal) × (program_rules files main).Refuse (Refused refusal) × ¬ (program_rules files main).Hold
-    × (answer ≡ refused names refusal))
+    ⊎ (RefuseOnly (program_rules files main) NoMain × (answer ≡ no_main))
+    ⊎ ((refusal : Refusal) × RefuseOnly (program_rules files main) (Refused refusal) × (answer ≡ refused names refusal))
 
 -- the answer of load to the class files of these names
 abbrev pub IsLoaded : List ℕ → Option (List File) → List (List ℕ) → Answer → Type 0

@@ -1,6 +1,7 @@
 -- What a run of the program leaves on its streams, and what it touches.
 use Rattle.std.specs.Prelude.{◌≡◌, ◌≢◌, ◌⊎◌, ℕ, List, take, true, Option, None, Some, IfSome}
 use Rattle.jr_ports.specs.Folder.{File, Asked}
+use Rattle.jr_ports.specs.Stream.{Gains}
 use Rattle.class_make.specs.Texts.{front}
 use Rattle.command_words.specs.declared.request.Request.{Request}
 use Rattle.command_words.specs.declared.request.Request.TheVariants.{Pick, Load, Make, Help, Version}
@@ -8,27 +9,31 @@ use Rattle.program_answers.specs.declared.status.Status.{Status}
 use Rattle.program_answers.specs.declared.status.Status.TheVariants as statuses
 use Rattle.program_answers.specs.declared.answer.Answer.{Answer}
 use Rattle.program_answers.specs.Written.{Streams, Comes, IsReadFault, IsNoMemory}
-use Rattle.jrev_top.specs.Answers.{usage, given, help_text, version_text, IsPicked, IsLoaded, IsMade}
+use Rattle.jrev_top.specs.Answers.{usage, given, help_text, version_text, executed_files, IsPicked, IsLoaded, IsMade}
 use Rattle.jrev_top.specs.Touches.{folder_named, input_wanted, may_end}
 use Rattle.jrev_top.specs.Folder.{AreListed}
 
--- What the program has from outside: what the folder was asked and gave, and what the folder and the input tell that they
--- hold, where they tell it.
+-- What the program has from outside: what the folder was asked and gave; where they tell it, what the folder and the input
+-- hold; and the names of the files that were read of the folder, before the run and behind it.
 pub record Outside : Type 0 where
   pub asked : Option Asked
   pub files : Option (List File)
   pub input : Option (List ℕ)
+  pub before : Option (List (List ℕ))
+  pub after : Option (List (List ℕ))
 
 -- the text that is read of the input
 abbrev pub IsText : Option (List ℕ) → List ℕ → Type 0
 IsText input text = IfSome input (λ left. text ≡ front left)
 
--- the answer to a request
+-- The answer to a request. All files that it is of were read before it.
 abbrev pub IsAnswerTo : Request → Outside → Answer → Type 0
 IsAnswerTo (Pick dir main limits schedule counts) outside answer =
-    (names : List (List ℕ)) × AreListed outside.asked outside.files dir names × IsPicked main outside.files names answer
+    (names : List (List ℕ)) × AreListed outside.asked outside.files dir names
+    × Gains outside.before outside.after (executed_files names) × IsPicked main outside.files names answer
 IsAnswerTo (Load dir main) outside answer =
-    (names : List (List ℕ)) × AreListed outside.asked outside.files dir names × IsLoaded main outside.files (take 1025 names) answer
+    (names : List (List ℕ)) × AreListed outside.asked outside.files dir names
+    × Gains outside.before outside.after (take 1025 names) × IsLoaded main outside.files (take 1025 names) answer
 IsAnswerTo Make outside answer = (text : List ℕ) × IsText outside.input text × IsMade text answer
 IsAnswerTo Help outside answer = answer ≡ given help_text
 IsAnswerTo Version outside answer = answer ≡ given version_text

@@ -19,7 +19,7 @@ folder_of (Stress number) = None
 folder_of Help = None
 folder_of Version = None
 
--- how many of its class files are read at most
+-- How many of its class files are read at most. What isn't carried out yet is said to read none, and nothing of the input.
 abbrev pub files_of : Request → ℕ
 files_of (Pick dir main limits schedule counts) = 1
 files_of (Load dir main) = 1025

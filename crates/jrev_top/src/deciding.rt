@@ -42,7 +42,13 @@ pub(crate) fn decide<D: ClassDir, I: Source>(
 ) -> Result<Answer, Failure>
     requires { D.asked classes.old ≡ None }
     ensures answer { IfOk result (λ answer. IsAnswer (built_request (map string_bytes words.now))
-        (record { asked = D.asked classes.new; files = D.contents classes.old; input = I.left input.old }) answer) }
+        (record {
+          asked = D.asked classes.new;
+          files = D.contents classes.old;
+          input = I.left input.old;
+          before = D.read_names classes.old;
+          after = D.read_names classes.new;
+        }) answer) }
     ensures cause { result ≡ Err Failure.Failed → FailsAsked (built_request (map string_bytes words.now))
         (D.faults classes.old < D.faults classes.new) (I.faults input.old < I.faults input.new) }
     ensures asked { AsksOnly (built_request (map string_bytes words.now)) (D.asked classes.new) }

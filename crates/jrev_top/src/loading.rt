@@ -1,6 +1,7 @@
 //! `load`: accepting a program.
 
 ghost use Rattle.std.specs.Prelude.{◌≡◌, ◌<◌, List, ℕ, IfOk, IfSome, None, map, take, string_bytes};
+ghost use Rattle.jr_ports.specs.Stream.{Gains};
 ghost use Rattle.jrev_top.specs.Answers.{IsJudged, IsLoaded};
 ghost use Rattle.jrev_top.specs.Folder.{AreListed, ReadsInOrder};
 
@@ -49,6 +50,7 @@ pub(crate) fn load<D: ClassDir>(
     requires { D.asked classes.old ≡ None }
     ensures answer { IfOk result (λ answer. (names : List (List ℕ))
         × AreListed (D.asked classes.new) (D.contents classes.old) dir.now names
+        × Gains (D.read_names classes.old) (D.read_names classes.new) (take 1025 names)
         × IsLoaded main.now (D.contents classes.old) (take 1025 names) answer) }
     ensures cause { result ≡ Err Failure.Failed → D.faults classes.old < D.faults classes.new }
     ensures asked { IfSome (D.asked classes.new) (λ asked. asked.dir ≡ dir.now) }

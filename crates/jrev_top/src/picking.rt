@@ -1,7 +1,8 @@
 //! `pick`: executing a program, which so far is a straight class.
 
 ghost use Rattle.std.specs.Prelude.{◌≡◌, ◌<◌, ◌↔◌, List, ℕ, IfOk, IfSome, IsTrue, None};
-ghost use Rattle.jrev_top.specs.Answers.{IsExecuted, IsPicked};
+ghost use Rattle.jr_ports.specs.Stream.{Gains};
+ghost use Rattle.jrev_top.specs.Answers.{executed_files, IsExecuted, IsPicked};
 ghost use Rattle.jrev_top.specs.Folder.{AreListed, ReadsInOrder};
 
 use crate::answers::{no_main, not_yet, prints};
@@ -52,6 +53,7 @@ pub(crate) fn pick<D: ClassDir>(
     requires { D.asked classes.old ≡ None }
     ensures answer { IfOk result (λ answer. (names : List (List ℕ))
         × AreListed (D.asked classes.new) (D.contents classes.old) dir.now names
+        × Gains (D.read_names classes.old) (D.read_names classes.new) (executed_files names)
         × IsPicked main.now (D.contents classes.old) names answer) }
     ensures cause { result ≡ Err Failure.Failed → D.faults classes.old < D.faults classes.new }
     ensures asked { IfSome (D.asked classes.new) (λ asked. asked.dir ≡ dir.now) }

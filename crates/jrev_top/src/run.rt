@@ -27,8 +27,9 @@ use std::thread::Threads;
 /// - `Memory` may come anywhere.
 ///
 /// `out` is written before `err`. After a fault or want of memory `out` was given a part of the answer, from its
-/// front, and `err` the line of that failure alone. `classes` is asked for DIR alone, and `input`
-/// is read by `make` alone: to its end, or to one byte more than a text has at most.
+/// front, and `err` the line of that failure alone, or a part of it. `classes` is asked for DIR alone; all files that an
+/// answer is of were read before it. `input` is read by `make` alone, and no further than its end or one byte more than a
+/// text has at most.
 pub fn jrev<R: Threads + Sync, D: ClassDir, I: Source, O: Sink, E: Sink, G: Gate + Sync>(
     _rt: &R,
     alloc: Global,
@@ -43,7 +44,13 @@ pub fn jrev<R: Threads + Sync, D: ClassDir, I: Source, O: Sink, E: Sink, G: Gate
 
     // Which status comes, and what both streams were given.
     ensures answer { Reports (built_request (map string_bytes words.now))
-        (record { asked = D.asked classes.new; files = D.contents classes.old; input = I.left input.old })
+        (record {
+          asked = D.asked classes.new;
+          files = D.contents classes.old;
+          input = I.left input.old;
+          before = D.read_names classes.old;
+          after = D.read_names classes.new;
+        })
         (FailsAsked (built_request (map string_bytes words.now))
         (D.faults classes.old < D.faults classes.new) (I.faults input.old < I.faults input.new))
         (record {

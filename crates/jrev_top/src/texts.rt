@@ -16,7 +16,8 @@ pick       loads the class files of the folder DIR and executes the class MAIN, 
            parts of its name. So far a program is one class whose main method prints the values of integer
            expressions and does nothing else.
 load       says whether the class files of the folder DIR are accepted as a program that begins with the
-           class MAIN: whether they are read, decoded, linked and verified. It executes nothing.
+           class MAIN: whether they are read, decoded, linked and verified. It executes nothing. The line
+           refused: STAGE FILE NUMBER METHOD PLACE tells what is wrong; docs/refusals.md explains it.
 make       reads the text of an assembler from the standard input and writes the class file that it stands for.
 --help     prints this text.
 --version  prints the version.

@@ -6,6 +6,7 @@ ghost use Rattle.std.specs.List.Sorted.{IsPermutation, IsSorted};
 ghost use Rattle.std.specs.Cmp.Lexicographic.{slice_cmp};
 ghost use Rattle.std.specs.Ordering.{nat_cmp};
 ghost use Rattle.jr_ports.specs.Folder.{Asked, IsListed, names_of};
+ghost use Rattle.jr_ports.specs.Stream.{Gains};
 ghost use Rattle.program_input.specs.Folder.{AreClassNames, AreRead, ReadsFront, is_class_file};
 
 use jr_ports::{ClassDir, DirFault};
@@ -70,7 +71,7 @@ pub fn class_names<D: ClassDir>(
     Ok(sorted)
 }
 
-/// Reads files of the folder that was asked for, in the order of these names, each at most once.
+/// Reads files of the folder that was asked for, in the order of these names, all of them or up to the first that fails.
 ///
 /// # Errors
 /// `Failed` comes only where the folder's count of faults rose in this call. After an error the first of the files were
@@ -87,6 +88,7 @@ pub fn read_files<D: ClassDir>(
     ensures asked { D.asked classes.new ≡ D.asked classes.old }
     ensures faults { D.faults classes.old ≤ D.faults classes.new }
     ensures contents { D.contents classes.new ≡ D.contents classes.old }
+    ensures whole { IfOk result (λ _. Gains (D.read_names classes.old) (D.read_names classes.new) (map string_bytes names.now)) }
     ensures front { ReadsFront (map string_bytes names.now) (D.read_names classes.old) (D.read_names classes.new) }
 {
     let mut files = Vec::new(alloc);

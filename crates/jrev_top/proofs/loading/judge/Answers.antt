@@ -3,25 +3,23 @@ use Rattle.std.proofs.lemmas.List.{length-map}
 use Rattle.jrev_top.specs.Answers.{accepted}
 use Rattle.program_accept.specs.declared.refusal.AcceptRefusal.TheVariants.{NoMain, Refused}
 use Rattle.program_accept.specs.Accepted.{program_rules}
-use Rattle.jrev_top.proofs.Answered.{refuses-as}
+use Rattle.jrev_top.proofs.Answered.{refuses-only}
 use Rattle.jrev_top.proofs.loading.judge.Goals as goal
 
 pub returns-in-Err-NoMain-clause-answer : goal.returns-in-Err-NoMain-clause-answer
 returns-in-Err-NoMain-clause-answer c =
-    let rules = program_rules (map (λ f. f.items) c.args.files.items) c.args.main.now in
+    let at = c.in-Err-NoMain in
     inr (inl (
-      refuses-as rules c.in-Err-NoMain.field-0 NoMain c.in-Err-NoMain.ensures.exact c.in-Err-NoMain.field-0-is (λ e. cc),
-      (λ holds. let none = c.in-Err-NoMain.ensures.only holds in let is = c.in-Err-NoMain.field-0-is in cc),
+      refuses-only (program_rules (map (λ f. f.items) c.args.files.items) c.args.main.now) at.field-0 NoMain at.ensures.exact at.ensures.first at.ensures.only at.field-0-is (λ e. cc),
       c.in_ok-no_main-in-Err-NoMain.ensures,
     ))
 
 pub returns-in-Err-Refused-clause-answer : goal.returns-in-Err-Refused-clause-answer
 returns-in-Err-Refused-clause-answer c =
-    let rules = program_rules (map (λ f. f.items) c.args.files.items) c.args.main.now in
+    let at = c.in-Err-Refused in
     inr (inr (
-      c.in-Err-Refused.refusal,
-      refuses-as rules c.in-Err-Refused.field-0 (Refused c.in-Err-Refused.refusal) c.in-Err-Refused.ensures.exact c.in-Err-Refused.field-0-is (λ e. cc),
-      (λ holds. let none = c.in-Err-Refused.ensures.only holds in let is = c.in-Err-Refused.field-0-is in cc),
+      at.refusal,
+      refuses-only (program_rules (map (λ f. f.items) c.args.files.items) c.args.main.now) at.field-0 (Refused at.refusal) at.ensures.exact at.ensures.first at.ensures.only at.field-0-is (λ e. cc),
       c.in_ok-refused-in-Err-Refused.ensures,
     ))
 

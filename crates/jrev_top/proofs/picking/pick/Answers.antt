@@ -19,9 +19,9 @@ pub returns-in-len1-clause-answer : goal.returns-in-len1-clause-answer
 returns-in-len1-clause-answer g c =
     let long = ap length c.as_slice.ensures.value in
     let Only : List (String Global) → Type 0 = λ names. c.only-item.result ≡ get_or names 0 c.only-item.result in
-    picked-read _ _ (g.D.ClassDir.contents c.args.classes.now) _ c.args.dir.now c.args.main.now c.in_ok-names.names.items c.only-item.result _ _ c.in_ok-bytes-in-len1.bytes.items _ c.in_ok-answer-in-len1.answer
-    c.in_ok-names.ensures.names c.in_ok-bytes-in-len1.ensures.asked c.in_ok-names.ensures.contents (omega (arith, long, c.in-len1.len_at_least, c.in-len1.len_below))
-    (subst Only c.as_slice.ensures.value c.only-item.is) c.as_str.ensures.value c.as_bytes.ensures.value c.as_slice-in-len1.ensures.value c.in_ok-bytes-in-len1.ensures.told c.in_ok-answer-in-len1.ensures.answer
+    picked-read _ _ (g.D.ClassDir.contents c.args.classes.now) _ _ _ _ c.args.dir.now c.args.main.now c.in_ok-names.names.items c.only-item.result _ _ c.in_ok-bytes-in-len1.bytes.items _ c.in_ok-answer-in-len1.answer
+    c.in_ok-names.ensures.names c.in_ok-bytes-in-len1.ensures.asked c.in_ok-names.ensures.contents c.in_ok-names.ensures.read (omega (arith, long, c.in-len1.len_at_least, c.in-len1.len_below))
+    (subst Only c.as_slice.ensures.value c.only-item.is) c.as_str.ensures.value c.as_bytes.ensures.value c.as_slice-in-len1.ensures.value c.in_ok-bytes-in-len1.ensures.told c.in_ok-bytes-in-len1.ensures.read c.in_ok-answer-in-len1.ensures.answer
 
 pub returns-in-len1-clause-order : goal.returns-in-len1-clause-order
 returns-in-len1-clause-order g c =
