@@ -1,3 +1,4 @@
+-- The code of a body that was made is what its lines say.
 pub mod RowLaws
 pub mod NumberLaws
 pub mod GrammarLaws

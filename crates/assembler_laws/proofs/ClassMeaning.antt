@@ -1,3 +1,4 @@
+-- The class file that a text stands for is what its lines say.
 pub mod Bodies
 pub mod BodyLaws
 pub mod MemberLaws

@@ -1,3 +1,4 @@
+-- Bytes of written instructions and frames are read in one way alone.
 pub mod NumberLaws
 pub mod SwitchLaws
 pub mod OperandLaws
