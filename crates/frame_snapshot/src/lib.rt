@@ -8,6 +8,8 @@ mod activation;
 mod frames;
 mod row;
 mod stage;
+mod todo;
 
 pub use frames::{Frames, NewFrame, PushRefusal};
-pub use stage::{Outcome, Stage};
+pub use stage::{CallSite, Caller, Outcome, Stage};
+pub use todo::{Then, Todo, Value};

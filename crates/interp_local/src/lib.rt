@@ -19,6 +19,8 @@ mod run;
 mod step;
 
 pub use constants::{Constant, Constants};
+pub use numbers::{long, to_byte, to_char, to_short};
+pub use operands::{four, one, three, two};
 pub use quick::{Quick, make_quick, make_quicks};
 pub use run::{LocalRun, run_local};
 pub use step::{LocalStep, local_step, look_ahead};

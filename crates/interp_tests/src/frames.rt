@@ -1,5 +1,5 @@
 use crate::setting::{METHOD, frames_with, push, stack_is};
-use frame_snapshot::{Frames, NewFrame, PushRefusal, Stage};
+use frame_snapshot::{Caller, Frames, NewFrame, PushRefusal, Stage};
 use std::test::Fail;
 
 /// Calls a method of three locals, or says why not.
@@ -13,7 +13,7 @@ fn enter(frames: &mut Frames, arguments: usize) -> Option<PushRefusal> {
         arguments,
         max_locals: 3,
         max_stack: 2,
-        caller: Stage::Calls,
+        caller: Stage::Calls(Caller::Instruction),
     };
     frames.push(call).err()
 }

@@ -4,7 +4,7 @@ ghost use Rattle.std.specs.Prelude.{◌≡◌};
 ghost use Rattle.interp_local.specs.Quick.{quicks_of};
 
 use code_decode::{Code, Instr, Plain, Target, ValueKind, What};
-use frame_snapshot::{Frames, NewFrame, PushRefusal, Stage};
+use frame_snapshot::{Caller, Frames, NewFrame, PushRefusal, Stage};
 use interp_local::{Constant, Constants, LocalStep, Quick, make_quicks, run_local};
 use link_types::MethodId;
 use std::alloc::{AllocError, Global};
@@ -97,7 +97,7 @@ pub fn run_method(alloc: Global, code: &Code) -> Result<Answer, AllocError> {
         arguments: 0,
         max_locals: code.max_locals,
         max_stack: code.max_stack,
-        caller: Stage::Launched,
+        caller: Stage::Calls(Caller::Launch),
     };
     let steps = code.steps.as_slice();
     let quicks = make_quicks(alloc, steps)?;

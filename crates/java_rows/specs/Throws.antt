@@ -5,7 +5,7 @@ use Rattle.code_decode.specs.declared.code.ClassUnit.{ClassUnit}
 use Rattle.code_decode.specs.declared.code.Handler.{Handler}
 use Rattle.instructions.specs.declared.operation.ValueKind.{ValueKind}
 use Rattle.instructions.specs.declared.operation.ValueKind.TheVariants as kinds
-use Rattle.java_rows.specs.Plan.{at_step, Frame, FrameEnd, returned, threw, broke, goes, throws, ends, Plan, silently, ready, stuck, asks_class, exits, unless_null}
+use Rattle.java_rows.specs.Plan.{at_step, Frame, FrameEnd, returned, threw, broke, goes, ends, Plan, silently, ready, stuck, asks_class, exits, thrown_in, unless_null}
 use Rattle.java_rows.specs.Program.{class_at, handlers_of, is_subclass}
 
 -- ---- the end of a frame
@@ -57,5 +57,5 @@ looks_for us f r c = caught_by f r c (handler_for us f c)
 
 -- JVMS 6.5 athrow: the class is kept with the object
 abbrev pub throws_it : Frame → List ℕ → Plan
-throws_it f (r ∷ rest) = unless_null f r (asks_class r (λ c n. ready (throws f r c)))
+throws_it f (r ∷ rest) = unless_null f r (asks_class r (λ c n. thrown_in f r c))
 throws_it f _ = stuck

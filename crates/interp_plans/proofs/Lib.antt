@@ -1,0 +1,5 @@
+pub mod UseLemmas
+pub mod OperandLemmas
+pub mod ChainLemmas
+pub mod BeginLemmas
+pub mod CallLemmas

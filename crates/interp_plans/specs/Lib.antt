@@ -1,0 +1,6 @@
+pub mod Uses
+pub mod Initializing
+pub mod Replies
+pub mod Todos
+pub mod Operands
+pub mod Calls
