@@ -43,7 +43,7 @@ ghost use Rattle.code_decode.specs.Method.{StandsForFile};
 use anyhow::Result;
 use class_read::{ClassFile, MOST_BYTES, read_class};
 use code_decode::{Code, decode_class};
-use frame_snapshot::{Frames, NewFrame, Stage};
+use frame_snapshot::{Caller, Frames, NewFrame, Stage};
 use interp_local::{Constant, Constants, make_quicks, run_local};
 use link_types::MethodId;
 use std::env;
@@ -81,7 +81,7 @@ fn times<R: Print + Clock + AllocGlobal>(rt: &R, code: &Code, rounds: u32) -> Re
         arguments: 1,
         max_locals: code.max_locals,
         max_stack: code.max_stack,
-        caller: Stage::Launched,
+        caller: Stage::Calls(Caller::Launch),
     };
     if code.max_locals == 0 || frames.push(call).is_err() {
         return Ok(());

@@ -183,6 +183,14 @@ impl Frames {
         count <= self.here.top - self.here.floor
     }
 
+    /// How many words the operand stack has.
+    #[inline(always)]
+    pub fn stack_len(&self) -> usize
+        ensures { result ≡ length self.now.here.stack }
+    {
+        self.here.top - self.here.floor
+    }
+
     /// Whether the operand stack has room for so many words more.
     #[inline(always)]
     pub fn has_room(&self, count: usize) -> bool

@@ -36,3 +36,16 @@ pub receiver_missing : (f : Frame) (words : ℕ) (k : ℕ → List ℕ → List 
 receiver_missing f words k lacks =
     let test : nat_le (suc words) (length f.stack) ≡ false = grind (arith, nat_tests) in
     ap (λ b. if b then by_receiver f (λ r args. k r args (drop (suc words) f.stack)) (reverse (take (suc words) f.stack)) else stuck) test
+
+-- operands behind the end of the stack are none
+pub take_all : (s : List ℕ) (n : ℕ) → length s ≤ n → take (length s) s ≡ take n s
+take_all [] zero all = refl
+take_all [] (suc n) all = refl
+take_all (x ∷ s) zero all = absurd (omega (arith, all))
+take_all (x ∷ s) (suc n) all = ap (λ xs. x ∷ xs) (take_all s n (omega (arith, all)))
+
+pub drop_all : (s : List ℕ) (n : ℕ) → length s ≤ n → drop (length s) s ≡ drop n s
+drop_all [] zero all = refl
+drop_all [] (suc n) all = refl
+drop_all (x ∷ s) zero all = absurd (omega (arith, all))
+drop_all (x ∷ s) (suc n) all = drop_all s n (omega (arith, all))

@@ -1,5 +1,5 @@
 -- What follows the reply to an operation.
-use Rattle.std.specs.Prelude.{ℕ, suc, ◌*◌, ◌%◌, ◌^◌, ◌==◌, Option, None, Some, List, [], ◌∷◌, ◌++◌, drop, if◌then◌else◌}
+use Rattle.std.specs.Prelude.{ℕ, suc, ◌*◌, ◌%◌, ◌^◌, ◌==◌, Option, None, Some, List, [], ◌∷◌, ◌++◌, drop, slice_get, if◌then◌else◌}
 use Rattle.builtin_world.specs.declared.number.TheConstants.{ARRAY_INDEX_OUT_OF_BOUNDS_EXCEPTION, ARRAY_STORE_EXCEPTION, CLASS_CAST_EXCEPTION, ILLEGAL_MONITOR_STATE_EXCEPTION, ILLEGAL_THREAD_STATE_EXCEPTION, ERROR, NO_CLASS_DEF_FOUND_ERROR, EXCEPTION_IN_INITIALIZER_ERROR, RUNNABLE}
 use Rattle.builtin_world.specs.declared.word.TheConstants.{THREAD_PRIORITY, THREAD_TARGET}
 use Rattle.code_decode.specs.declared.code.ClassUnit.{ClassUnit}
@@ -80,6 +80,16 @@ abbrev pub inherits_then : Use → ℕ → Option ℕ → Plan
 inherits_then u t None = u.value []
 inherits_then u t (Some target) = writes t THREAD_TARGET target (u.value [])
 
+-- ---- the class at a place of the chain, how far it is initialized
+
+abbrev pub asked_then : List ClassUnit → ℕ → Frame → Caller → ℕ → Option ℕ → Reply → Plan
+asked_then us me f caller i (Some c) = on_init
+    (done_at us me f caller (chain_of us f caller) i)
+    (makes NO_CLASS_DEF_FOUND_ERROR 0 (λ r.
+    broken_at us f caller (chain_of us f caller) i r NO_CLASS_DEF_FOUND_ERROR))
+    (asks_at us me f caller (chain_of us f caller) (suc i))
+asked_then us me f caller i None = λ reply. stuck
+
 -- ---- one row each
 
 abbrev pub then_of : List ClassUnit → ℕ → Frame → Then → Reply → Plan
@@ -111,11 +121,7 @@ then_of us me f (thens.Leaves outcome) =
     on_owner (silently (ready (ends (end_of f outcome)))) (silently (ready (ends broke)))
 then_of us me f (thens.Raised caller c) = on_made (λ r. thrown_by f caller r c)
 then_of us me f thens.Ended = on_done over
-then_of us me f (thens.Asked caller i) = on_init
-    (done_at us me f caller (chain_of us f caller) i)
-    (makes NO_CLASS_DEF_FOUND_ERROR 0 (λ r.
-    broken_at us f caller (chain_of us f caller) i r NO_CLASS_DEF_FOUND_ERROR))
-    (asks_at us me f caller (chain_of us f caller) (suc i))
+then_of us me f (thens.Asked caller i) = asked_then us me f caller i (slice_get (chain_of us f caller) i)
 then_of us me f (thens.Settled caller i) = on_done (done_at us me f caller (chain_of us f caller) i)
 then_of us me f (thens.Broken caller i r d) = on_done (
     if is_subclass us d ERROR then broken_at us f caller (chain_of us f caller) i r d

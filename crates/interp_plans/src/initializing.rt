@@ -1,6 +1,6 @@
 //! Initialization of classes, and the instructions that begin with it (JVMS 5.5, 6.5 new, getstatic, invokestatic).
 
-ghost use Rattle.std.specs.Prelude.{◌≡◌, ◌<◌, ◌+◌, ◌^◌, Some, slice_get, suc};
+ghost use Rattle.std.specs.Prelude.{◌≡◌, ◌<◌, ◌+◌, ◌^◌, Some, IfSome, slice_get, suc};
 ghost use Rattle.frame_snapshot.specs.declared.stage.Caller.{Caller};
 ghost use Rattle.instructions.specs.declared.operation.Call.{Call};
 ghost use Rattle.instructions.specs.declared.operation.ClassUse.{ClassUse};
@@ -70,9 +70,10 @@ impl<'a, P: JavaProgram> Here<'a, P> {
         }
     }
 
-    // The class at a place.
-    fn class_in_chain(&self, caller: Caller, place: u32) -> Option<u32>
-        ensures { result ≡ slice_get (chain_of (P.units self.now.program.now) (frame_of self.now.frames.now.here) caller) place }
+    /// The class at a place.
+    pub fn class_in_chain(&self, caller: Caller, place: u32) -> Option<u32>
+        ensures is { result ≡ slice_get (chain_of (P.units self.now.program.now) (frame_of self.now.frames.now.here) caller) place }
+        ensures few { IfSome result (λ c. place < 2 ^ 16) }
     {
         self.program
             .initialized_with(self.initialized_class(caller), place)

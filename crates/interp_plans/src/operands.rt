@@ -1,6 +1,6 @@
 //! The operands of a call.
 
-ghost use Rattle.std.specs.Prelude.{◌≡◌, ◌≤◌, length};
+ghost use Rattle.std.specs.Prelude.{◌≡◌, ◌≤◌, length, drop};
 ghost use Rattle.java_rows.specs.Calls.{first_of};
 ghost use Rattle.interp_plans.specs.Operands.{AreArguments};
 ghost use Rattle.interp_plans.specs.Uses.{arguments_at, frame_of};
@@ -53,5 +53,23 @@ impl<'a, P> Here<'a, P> {
             return 0;
         }
         self.frames.word(usize::from(site.operands) - 1)
+    }
+
+    /// The same call where it has no more operands than the stack has words.
+    #[tactic(auto, using(crate::proofs::OperandLemmas::take_all, crate::proofs::OperandLemmas::drop_all))]
+    pub fn within_stack(&self, site: CallSite) -> CallSite
+        ensures caller { result.caller ≡ site.caller }
+        ensures operands { result.operands ≤ length self.now.frames.now.here.stack }
+        ensures arguments { arguments_at (frame_of self.now.frames.now.here) result ≡ arguments_at (frame_of self.now.frames.now.here) site }
+        ensures rest { drop result.operands self.now.frames.now.here.stack ≡ drop site.operands self.now.frames.now.here.stack }
+    {
+        let length = self.frames.stack_len();
+        if usize::from(site.operands) <= length {
+            return site;
+        }
+        CallSite {
+            caller: site.caller,
+            operands: length as u16,
+        }
     }
 }

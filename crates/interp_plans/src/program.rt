@@ -7,7 +7,7 @@ use link_types::{MethodBody, MethodId, Operand};
 
 /// A linked program. Each call takes no memory, and answers for any numbers.
 pub trait JavaProgram: Constants {
-    ghost use Rattle.std.specs.Prelude.{◌≡◌, ◌<◌, ◌+◌, ◌^◌, true, slice_get};
+    ghost use Rattle.std.specs.Prelude.{◌≡◌, ◌<◌, ◌+◌, ◌^◌, true, slice_get, IfSome};
     ghost use Rattle.std.specs.Option.{option_map};
     ghost use Rattle.access_flags.specs.declared.TheConstants.{SYNCHRONIZED};
     ghost use Rattle.interp_local.specs.Quick.{quicks_of};
@@ -80,7 +80,8 @@ pub trait JavaProgram: Constants {
 
     /// The class at a place of those that are initialized with a class, from that class at place 0 upward (JVMS 5.5).
     fn initialized_with(&self, class: u32, place: u32) -> Option<u32>
-        ensures { result ≡ slice_get (initialized_with (Self.units self.now) class) place };
+        ensures is { result ≡ slice_get (initialized_with (Self.units self.now) class) place }
+        ensures few { IfSome result (λ c. place < 2 ^ 16) };
 
     /// The method that initializes a class, if it has one.
     fn initializer(&self, class: u32) -> Option<MethodId>
