@@ -332,6 +332,13 @@ impl Frames {
         }
     }
 
+    /// There are at most 1,024 frames. Does nothing.
+    pub fn has_few(&self)
+        ensures { frame_count self.now ≤ 1024 }
+    {
+        let _below = self.below.as_slice();
+    }
+
     /// Whether there is a frame below the top one.
     pub fn has_caller(&self) -> bool
         ensures { IsTrue result ↔ (0 < length self.now.below) }

@@ -1,6 +1,6 @@
 //! Where a frame stands inside its instruction.
 
-use crate::todo::Todo;
+use crate::todo::{Todo, Value};
 
 /// Who calls: an instruction, or the launch of a thread in its lowest frame.
 #[derive(Clone, Copy)]
@@ -19,8 +19,8 @@ pub struct CallSite {
 /// How a frame ends, behind the exit of its monitor.
 #[derive(Clone, Copy)]
 pub enum Outcome {
-    /// It returns so many words of its stack's top.
-    Returned(u8),
+    /// It returns a value.
+    Returned(Value),
     /// It throws an object.
     Threw { object: u32, class: u32 },
     /// Its monitor wasn't owned.

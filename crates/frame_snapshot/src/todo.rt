@@ -105,15 +105,11 @@ pub enum Then {
         object: u32,
         class: u32,
     },
-    /// The error is made of the class at a place, whose initialization failed before.
-    Missing {
+    /// The error of this class is made that ends the initializations below a place.
+    Error {
         caller: Caller,
         place: u32,
-    },
-    /// The error is made of the initialization at a place, which failed now.
-    Failed {
-        caller: Caller,
-        place: u32,
+        class: u32,
     },
     /// The monitor was given up for a wait, or wasn't owned.
     Waited {
@@ -156,8 +152,6 @@ pub enum Then {
 pub enum Todo {
     /// An operation, and what follows its reply.
     Wants(Op, Then),
-    /// The silent step of an instruction that needs no operation.
-    Moves,
     /// A silent step completes it with a value.
     Completes(CallSite, Value),
     /// A silent step enters a handler, which begins at an instruction and takes a thrown object.

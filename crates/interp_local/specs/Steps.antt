@@ -33,11 +33,12 @@ kind_of (moves f) = Moved
 kind_of (fails_by c) = Throw c
 kind_of no_row = Other
 
--- what no step changes: the frames below, the saves, and where the frame stands inside its instruction
+-- what no step changes: the frames below, the saves, the method, and where the frame stands inside its instruction
 pub record IsLocal (old new : FrameStack) : Type 0 where
   pub below : new.below ≡ old.below
   pub saves : new.saves ≡ old.saves
   pub stage : new.here.stage ≡ old.here.stage
+  pub method : new.here.method ≡ old.here.method
 
 -- only a step that moves changes anything
 abbrev pub KeptUnlessMoved : LocalStep → FrameStack → FrameStack → Type 0

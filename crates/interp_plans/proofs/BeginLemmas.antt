@@ -1,5 +1,5 @@
 -- The instruction at which a frame begins.
-use Rattle.std.proofs.Common.{◌≡◌, ◌+◌, ℕ, true, Some, List, length, refl, ap, sym, ◌∙◌, arith, slice_get}
+use Rattle.std.proofs.Common.{◌≡◌, ◌+◌, ℕ, true, Option, None, Some, List, length, refl, ap, sym, ◌∙◌, arith, slice_get}
 use Rattle.std.proofs.lemmas.Bool.Decides.{nat_tests}
 use Rattle.std.specs.Prelude.{nat_le, if◌then◌else◌}
 use Rattle.code_decode.specs.declared.code.ClassUnit.{ClassUnit}
@@ -42,12 +42,20 @@ kind_at : (us : List ClassUnit) (s : FrameStack) (i : Instr Target) → slice_ge
     → kind_of (local_now us (steps_of us s.here.method) s) ≡ kind_of (local_row us (frame_of s.here) i.what s.here.stack)
 kind_at us s i is = ap (λ o. kind_of (row_at us (frame_now s) o)) is
 
-pub begun_fails : (us : List ClassUnit) (me : ℕ) (s : FrameStack) (i : Instr Target) (c : ℕ) → slice_get (steps_of us s.here.method) s.here.step ≡ Some i
-    → Throw c ≡ kind_of (local_now us (steps_of us s.here.method) s) → begun us me (frame_of s.here) ≡ fails (frame_of s.here) c
-begun_fails us me s i c is kind = begun_is us me s.here i is
-    ∙ fails_for us me (frame_of s.here) i.what (local_row us (frame_of s.here) i.what s.here.stack) c (sym (kind ∙ kind_at us s i is))
+fails_at : (us : List ClassUnit) (me : ℕ) (f : Frame) (c : ℕ) (o : Option (Instr Target)) → Throw c ≡ kind_of (row_at us f o) → at_instruction us me f o ≡ fails f c
+fails_at us me f c None kind = search
+fails_at us me f c (Some i) kind = fails_for us me f i.what (local_row us f i.what f.stack) c (sym kind)
+
+pub begun_fails : (us : List ClassUnit) (me : ℕ) (s : FrameStack) (c : ℕ) → Throw c ≡ kind_of (local_now us (steps_of us s.here.method) s)
+    → begun us me (frame_of s.here) ≡ fails (frame_of s.here) c
+begun_fails us me s c kind = has_room us me s.here ∙ fails_at us me (frame_of s.here) c (slice_get (steps_of us s.here.method) s.here.step) kind
 
 pub begun_other : (us : List ClassUnit) (me : ℕ) (s : FrameStack) (i : Instr Target) → slice_get (steps_of us s.here.method) s.here.step ≡ Some i
     → Other ≡ kind_of (local_now us (steps_of us s.here.method) s) → begun us me (frame_of s.here) ≡ row_with_operations us me (frame_of s.here) i.what
 begun_other us me s i is kind = begun_is us me s.here i is
     ∙ other_for us me (frame_of s.here) i.what (local_row us (frame_of s.here) i.what s.here.stack) (sym (kind ∙ kind_at us s i is))
+
+-- a place behind the end has no instruction
+pub begun_none : (us : List ClassUnit) (me : ℕ) (f : StackFrame) → slice_get (steps_of us f.method) f.step ≡ None
+    → begun us me (frame_of f) ≡ stuck
+begun_none us me f none = has_room us me f ∙ ap (at_instruction us me (frame_of f)) none

@@ -118,7 +118,7 @@ then_of us me f (thens.Entered id site monitor) =
     on_done (calls id (arguments_at f site) monitor (after_call (use_at f site)))
 then_of us me f (thens.Thrown r) = on_class (λ c n. thrown_in f r c)
 then_of us me f (thens.Leaves outcome) =
-    on_owner (silently (ready (ends (end_of f outcome)))) (silently (ready (ends broke)))
+    on_owner (silently (ready (ends (end_of outcome)))) (silently (ready (ends broke)))
 then_of us me f (thens.Raised caller c) = on_made (λ r. thrown_by f caller r c)
 then_of us me f thens.Ended = on_done over
 then_of us me f (thens.Asked caller i) = asked_then us me f caller i (slice_get (chain_of us f caller) i)
@@ -127,10 +127,8 @@ then_of us me f (thens.Broken caller i r d) = on_done (
     if is_subclass us d ERROR then broken_at us f caller (chain_of us f caller) i r d
     else makes EXCEPTION_IN_INITIALIZER_ERROR 0 (λ q.
     broken_at us f caller (chain_of us f caller) i q EXCEPTION_IN_INITIALIZER_ERROR))
-then_of us me f (thens.Missing caller i) = on_made (λ r.
-    broken_at us f caller (chain_of us f caller) i r NO_CLASS_DEF_FOUND_ERROR)
-then_of us me f (thens.Failed caller i) = on_made (λ q.
-    broken_at us f caller (chain_of us f caller) i q EXCEPTION_IN_INITIALIZER_ERROR)
+then_of us me f (thens.Error caller i c) =
+    on_made (λ r. broken_at us f caller (chain_of us f caller) i r c)
 then_of us me f (thens.Waited site r) =
     on_owner (want (Rewake r) (on_done ((use_at f site).value []))) (not_owner (use_at f site))
 then_of us me f (thens.Notified site) =

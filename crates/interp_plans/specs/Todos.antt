@@ -1,17 +1,13 @@
 -- What is left of an instruction, as a plan.
-use Rattle.std.specs.Prelude.{ℕ, Option, None, Some, List, [], ◌∷◌, ◌++◌, drop, slice_get}
+use Rattle.std.specs.Prelude.{ℕ, List, [], ◌∷◌, ◌++◌, drop}
 use Rattle.code_decode.specs.declared.code.ClassUnit.{ClassUnit}
 use Rattle.frame_snapshot.specs.declared.stage.Caller.{Caller}
 use Rattle.frame_snapshot.specs.declared.stage.Stage.{Stage}
 use Rattle.frame_snapshot.specs.declared.stage.Stage.TheVariants as stages
 use Rattle.frame_snapshot.specs.declared.todo.Todo.{Todo}
 use Rattle.frame_snapshot.specs.declared.todo.Todo.TheVariants as todos
-use Rattle.instructions.specs.declared.what.Instr.{Instr}
-use Rattle.instructions.specs.declared.what.Target.{Target}
 use Rattle.java_rows.specs.Calls.{after_call}
-use Rattle.java_rows.specs.LocalRows.{LocalRow, moves, fails_by, no_row, local_row}
 use Rattle.java_rows.specs.Plan.{at_step, notifies, finds, Frame, FrameEnd, goes, ends, Plan, want, silently, calls, ready, over, stuck, completes, thrown_in}
-use Rattle.java_rows.specs.Program.{steps_of}
 use Rattle.java_rows.specs.Thread.{begun}
 use Rattle.interp_plans.specs.declared.reached.Reached.{Reached}
 use Rattle.interp_plans.specs.declared.reached.Reached.TheVariants as reached
@@ -19,23 +15,12 @@ use Rattle.interp_plans.specs.Initializing.{chain_of, after_initializer}
 use Rattle.interp_plans.specs.Replies.{then_of}
 use Rattle.interp_plans.specs.Uses.{use_by, use_at, arguments_at, end_of, value_words}
 
--- the silent step of an instruction that needs no operation
-abbrev pub moved_by : LocalRow → Plan
-moved_by (moves g) = silently (ready (goes g))
-moved_by (fails_by c) = stuck
-moved_by no_row = stuck
-
-abbrev pub local_row_at : List ClassUnit → Frame → Option (Instr Target) → LocalRow
-local_row_at us f (Some instruction) = local_row us f instruction.what f.stack
-local_row_at us f None = no_row
-
 abbrev pub plan_of : List ClassUnit → ℕ → Frame → Todo → Plan
 plan_of us me f (todos.Wants op then) = want op (then_of us me f then)
-plan_of us me f todos.Moves = moved_by (local_row_at us f (slice_get (steps_of us f.method) f.step))
 plan_of us me f (todos.Completes site value) = silently ((use_at f site).value (value_words value))
 plan_of us me f (todos.Catches entry r) =
     silently (ready (goes (record f { step = entry; task = at_step; stack = r ∷ [] })))
-plan_of us me f (todos.Ends outcome) = silently (ready (ends (end_of f outcome)))
+plan_of us me f (todos.Ends outcome) = silently (ready (ends (end_of outcome)))
 plan_of us me f (todos.Calls id site monitor) =
     calls id (arguments_at f site) monitor (after_call (use_at f site))
 plan_of us me f (todos.Initializes id caller i) =

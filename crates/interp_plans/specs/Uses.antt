@@ -45,7 +45,7 @@ arguments_at f site = reverse (take site.operands f.stack)
 abbrev pub thrown_by : Frame → Caller → ℕ → ℕ → Plan
 thrown_by f caller = (use_by f caller []).thrown
 
-abbrev pub end_of : Frame → Outcome → FrameEnd
-end_of f (Returned n) = returned (take n f.stack)
-end_of f (Threw r c) = threw r c
-end_of f Broke = broke
+abbrev pub end_of : Outcome → FrameEnd
+end_of (Returned value) = returned (value_words value)
+end_of (Threw r c) = threw r c
+end_of Broke = broke

@@ -7,7 +7,7 @@ ghost use Rattle.interp_plans.specs.Uses.{frame_of};
 
 use crate::here::Here;
 use crate::program::JavaProgram;
-use crate::values::operands;
+use crate::values::with_operands;
 use builtin_world::number::{NEGATIVE_ARRAY_SIZE_EXCEPTION, NULL_POINTER_EXCEPTION};
 use frame_snapshot::{Then, Todo};
 use instructions::ElementKind;
@@ -61,7 +61,7 @@ impl<'a, P: JavaProgram> Here<'a, P> {
         if array == 0 {
             return self.fail(NULL_POINTER_EXCEPTION);
         }
-        Todo::Wants(Op::ClassOf(array), Then::Length(operands(1)))
+        Todo::Wants(Op::ClassOf(array), Then::Length(with_operands(1)))
     }
 
     /// A new array of a class.
@@ -78,6 +78,6 @@ impl<'a, P: JavaProgram> Here<'a, P> {
         if length >= 1 << 31 {
             return self.fail(NEGATIVE_ARRAY_SIZE_EXCEPTION);
         }
-        Todo::Wants(Op::New(class, length), Then::Made(operands(1)))
+        Todo::Wants(Op::New(class, length), Then::Made(with_operands(1)))
     }
 }

@@ -1,6 +1,9 @@
 //! What the instruction at which a frame begins comes to.
 
-ghost use Rattle.std.specs.Prelude.{◌≡◌, Some};
+ghost use Rattle.std.specs.Prelude.{◌≡◌, Some, IfSome, IsNone};
+ghost use Rattle.interp_local.specs.declared.step.LocalStep.{LocalStep};
+ghost use Rattle.interp_local.specs.Steps.{kind_of, local_now};
+ghost use Rattle.java_rows.specs.Program.{steps_of};
 ghost use Rattle.java_rows.specs.Rows.{row_with_operations, plain_plan, field_plan, call_plan, class_plan};
 ghost use Rattle.java_rows.specs.Thread.{begun};
 ghost use Rattle.interp_plans.specs.Initializing.{instruction_at};
@@ -85,19 +88,20 @@ impl<'a, P: JavaProgram> Here<'a, P> {
         }
     }
 
-    /// What is to be done at the instruction's beginning.
-    #[tactic(auto, using(crate::proofs::BeginLemmas::has_room, crate::proofs::BeginLemmas::begun_fails, crate::proofs::BeginLemmas::begun_other))]
-    pub fn begin(&self) -> Todo
-        ensures { begun (P.units self.now.program.now) self.now.thread (frame_of self.now.frames.now.here)
-            ≡ plan_of (P.units self.now.program.now) self.now.thread (frame_of self.now.frames.now.here) result }
+    /// What is to be done at the instruction's beginning; `None` where it needs no operation.
+    #[tactic(auto, using(crate::proofs::BeginLemmas::begun_none, crate::proofs::BeginLemmas::begun_other))]
+    pub fn begin(&self) -> Option<Todo>
+        ensures some { IfSome result (λ todo. begun (P.units self.now.program.now) self.now.thread (frame_of self.now.frames.now.here)
+            ≡ plan_of (P.units self.now.program.now) self.now.thread (frame_of self.now.frames.now.here) todo) }
+        ensures none { IsNone result → kind_of (local_now (P.units self.now.program.now) (steps_of (P.units self.now.program.now) self.now.frames.now.here.method) self.now.frames.now) ≡ LocalStep.Moved }
     {
-        let Some(instruction) = self.instruction() else {
-            return Todo::Stuck;
-        };
         match look_ahead(self.program, self.steps(), self.frames) {
-            LocalStep::Moved => Todo::Moves,
-            LocalStep::Throw(class) => self.fail(class),
-            LocalStep::Other => self.with_operations(&instruction.what),
+            LocalStep::Moved => None,
+            LocalStep::Throw(class) => Some(self.fail(class)),
+            LocalStep::Other => match self.instruction() {
+                Some(instruction) => Some(self.with_operations(&instruction.what)),
+                None => Some(Todo::Stuck),
+            },
         }
     }
 }

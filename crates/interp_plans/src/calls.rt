@@ -11,7 +11,7 @@ ghost use Rattle.interp_plans.specs.Uses.{frame_of};
 use crate::here::Here;
 use crate::pool::class_of_type;
 use crate::program::JavaProgram;
-use crate::values::operands;
+use crate::values::with_operands;
 use access_flags::FINAL;
 use builtin_world::number::{COUNT, NULL_POINTER_EXCEPTION, PRINT_STREAM};
 use frame_snapshot::{CallSite, Then, Todo};
@@ -23,7 +23,7 @@ impl<'a, P: JavaProgram> Here<'a, P> {
     fn call_site(&self, method: MethodId) -> CallSite
         ensures { result ≡ call_site (P.units self.now.program.now) method }
     {
-        operands(u16::from(self.program.argument_words(method)) + 1)
+        with_operands(u16::from(self.program.argument_words(method)) + 1)
     }
 
     fn calls_without_class(&self, method: MethodId) -> bool

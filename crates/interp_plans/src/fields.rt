@@ -8,7 +8,7 @@ ghost use Rattle.interp_plans.specs.Uses.{frame_of};
 
 use crate::here::Here;
 use crate::program::JavaProgram;
-use crate::values::{kept_word, operands};
+use crate::values::{kept_word, with_operands};
 use builtin_world::number::NULL_POINTER_EXCEPTION;
 use frame_snapshot::{Then, Todo};
 use interp_local::{one, three, two};
@@ -44,7 +44,7 @@ impl<'a, P: JavaProgram> Here<'a, P> {
             return self.fail(NULL_POINTER_EXCEPTION);
         }
         let write = Op::Write(object, place, kept_word(kind, word));
-        Todo::Wants(write, Then::Done(operands(2)))
+        Todo::Wants(write, Then::Done(with_operands(2)))
     }
 
     fn put_long(&self, place: u32) -> Todo

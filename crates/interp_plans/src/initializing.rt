@@ -17,7 +17,7 @@ ghost use Rattle.interp_plans.specs.Uses.{frame_of};
 use crate::here::Here;
 use crate::program::JavaProgram;
 use crate::reached::Reached;
-use crate::values::{kept_word, operands};
+use crate::values::{kept_word, with_operands};
 use frame_snapshot::{CallSite, Caller, Then, Todo, Value};
 use instructions::{Call, ClassUse, FieldAccess, Target, What};
 use interp_local::{one, two};
@@ -86,7 +86,7 @@ impl<'a, P: JavaProgram> Here<'a, P> {
             ≡ plan_of (P.units self.now.program.now) self.now.thread (frame_of self.now.frames.now.here) result }
     {
         match self.class_at(index) {
-            Some(class) => Todo::Wants(Op::New(class, 0), Then::Made(operands(0))),
+            Some(class) => Todo::Wants(Op::New(class, 0), Then::Made(with_operands(0))),
             None => Todo::Stuck,
         }
     }
@@ -123,7 +123,7 @@ impl<'a, P: JavaProgram> Here<'a, P> {
             kind => match one(self.frames) {
                 Some(word) => {
                     let write = Op::Write(object, field.place, kept_word(kind, word));
-                    Todo::Wants(write, Then::Done(operands(1)))
+                    Todo::Wants(write, Then::Done(with_operands(1)))
                 }
                 None => Todo::Stuck,
             },
@@ -154,7 +154,7 @@ impl<'a, P: JavaProgram> Here<'a, P> {
         if !self.frames.has(usize::from(words)) {
             return Todo::Stuck;
         }
-        self.invoke(named.method, operands(words))
+        self.invoke(named.method, with_operands(words))
     }
 
     fn instruction_behind(&self, what: &What<Target>) -> Todo
@@ -291,7 +291,10 @@ impl<'a, P: JavaProgram> Here<'a, P> {
             ≡ plan_of (P.units self.now.program.now) self.now.thread (frame_of self.now.frames.now.here) result }
     {
         match self.program.operand(self.frames.method().class, index) {
-            Operand::Out => Todo::Completes(operands(0), Value::Word(self.program.system_out())),
+            Operand::Out => Todo::Completes(
+                with_operands(0),
+                Value::Word(self.program.system_out()),
+            ),
             Operand::Field(_) => self.ask(Caller::Instruction, 0),
             _ => Todo::Stuck,
         }

@@ -24,3 +24,4 @@ mod values;
 pub use here::Here;
 pub use program::JavaProgram;
 pub use reached::Reached;
+pub use values::with_operands;

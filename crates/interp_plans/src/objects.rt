@@ -9,7 +9,7 @@ ghost use Rattle.interp_plans.specs.Uses.{frame_of};
 
 use crate::here::Here;
 use crate::program::JavaProgram;
-use crate::values::operands;
+use crate::values::with_operands;
 use builtin_world::number::NULL_POINTER_EXCEPTION;
 use frame_snapshot::{Outcome, Then, Todo, Value};
 use instructions::ValueKind;
@@ -29,7 +29,7 @@ impl<'a, P: JavaProgram> Here<'a, P> {
             return Todo::Stuck;
         };
         if object == 0 {
-            return Todo::Completes(operands(1), Value::Word(0));
+            return Todo::Completes(with_operands(1), Value::Word(0));
         }
         Todo::Wants(Op::ClassOf(object), Then::Cast { object, class })
     }
@@ -46,7 +46,7 @@ impl<'a, P: JavaProgram> Here<'a, P> {
             return Todo::Stuck;
         };
         if object == 0 {
-            return Todo::Completes(operands(1), Value::Word(0));
+            return Todo::Completes(with_operands(1), Value::Word(0));
         }
         Todo::Wants(Op::ClassOf(object), Then::Tested(class))
     }
@@ -62,7 +62,7 @@ impl<'a, P: JavaProgram> Here<'a, P> {
         if object == 0 {
             return self.fail(NULL_POINTER_EXCEPTION);
         }
-        Todo::Wants(Op::Enter(object), Then::Done(operands(1)))
+        Todo::Wants(Op::Enter(object), Then::Done(with_operands(1)))
     }
 
     /// A monitor is exited.
@@ -76,7 +76,7 @@ impl<'a, P: JavaProgram> Here<'a, P> {
         if object == 0 {
             return self.fail(NULL_POINTER_EXCEPTION);
         }
-        Todo::Wants(Op::Exit(object), Then::Exited(operands(1)))
+        Todo::Wants(Op::Exit(object), Then::Exited(with_operands(1)))
     }
 
     /// An object is thrown.
@@ -99,13 +99,13 @@ impl<'a, P: JavaProgram> Here<'a, P> {
             ≡ plan_of (P.units self.now.program.now) self.now.thread (frame_of self.now.frames.now.here) result }
     {
         match kind {
-            None => self.leave(Outcome::Returned(0)),
+            None => self.leave(Outcome::Returned(Value::None)),
             Some(ValueKind::Long) => match two(self.frames) {
-                Some(_) => self.leave(Outcome::Returned(2)),
+                Some((high, low)) => self.leave(Outcome::Returned(Value::Long { high, low })),
                 None => Todo::Stuck,
             },
             Some(_) => match one(self.frames) {
-                Some(_) => self.leave(Outcome::Returned(1)),
+                Some(word) => self.leave(Outcome::Returned(Value::Word(word))),
                 None => Todo::Stuck,
             },
         }

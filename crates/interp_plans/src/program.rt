@@ -16,7 +16,7 @@ pub trait JavaProgram: Constants {
     ghost use Rattle.java_rows.specs.Initialization.{statics_of};
     ghost use Rattle.java_rows.specs.Program.{argument_words, body_of, field_at, initialized_with, is_boolean_array, is_subclass, method_has, select, steps_of, takes_element};
     ghost use Rattle.link_rules.specs.Classes.{classes_of};
-    ghost use Rattle.link_rules.specs.FixedObjects.{class_object, system_out_object};
+    ghost use Rattle.link_rules.specs.FixedObjects.{arguments_object, class_object, main_thread_object, system_out_object};
     ghost use Rattle.link_rules.specs.Methods.{initializer, method_code};
     ghost use Rattle.link_rules.specs.Names.{program_names};
     ghost use Rattle.link_rules.specs.Layout.{object_words};
@@ -90,6 +90,14 @@ pub trait JavaProgram: Constants {
     /// The object that is the value of `System.out`.
     fn system_out(&self) -> u32
         ensures { result ≡ system_out_object (program_names (Self.units self.now)) };
+
+    /// The object of the thread that executes `main`.
+    fn main_thread(&self) -> u32
+        ensures { result ≡ main_thread_object (program_names (Self.units self.now)) };
+
+    /// The array with the arguments of `main`.
+    fn arguments(&self) -> u32
+        ensures { result ≡ arguments_object (program_names (Self.units self.now)) };
 
     /// How many words a new object of a class has, with so many elements where it is an array.
     fn words(&self, class: u32, elements: u32) -> u64

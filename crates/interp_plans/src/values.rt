@@ -16,7 +16,7 @@ use link_types::ValueType;
 use op_core::Op;
 
 /// A part of an instruction with so many operands.
-pub fn operands(count: u16) -> CallSite
+pub fn with_operands(count: u16) -> CallSite
     ensures { result ≡ record { caller = Caller.Instruction; operands = count } }
 {
     CallSite {
@@ -46,7 +46,7 @@ impl<'a, P: JavaProgram> Here<'a, P> {
             ≡ plan_of (P.units self.now.program.now) self.now.thread (frame_of self.now.frames.now.here) result }
     {
         let then = Then::LowRead {
-            site: operands(count),
+            site: with_operands(count),
             object,
             place: place + 1,
         };
@@ -61,7 +61,7 @@ impl<'a, P: JavaProgram> Here<'a, P> {
     {
         match kind {
             ValueType::Long => self.read_long(count, object, place),
-            _ => Todo::Wants(Op::Read(object, place), Then::Read(operands(count))),
+            _ => Todo::Wants(Op::Read(object, place), Then::Read(with_operands(count))),
         }
     }
 
@@ -72,7 +72,7 @@ impl<'a, P: JavaProgram> Here<'a, P> {
             ≡ plan_of (P.units self.now.program.now) self.now.thread (frame_of self.now.frames.now.here) result }
     {
         let then = Then::LowWritten {
-            site: operands(count),
+            site: with_operands(count),
             object,
             place: place + 1,
             high,
