@@ -95,7 +95,7 @@ known_steps code th w (closes_section none) is = knows_same refl
 abbrev pub Knows : {S : Type 0} → Words → Threads S → Type 0
 Knows {S} w threads = (u : ℕ) (th : ThreadState S) → threads u ≡ Some th → IsSettled w th.known
 
-settles : (w w' : Words) (s : ℕ) → MayBecome (w (Section s)) (w' (Section s)) → IsSettled w s → IsSettled w' s
+pub settles : (w w' : Words) (s : ℕ) → MayBecome (w (Section s)) (w' (Section s)) → IsSettled w s → IsSettled w' s
 settles w w' s moves (inl none) = inl none
 settles w w' s moves (inr so) = inr (state_moves Settled (λ no. omega (arith, no)) settled_follows (w (Section s)) (w' (Section s)) moves so)
 
@@ -145,7 +145,7 @@ module _ {S : Type 0} (code : Code S) (b : Bounds) where
   IsProbed other = ⊥
 
   -- a word that is read is safe
-  read_safe : (th : ThreadState S) (next : Next) (at w r i : ℕ) (reply : Reply) → next ≡ Want (Read r i)
+  pub read_safe : (th : ThreadState S) (next : Next) (at w r i : ℕ) (reply : Reply) → next ≡ Want (Read r i)
       → told_of next (LoadWord at) (Found w) (change_of code b th next (LoadWord at) (Found w)) (shown (change_of code b th next (LoadWord at) (Found w))) ≡ advanced (Some reply)
       → is_safe th w ≡ true
   read_safe th next at w r i reply wants gets =

@@ -11,3 +11,6 @@ pub mod UndoLemmas
 pub mod SinceLemmas
 pub mod ExampleLemmas
 pub mod CoreRunLemmas
+pub mod NumberLemmas
+pub mod InRunLemmas
+pub mod ActLemmas

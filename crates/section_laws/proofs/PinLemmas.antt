@@ -292,7 +292,7 @@ sections_apart code b c acts run k t u th uh within at there some same =
     (facts_at code b c acts run k within).apart t u th uh at there (subst (λ n. 0 < n) (sym claims) some)
     (claims ∙ same ∙ sym (claim_some uh.section (opening_of uh.stage) (subst (λ n. 0 < n) same some)))
 
-touches : {S : Type 0} {th : ThreadState S} {s old new : ℕ} → Change th s old new → s ≢ th.section → (th.section ≡ 0 → opening_of th.stage ≡ s → 0 < s → old ≡ 0)
+pub touches : {S : Type 0} {th : ThreadState S} {s old new : ℕ} → Change th s old new → s ≢ th.section → (th.section ≡ 0 → opening_of th.stage ≡ s → 0 < s → old ≡ 0)
     → old ≢ 0 → (new ≡ old) ⊎ IsTouched old new
 touches (stays is) other unopened some = inl is
 touches (is_opened none opening above live) other unopened some = absurd (some (unopened none opening above))

@@ -2,4 +2,5 @@ pub mod Runs
 pub mod Pinning
 pub mod Observed
 pub mod Undoing
+pub mod InRuns
 pub mod Example

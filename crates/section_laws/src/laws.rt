@@ -4,6 +4,7 @@ ghost use Rattle.section_laws.specs.Runs.{SectionsComeOn, SectionsComeOnInRuns, 
 ghost use Rattle.section_laws.specs.Pinning.{PinnedSectionsStay, PinnedSectionsStayInRuns};
 ghost use Rattle.section_laws.specs.Observed.{ObservedSectionsStay};
 ghost use Rattle.section_laws.specs.Undoing.{UndoingPutsBack};
+ghost use Rattle.section_laws.specs.InRuns.{RunsHaveActs, SectionsOpenOnceInRuns, SectionsAreApartInRuns, OthersSectionsStayInRuns, ObservedSectionsStayInRuns};
 ghost use Rattle.section_laws.specs.Example.{UndoneRun};
 
 use op_core::ThreadCode;
@@ -24,9 +25,21 @@ pub fn runs_begin_with_runs<C: ThreadCode>()
     ensures { RunsBeginWithRuns C.code }
 {}
 
+/// A run as one list has acts: its entries are their steps, and behind each act words and threads are those behind the
+/// entries so far. Needed: the number of the first thread was drawn as the run begins, and each other thread begins as
+/// the code says for the one that hands it out.
+pub fn runs_have_acts<C: ThreadCode>()
+    ensures { RunsHaveActs C.code }
+{}
+
 /// No number is opened twice.
 pub fn sections_open_once<C: ThreadCode>()
     ensures { SectionsOpenOnce C.code }
+{}
+
+/// Nor is one in a run as one list.
+pub fn sections_open_once_in_runs<C: ThreadCode>()
+    ensures { SectionsOpenOnceInRuns C.code }
 {}
 
 /// The number 0 is that of no section: its word stays 0.
@@ -39,10 +52,20 @@ pub fn sections_are_apart<C: ThreadCode>()
     ensures { SectionsAreApart C.code }
 {}
 
+/// Nor have they in a run as one list.
+pub fn sections_are_apart_in_runs<C: ThreadCode>()
+    ensures { SectionsAreApartInRuns C.code }
+{}
+
 /// A thread leaves the word of a section that was opened and isn't its own as it is, or pins or revokes the section
 /// while it is live: it commits and undoes no section but its own.
 pub fn others_sections_stay<C: ThreadCode>()
     ensures { OthersSectionsStay C.code }
+{}
+
+/// So it is with each entry of a run as one list.
+pub fn others_sections_stay_in_runs<C: ThreadCode>()
+    ensures { OthersSectionsStayInRuns C.code }
 {}
 
 /// A section that was pinned stays pinned until it is committed, and no act of the run, earlier or later, revokes it.
@@ -59,6 +82,11 @@ pub fn pinned_sections_stay_in_runs<C: ThreadCode>()
 /// its number.
 pub fn observed_sections_stay<C: ThreadCode>()
     ensures { ObservedSectionsStay C.code }
+{}
+
+/// So it is in each run as one list.
+pub fn observed_sections_stay_in_runs<C: ThreadCode>()
+    ensures { ObservedSectionsStayInRuns C.code }
 {}
 
 /// Where the words that are overwritten are words of objects alone (`HasPlainWords`): once a section is undone, each word

@@ -7,8 +7,9 @@
 mod laws;
 
 pub use laws::{
-    observed_sections_stay, others_sections_stay, pinned_sections_stay,
-    pinned_sections_stay_in_runs, runs_begin_with_runs, sections_are_apart, sections_are_undone,
-    sections_come_on, sections_come_on_in_runs, sections_open_once, undoing_puts_back,
-    zero_is_no_section,
+    observed_sections_stay, observed_sections_stay_in_runs, others_sections_stay,
+    others_sections_stay_in_runs, pinned_sections_stay, pinned_sections_stay_in_runs,
+    runs_begin_with_runs, runs_have_acts, sections_are_apart, sections_are_apart_in_runs,
+    sections_are_undone, sections_come_on, sections_come_on_in_runs, sections_open_once,
+    sections_open_once_in_runs, undoing_puts_back, zero_is_no_section,
 };
