@@ -8,7 +8,9 @@ pub mod KnownLemmas
 pub mod LogLemmas
 pub mod TagLemmas
 pub mod UndoLemmas
+pub mod OpenerLemmas
 pub mod SinceLemmas
+pub mod UndoInRunLemmas
 pub mod ExampleLemmas
 pub mod CoreRunLemmas
 pub mod NumberLemmas

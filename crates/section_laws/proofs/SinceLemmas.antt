@@ -20,7 +20,7 @@ use Rattle.thread_automaton.specs.Told.{after_answer, after_quiet}
 use Rattle.core_runs.specs.Cores.{Core, threads_by, core_after}
 use Rattle.core_runs.specs.Acts.{Act, quiet, did, beside, QuietAt, DidAt, BesideAt, ActAt}
 use Rattle.section_laws.specs.Runs.{IsRun}
-use Rattle.section_laws.specs.Undoing.{Overwrites, HasPlainWords, IsFirstWrite, IsPutBack, IsUndone, UndoingPutsBack}
+use Rattle.section_laws.specs.Undoing.{Overwrites, HasPlainWords, IsFirstWrite, IsPutBack, IsUndone, HasOpened, UndoingPutsBack}
 use Rattle.section_laws.proofs.WordLemmas.{state_of_zero}
 use Rattle.section_laws.proofs.DeedLemmas.{opening_of, undoing_of, view, made_quiet, Undoes, done_as}
 use Rattle.section_laws.proofs.ClaimLemmas.{is_zero, open_above, some_is, none_some}
@@ -29,6 +29,7 @@ use Rattle.section_laws.proofs.RunLemmas.{get_below, along, Known, deed_at}
 use Rattle.section_laws.proofs.PinLemmas.{did_at, opened_at, stays_open, settles_on}
 use Rattle.section_laws.proofs.LogLemmas.{In, SameSection, IsStore, idles, sheds, begins, notes, restores}
 use Rattle.section_laws.proofs.TagLemmas.{Unsettled, IsNoted, notes_it, is_shut, was_own, noted_as, same_open, not_open, shut_of, no_zero}
+use Rattle.section_laws.proofs.OpenerLemmas.{opener}
 use Rattle.section_laws.proofs.UndoLemmas.{IsPlace, TagsAt, log_step, tags_at}
 
 -- ---- what an act is
@@ -403,4 +404,10 @@ module _ {S : Type 0} (code : Code S) (b : Bounds) (c : ℕ → Core S) (acts : 
     }
 
 pub undoing_puts_back : {S : Type 0} (code : Code S) → UndoingPutsBack code
-undoing_puts_back code b c acts run plain p q t s v w opens undone = is_undone code b c acts run plain p t s v opens q w undone
+undoing_puts_back code b c acts run plain q t s w undone =
+    let within : q ≤ length acts = (let below = get_below acts q (did t (MarkUndone s w) Answer.Done) undone in omega (arith, below)) in
+    let ending = did_at code b c acts run q t (MarkUndone s w) Answer.Done undone in
+    let ends = done_as (deed_at code b c q ending (tags_at code b c acts run plain q within).0) refl in
+    let opened = opener code b c acts run q within t ending.from ending.stands (open_above ending.from ends.unpinned) in
+    let so : HasOpened acts opened.0 q t s = subst (HasOpened acts opened.0 q t) (sym ends.own) opened.1 in
+    (opened.0, so, is_undone code b c acts run plain opened.0 t s so.word so.opens q w undone)

@@ -24,7 +24,7 @@ use Rattle.core_runs.specs.OwnParts.{Quietly, OwnTo, Birth, births}
 use Rattle.core_runs.specs.Cores.{Core}
 use Rattle.core_runs.specs.Acts.{Act, quiet, did, beside}
 use Rattle.section_laws.specs.Runs.{IsRun, IsRunFrom, IsTouched}
-use Rattle.section_laws.specs.Undoing.{IsWordStep, IsUndone}
+use Rattle.section_laws.specs.Undoing.{IsWordStep, HasOpened, IsUndone}
 
 -- ---- where threads stand
 
@@ -165,10 +165,11 @@ pub record HasPlainWordsIn {S : Type 0} (code : Code S) (b : Bounds) (first : Bi
   pub in_range : (newer older : List RunEntry) → run ≡ newer ++ older → (t : ℕ) (th : ThreadState S) (op : Op)
       → StandsBehind code b first main older t th → code.next th.local ≡ Want op → IsInRange op
 
--- a section that is undone was opened by the same thread, and has been put back since: in the acts of the run
+-- A section that is undone was opened by the same thread before, and what it has overwritten was put back: in the acts
+-- of the run.
 abbrev pub UndoingPutsBackInRuns : {S : Type 0} → Code S → Type 0
 UndoingPutsBackInRuns {S} code = (b : Bounds) (first : Birth → ThreadState S) (main : Birth) (w : Words)
     (run : List RunEntry) → HasPlainWordsIn code b first main w run → (made : ActsOf code b first main w run)
     → (t s x : ℕ) → Contains run (record { thread = t; made = record { step = MarkUndone s x; answer = Done } })
-    → (p q v : ℕ) × (slice_get made.acts p ≡ Some (did t (OpenSection s v) Done))
-    × (slice_get made.acts q ≡ Some (did t (MarkUndone s x) Done)) × IsUndone made.cores made.acts p q t s
+    → (p q : ℕ) × (slice_get made.acts q ≡ Some (did t (MarkUndone s x) Done))
+    × HasOpened made.acts p q t s × IsUndone made.cores made.acts p q t s

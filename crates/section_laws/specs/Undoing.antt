@@ -70,10 +70,15 @@ pub record IsUndone {S : Type 0} (c : ℕ → Core S) (acts : List Act) (p q t s
       → (c p).threads t ≡ Some before → (c (suc q)).threads t ≡ Some behind
       → behind.local ≡ before.local
 
--- so it is with each section that is undone
+-- act number p, before act number q, is the one with which thread t has opened its section s
+pub record HasOpened (acts : List Act) (p q t s : ℕ) : Type 0 where
+  pub earlier : p < q
+  pub word : ℕ
+  pub opens : slice_get acts p ≡ Some (did t (OpenSection s word) Done)
+
+-- so it is with each section that is undone: its thread has opened it before
 abbrev pub UndoingPutsBack : {S : Type 0} → Code S → Type 0
 UndoingPutsBack {S} code = (b : Bounds) (c : ℕ → Core S) (acts : List Act)
     → IsRun code b c acts → HasPlainWords code c acts
-    → (p q t s v w : ℕ) → slice_get acts p ≡ Some (did t (OpenSection s v) Done)
-    → slice_get acts q ≡ Some (did t (MarkUndone s w) Done)
-    → IsUndone c acts p q t s
+    → (q t s w : ℕ) → slice_get acts q ≡ Some (did t (MarkUndone s w) Done)
+    → (p : ℕ) × HasOpened acts p q t s × IsUndone c acts p q t s

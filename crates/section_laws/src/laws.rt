@@ -4,7 +4,7 @@ ghost use Rattle.section_laws.specs.Runs.{SectionsComeOn, SectionsComeOnInRuns, 
 ghost use Rattle.section_laws.specs.Pinning.{PinnedSectionsStay, PinnedSectionsStayInRuns};
 ghost use Rattle.section_laws.specs.Observed.{ObservedSectionsStay};
 ghost use Rattle.section_laws.specs.Undoing.{UndoingPutsBack};
-ghost use Rattle.section_laws.specs.InRuns.{RunsHaveActs, SectionsOpenOnceInRuns, SectionsAreApartInRuns, OthersSectionsStayInRuns, ObservedSectionsStayInRuns};
+ghost use Rattle.section_laws.specs.InRuns.{RunsHaveActs, SectionsOpenOnceInRuns, SectionsAreApartInRuns, OthersSectionsStayInRuns, ObservedSectionsStayInRuns, UndoingPutsBackInRuns};
 ghost use Rattle.section_laws.specs.Example.{UndoneRun};
 
 use op_core::ThreadCode;
@@ -89,12 +89,17 @@ pub fn observed_sections_stay_in_runs<C: ThreadCode>()
     ensures { ObservedSectionsStayInRuns C.code }
 {}
 
-/// Where the words that are overwritten are words of objects alone (`HasPlainWords`): once a section is undone, each word
-/// that its thread has overwritten in it was put back, and no other word. As it was put back the word still carried the
+/// Where the words that are overwritten are words of objects alone (`HasPlainWords`): a section that is undone was opened
+/// by its thread before. Once it is undone, each word that its thread has overwritten in it was put back, and no other word. As it was put back the word still carried the
 /// section's number, and then it was as the section had found it, value and tag. As the section is noted undone, no word
 /// that is ever overwritten carries its number, and the thread stands where it stood as it was to enter.
 pub fn undoing_puts_back<C: ThreadCode>()
     ensures { UndoingPutsBack C.code }
+{}
+
+/// So it is in each run as one list, in the acts that it has (`runs_have_acts`).
+pub fn undoing_puts_back_in_runs<C: ThreadCode>()
+    ensures { UndoingPutsBackInRuns C.code }
 {}
 
 /// There are runs with all that `undoing_puts_back` asks for, in which a section overwrites a word and is undone.
