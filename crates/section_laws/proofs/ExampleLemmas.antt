@@ -207,10 +207,12 @@ BeginsSo th = (number priority : ℕ) × (l : ℕ) × (th ≡ first_state number
 
 plain_words : HasPlainWords example_code example_cores example_acts
 plain_words = record {
-  apart = λ k t at wrote j u step answer here on.
-      let five : at ≡ 5 = each_get OnlyFive example_acts k _ only_five wrote.2 at refl in
-      each_get IsApart example_acts j (did u step answer) all_apart here (on ∙ ap Object five);
-  unwritten = λ k t at wrote. no_tag;
+  overwritten = λ k t at wrote. record {
+    apart = λ j u step answer here on.
+        let five : at ≡ 5 = each_get OnlyFive example_acts k _ only_five wrote.2 at refl in
+        each_get IsApart example_acts j (did u step answer) all_apart here (on ∙ ap Object five);
+    unwritten = no_tag;
+  };
   in_range = λ k t th op within stands wants. subst HasRange wants (in_range th.local);
 }
 

@@ -11,6 +11,9 @@ pub mod UndoLemmas
 pub mod OpenerLemmas
 pub mod SinceLemmas
 pub mod UndoInRunLemmas
+pub mod GoneLemmas
+pub mod StepLemmas
+pub mod MonitorLemmas
 pub mod ExampleLemmas
 pub mod CoreRunLemmas
 pub mod NumberLemmas

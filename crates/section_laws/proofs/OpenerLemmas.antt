@@ -18,12 +18,12 @@ use Rattle.section_laws.proofs.FactLemmas.{Threads, each, not_some}
 use Rattle.section_laws.proofs.RunLemmas.{get_below, along, deed_at, facts_at}
 
 -- what a step makes of the number of the section that is open
-data NumberOf {S : Type 0} (th : ThreadState S) (step : Step) (a : Answer) (v : View S) : Type 0 where
+pub data NumberOf {S : Type 0} (th : ThreadState S) (step : Step) (a : Answer) (v : View S) : Type 0 where
   has_none : v.section ≡ 0 → NumberOf th step a v
   has_same : v.section ≡ th.section → NumberOf th step a v
   has_opened : (word : ℕ) → step ≡ OpenSection v.section word → a ≡ Answer.Done → NumberOf th step a v
 
-number_of : {S : Type 0} {code : Code S} {th : ThreadState S} {step : Step} {a : Answer} {v : View S} → Deed code th step a v → NumberOf th step a v
+pub number_of : {S : Type 0} {code : Code S} {th : ThreadState S} {step : Step} {a : Answer} {v : View S} → Deed code th step a v → NumberOf th step a v
 number_of (undoes undoing unpinned logs) = has_none refl
 number_of (closes_section none) = has_none refl
 number_of (opens_section none_open some opening none) = has_opened _ refl refl

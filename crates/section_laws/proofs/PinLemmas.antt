@@ -82,7 +82,7 @@ module _ {S : Type 0} (code : Code S) (b : Bounds) (c : ℕ → Core S) (acts : 
       let before = onwards P keeps s k d (omega (arith, within)) start in
       subst (λ n. P ((c n).words (Section s))) (omega arith) (keeps _ _ (moves_at (k + d) s (omega (arith, within))) before)
 
-  from_to : (P : ℕ → Type 0) → ((old new : ℕ) → MayBecome old new → P old → P new) → (s k j : ℕ) → k ≤ j → j ≤ length acts
+  pub from_to : (P : ℕ → Type 0) → ((old new : ℕ) → MayBecome old new → P old → P new) → (s k j : ℕ) → k ≤ j → j ≤ length acts
       → P ((c k).words (Section s)) → P ((c j).words (Section s))
   from_to P keeps s k j up within start =
       subst (λ n. P ((c n).words (Section s))) (omega (arith, up)) (onwards P keeps s k (j - k) (omega (arith, up, within)) start)
@@ -222,7 +222,7 @@ module _ {S : Type 0} (code : Code S) (b : Bounds) (c : ℕ → Core S) (acts : 
       let none = ap state_of (opened_at k u s w at_k).before ∙ state_of_zero in
       omega (arith, some, none)
 
-  opens_once : (j k t u s v w : ℕ) → slice_get acts j ≡ Some (did t (OpenSection s v) Answer.Done) → slice_get acts k ≡ Some (did u (OpenSection s w) Answer.Done) → j ≡ k
+  pub opens_once : (j k t u s v w : ℕ) → slice_get acts j ≡ Some (did t (OpenSection s v) Answer.Done) → slice_get acts k ≡ Some (did u (OpenSection s w) Answer.Done) → j ≡ k
   opens_once j k t u s v w at_j at_k =
       equal j k (not_later j k t u s v w at_j at_k) (not_later k j u t s w v at_k at_j)
     where

@@ -392,8 +392,8 @@ module _ {S : Type 0} (code : Code S) (b : Bounds) (c : ℕ → Core S) (acts : 
         | inr was ↦ was.2
       ];
       nothing_else = since.puts;
-      none_left = λ j u at wrote carries.
-          let noted = (tags q within_q).noted_by t ending.from ending.stands ends_so.unpinned (subst (Unsettled (c q).words) ends_so.own is_unsettled) at (j, u, wrote)
+      none_left = λ at heap_word carries.
+          let noted = (tags q within_q).noted_by t ending.from ending.stands ends_so.unpinned (subst (Unsettled (c q).words) ends_so.own is_unsettled) at heap_word
           (carries ∙ ends_so.own) in
           absurd (subst (In noted.0) ends_so.log noted.1);
       stands_again = λ first behind at_first at_behind.

@@ -14,7 +14,7 @@ use Rattle.core_runs.specs.WordRuns.{RunEntry}
 use Rattle.core_runs.specs.OwnParts.{Birth}
 use Rattle.core_runs.specs.Acts.{Act, quiet, did, beside}
 use Rattle.section_laws.specs.Undoing.{HasPlainWords, HasOpened, IsUndone}
-use Rattle.section_laws.specs.InRuns.{with_entry, with_entries, ActsOf, HasPlainWordsIn, UndoingPutsBackInRuns}
+use Rattle.section_laws.specs.InRuns.{with_entry, with_entries, ActsOf, OverwritesIn, HasPlainWordsIn, UndoingPutsBackInRuns}
 use Rattle.section_laws.proofs.ClaimLemmas.{none_some, some_is}
 use Rattle.section_laws.proofs.RunLemmas.{act_at}
 use Rattle.section_laws.proofs.CoreRunLemmas.{in_front, behind_front, none_there}
@@ -72,9 +72,12 @@ module _ {S : Type 0} (code : Code S) (b : Bounds) (first : Birth → ThreadStat
 
   plain_acts : HasPlainWords code made.cores made.acts
   plain_acts = record {
-    apart = λ k t at wrote j u step a here on.
-        plain.apart at (t, wrote.0, wrote.1, entry_in k t (SwapWord at wrote.0 wrote.1) Answer.Done wrote.2) (entry u step a) (entry_in j u step a here) on;
-    unwritten = λ k t at wrote. ap (λ (v : Words). tag_of (v (Object at))) made.starts ∙ plain.unwritten at (t, wrote.0, wrote.1, entry_in k t (SwapWord at wrote.0 wrote.1) Answer.Done wrote.2);
+    overwritten = λ k t at wrote.
+        let there : OverwritesIn run at = (t, wrote.0, wrote.1, entry_in k t (SwapWord at wrote.0 wrote.1) Answer.Done wrote.2) in
+        record {
+          apart = λ j u step a here on. plain.apart at there (entry u step a) (entry_in j u step a here) on;
+          unwritten = ap (λ (v : Words). tag_of (v (Object at))) made.starts ∙ plain.unwritten at there;
+        };
     in_range = λ k t th op within stands wants.
         let place = made.places k within in
         plain.in_range place.newer place.older place.parts t th op (place.threads t th stands) wants;

@@ -2,5 +2,6 @@ pub mod Runs
 pub mod Pinning
 pub mod Observed
 pub mod Undoing
+pub mod Gone
 pub mod InRuns
 pub mod Example

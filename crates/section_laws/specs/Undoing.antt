@@ -28,13 +28,16 @@ IsWordStep (SwapWord at old new) = Unit {0}
 IsWordStep (RestoreWord at old) = Unit {0}
 IsWordStep step = ⊥
 
--- The words that are overwritten are words of objects alone, and no section had written them as the run began; and
--- what threads want is in range.
-pub record HasPlainWords {S : Type 0} (code : Code S) (c : ℕ → Core S) (acts : List Act) : Type 0 where
-  pub apart : (k t at : ℕ) → Overwrites acts k t at
-      → (j u : ℕ) (step : Step) (answer : Answer) → slice_get acts j ≡ Some (did u step answer)
+-- a word of an object that code reads and writes: no other steps are made on it, and no section had written it as the
+-- run began
+pub record IsHeapWord {S : Type 0} (c : ℕ → Core S) (acts : List Act) (at : ℕ) : Type 0 where
+  pub apart : (j u : ℕ) (step : Step) (answer : Answer) → slice_get acts j ≡ Some (did u step answer)
       → place_of step ≡ Object at → IsWordStep step
-  pub unwritten : (k t at : ℕ) → Overwrites acts k t at → tag_of ((c 0).words (Object at)) ≡ 0
+  pub unwritten : tag_of ((c 0).words (Object at)) ≡ 0
+
+-- Only such words are overwritten, and what threads want is in range.
+pub record HasPlainWords {S : Type 0} (code : Code S) (c : ℕ → Core S) (acts : List Act) : Type 0 where
+  pub overwritten : (k t at : ℕ) → Overwrites acts k t at → IsHeapWord c acts at
   pub in_range : (k t : ℕ) (th : ThreadState S) (op : Op) → k ≤ length acts
       → (c k).threads t ≡ Some th → code.next th.local ≡ Want op → IsInRange op
 
@@ -63,8 +66,8 @@ pub record IsUndone {S : Type 0} (c : ℕ → Core S) (acts : List Act) (p q t s
   -- and no other word
   pub nothing_else : (i at old : ℕ) → p < i → i < q → slice_get acts i ≡ Some (did t (RestoreWord at old) Done)
       → IsPutBack c acts p i t s at
-  -- no word that is ever overwritten carries its number then
-  pub none_left : (j u at : ℕ) → Overwrites acts j u at → tag_of ((c q).words (Object at)) ≡ s → ⊥
+  -- no word carries its number then
+  pub none_left : (at : ℕ) → IsHeapWord c acts at → tag_of ((c q).words (Object at)) ≡ s → ⊥
   -- its thread stands where it stood as it was to enter
   pub stands_again : (before behind : ThreadState S)
       → (c p).threads t ≡ Some before → (c (suc q)).threads t ≡ Some behind

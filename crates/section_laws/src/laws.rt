@@ -4,6 +4,7 @@ ghost use Rattle.section_laws.specs.Runs.{SectionsComeOn, SectionsComeOnInRuns, 
 ghost use Rattle.section_laws.specs.Pinning.{PinnedSectionsStay, PinnedSectionsStayInRuns};
 ghost use Rattle.section_laws.specs.Observed.{ObservedSectionsStay};
 ghost use Rattle.section_laws.specs.Undoing.{UndoingPutsBack};
+ghost use Rattle.section_laws.specs.Gone.{UndoneSectionsAreGone};
 ghost use Rattle.section_laws.specs.InRuns.{RunsHaveActs, SectionsOpenOnceInRuns, SectionsAreApartInRuns, OthersSectionsStayInRuns, ObservedSectionsStayInRuns, UndoingPutsBackInRuns};
 ghost use Rattle.section_laws.specs.Example.{UndoneRun};
 
@@ -100,6 +101,11 @@ pub fn undoing_puts_back<C: ThreadCode>()
 /// So it is in each run as one list, in the acts that it has (`runs_have_acts`).
 pub fn undoing_puts_back_in_runs<C: ThreadCode>()
     ensures { UndoingPutsBackInRuns C.code }
+{}
+
+/// Once a section is noted undone, no word of an object carries its number again, and no monitor is held by it again.
+pub fn undone_sections_are_gone<C: ThreadCode>()
+    ensures { UndoneSectionsAreGone C.code }
 {}
 
 /// There are runs with all that `undoing_puts_back` asks for, in which a section overwrites a word and is undone.
