@@ -19,7 +19,7 @@ use Rattle.core_runs.specs.OwnParts.{is_beside}
 use Rattle.core_runs.specs.Cores.{Core, threads_by}
 use Rattle.core_runs.specs.Acts.{Act, quiet, did, beside, DidAt, ActAt}
 use Rattle.section_laws.specs.Runs.{IsRun}
-use Rattle.section_laws.specs.Undoing.{HasPlainWords, HasOpened, IsHeapWord}
+use Rattle.section_laws.specs.Undoing.{HasPlainWords, IsHeapWord}
 use Rattle.section_laws.proofs.DeedLemmas.{view, Undoes, done_as}
 use Rattle.section_laws.proofs.ClaimLemmas.{open_above}
 use Rattle.section_laws.proofs.FactLemmas.{Threads, each}
@@ -28,7 +28,7 @@ use Rattle.section_laws.proofs.PinLemmas.{Settled, Gone, state_moves, gone_follo
 use Rattle.section_laws.proofs.LogLemmas.{In, idles, sheds, begins, notes, restores}
 use Rattle.section_laws.proofs.KnownLemmas.{IsSettled}
 use Rattle.section_laws.proofs.UndoLemmas.{log_step, tags_at}
-use Rattle.section_laws.proofs.OpenerLemmas.{NumberOf, has_none, has_same, has_opened, number_of, opener}
+use Rattle.section_laws.proofs.OpenerLemmas.{SectionStep, has_none, has_same, has_opened, section_step, Opener, opener}
 use Rattle.section_laws.proofs.SinceLemmas.{undoing_puts_back}
 
 -- what is so at a place, and stays so with each act from there on, is so at each later place
@@ -60,14 +60,14 @@ module _ {S : Type 0} (code : Code S) (b : Bounds) (c : ℕ → Core S) (acts : 
   pub some_section : 0 < s
   some_section = subst (λ n. 0 < n) (sym ends_so.own) (open_above ending.from ends_so.unpinned)
 
-  abbrev opened : (p : ℕ) × HasOpened acts p q t ending.from.section
+  abbrev opened : Opener code b c acts run q t ending.from
   opened = opener code b c acts run q within_q t ending.from ending.stands (open_above ending.from ends_so.unpinned)
 
   not_opened : (k u v : ℕ) → q ≤ k → slice_get acts k ≡ Some (did u (OpenSection s v) Answer.Done) → ⊥
   not_opened k u v up here =
-      let same : opened.0 ≡ k = opens_once code b c acts run opened.0 k t u s opened.1.word v
-      (opened.1.opens ∙ ap (λ n. Some (did t (OpenSection n opened.1.word) Answer.Done)) (sym ends_so.own)) here in
-      let low = opened.1.earlier in
+      let same : opened.place ≡ k = opens_once code b c acts run opened.place k t u s opened.opened.word v
+      (opened.opened.opens ∙ ap (λ n. Some (did t (OpenSection n opened.opened.word) Answer.Done)) (sym ends_so.own)) here in
+      let low = opened.opened.earlier in
       omega (arith, same, low, up)
 
   -- ---- no thread has it open
@@ -102,16 +102,16 @@ module _ {S : Type 0} (code : Code S) (b : Bounds) (c : ℕ → Core S) (acts : 
   act_closed k (beside u step a) up here at closed = subst (λ z. Closed z.threads) (sym at.leads) closed
   act_closed k (did u step a) up here at closed =
       did_closed k u step a at
-      (λ is. by_number is (number_of (deed_at code b c k at (facts_at code b c acts run k (let below = get_below acts k (did u step a) here in omega (arith, below))))))
+      (λ is. by_number is (section_step (deed_at code b c k at (facts_at code b c acts run k (let below = get_below acts k (did u step a) here in omega (arith, below))))))
       (λ v vh other there is. closed v vh there is)
     where
       y : ThreadState S
       y = after_answer code b at.from step a
 
-      by_number : y.section ≡ s → NumberOf at.from step a (view y) → ⊥
+      by_number : y.section ≡ s → SectionStep at.from step a (view y) → ⊥
       by_number is (has_none none) = not_zero y.section none is
-      by_number is (has_same same) = closed u at.from at.stands (sym same ∙ is)
-      by_number is (has_opened word opens done) =
+      by_number is (has_same same saves) = closed u at.from at.stands (sym same ∙ is)
+      by_number is (has_opened word opens done saves) =
           not_opened k u word up (here ∙ ap (λ z. Some (did u z a)) opens ∙ ap (λ z. Some (did u (OpenSection y.section word) z)) done ∙ ap (λ n. Some (did u (OpenSection n word) Answer.Done)) is)
 
   -- once it is undone no thread has it open

@@ -14,6 +14,7 @@ pub mod UndoInRunLemmas
 pub mod GoneLemmas
 pub mod StepLemmas
 pub mod MonitorLemmas
+pub mod OrderLemmas
 pub mod ExampleLemmas
 pub mod CoreRunLemmas
 pub mod NumberLemmas

@@ -88,7 +88,7 @@ put_object w at v = ap (λ t. if t then v else w (Object at)) (same at)
     same : (n : ℕ) → nat_eq n n ≡ true
     same n = grind (arith, common_steps, nat_tests)
 
-shut_after : (a : Bool) → (a && false) ≡ false
+pub shut_after : (a : Bool) → (a && false) ≡ false
 shut_after true = refl
 shut_after false = refl
 

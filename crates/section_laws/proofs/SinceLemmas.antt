@@ -409,5 +409,5 @@ undoing_puts_back code b c acts run plain q t s w undone =
     let ending = did_at code b c acts run q t (MarkUndone s w) Answer.Done undone in
     let ends = done_as (deed_at code b c q ending (tags_at code b c acts run plain q within).0) refl in
     let opened = opener code b c acts run q within t ending.from ending.stands (open_above ending.from ends.unpinned) in
-    let so : HasOpened acts opened.0 q t s = subst (HasOpened acts opened.0 q t) (sym ends.own) opened.1 in
-    (opened.0, so, is_undone code b c acts run plain opened.0 t s so.word so.opens q w undone)
+    let so : HasOpened acts opened.place q t s = subst (HasOpened acts opened.place q t) (sym ends.own) opened.opened in
+    (opened.place, so, is_undone code b c acts run plain opened.place t s so.word so.opens q w undone)

@@ -4,6 +4,7 @@ ghost use Rattle.section_laws.specs.Runs.{SectionsComeOn, SectionsComeOnInRuns, 
 ghost use Rattle.section_laws.specs.Pinning.{PinnedSectionsStay, PinnedSectionsStayInRuns};
 ghost use Rattle.section_laws.specs.Observed.{ObservedSectionsStay};
 ghost use Rattle.section_laws.specs.Undoing.{UndoingPutsBack};
+ghost use Rattle.section_laws.specs.UndoOrder.{UndoingGoesInOrder};
 ghost use Rattle.section_laws.specs.Gone.{UndoneSectionsAreGone};
 ghost use Rattle.section_laws.specs.InRuns.{RunsHaveActs, SectionsOpenOnceInRuns, SectionsAreApartInRuns, OthersSectionsStayInRuns, ObservedSectionsStayInRuns, UndoingPutsBackInRuns};
 ghost use Rattle.section_laws.specs.Example.{UndoneRun};
@@ -101,6 +102,13 @@ pub fn undoing_puts_back<C: ThreadCode>()
 /// So it is in each run as one list, in the acts that it has (`runs_have_acts`).
 pub fn undoing_puts_back_in_runs<C: ThreadCode>()
     ensures { UndoingPutsBackInRuns C.code }
+{}
+
+/// A thread that finds its section revoked makes, until the section is noted undone, the steps of undoing and nothing
+/// else: it puts each word of its log back, the last one first, behind them it releases each monitor that it holds, and
+/// then it notes the section undone. Then it wants to enter again, as it did where it opened the section.
+pub fn undoing_goes_in_order<C: ThreadCode>()
+    ensures { UndoingGoesInOrder C.code }
 {}
 
 /// Once a section is noted undone, no word of an object carries its number again, and no monitor is held by it again.
