@@ -22,13 +22,13 @@ use Rattle.automaton_rows.proofs.RowLemmas.{words_can_answer}
 use Rattle.automaton_rows.proofs.FitLemmas.{answers_keep, silent_steps_keep}
 use Rattle.core_runs.specs.WordRuns.{StepMade, RunEntry, words_by, part_of}
 use Rattle.core_runs.specs.OwnParts.{is_beside, Quietly, MakesOwn, OwnTo, IsOwnPart, Birth, births_after, births, IsCoreRun}
-use Rattle.section_laws.specs.Runs.{BeginsAt, MayBecome, SectionsComeOnInRuns, RunsBeginWithRuns}
+use Rattle.section_laws.specs.Runs.{BeginsAt, RunsBeginWithRuns}
 use Rattle.section_laws.specs.Pinning.{StaysPinnedIn, PinnedSectionsStayInRuns}
 use Rattle.section_laws.proofs.WordLemmas.{state_replaced, is_state, exchanged, put_section}
 use Rattle.section_laws.proofs.DeedLemmas.{view, calm, Deed, deed_of, done_as}
 use Rattle.section_laws.proofs.ClaimLemmas.{section_changes}
 use Rattle.section_laws.proofs.FactLemmas.{Facts, came_other, came_own, step_facts, Calmed, as_before, calmed, still_facts, first_facts, beside_facts}
-use Rattle.section_laws.proofs.PinLemmas.{Settled, Gone, state_moves, settled_follows, gone_follows, change_moves, beside_stays}
+use Rattle.section_laws.proofs.PinLemmas.{Moves, Settled, Gone, state_moves, settled_follows, gone_follows, change_moves, beside_stays}
 
 -- ---- lists
 
@@ -179,7 +179,7 @@ module _ {S : Type 0} (code : Code S) (b : Bounds) where
                 (subst (IsFit code) (sym does.1) (answers_keep code b z e.made.step e.made.answer (facts.fit e.thread z there) does.0 can))
           ])
 
-      pub entry_moves : (t : Bool) → is_beside e.made.step ≡ t → (s : ℕ) → MayBecome (before (Section s)) (words_after e.made.step before (Section s))
+      pub entry_moves : (t : Bool) → is_beside e.made.step ≡ t → (s : ℕ) → Moves (before (Section s)) (words_after e.made.step before (Section s))
       entry_moves true is s = inl (beside_stays e.made.step before s is)
       entry_moves false is s =
           let one = maker e run so is in
@@ -194,7 +194,7 @@ module _ {S : Type 0} (code : Code S) (b : Bounds) where
     abbrev pub state : List RunEntry → ℕ → ℕ
     state run s = state_of (words_by w run (Section s))
 
-    pub onwards : (P : ℕ → Type 0) → ((old new : ℕ) → MayBecome old new → P (state_of old) → P (state_of new)) → (e : RunEntry) (run : List RunEntry) → IsRun (e ∷ run) → (s : ℕ)
+    pub onwards : (P : ℕ → Type 0) → ((old new : ℕ) → Moves old new → P (state_of old) → P (state_of new)) → (e : RunEntry) (run : List RunEntry) → IsRun (e ∷ run) → (s : ℕ)
         → P (state run s) → P (state (e ∷ run) s)
     onwards P keeps e run so s = keeps _ _ (entry_moves e run so (run_facts run (sub_run e run so)) (is_beside e.made.step) refl s)
 
@@ -249,11 +249,6 @@ module _ {S : Type 0} (code : Code S) (b : Bounds) where
 
 pub pinned_stay_in_runs : {S : Type 0} (code : Code S) → PinnedSectionsStayInRuns code
 pinned_stay_in_runs code b first main w run so t s x there = stays_pinned_in code b first main w so.sections so.threads run so.is_run t s x there
-
-pub come_on_in_runs : {S : Type 0} (code : Code S) → SectionsComeOnInRuns code
-come_on_in_runs code b first main w e run so s =
-    entry_moves code b first main w so.sections so.threads e run so.is_run
-    (run_facts code b first main w so.sections so.threads run (sub_run code b first main w so.sections so.threads e run so.is_run)) (is_beside e.made.step) refl s
 
 pub begin_with_runs : {S : Type 0} (code : Code S) → RunsBeginWithRuns code
 begin_with_runs code b first main w e run so =

@@ -1,29 +1,33 @@
 -- The laws of sections in runs as lists.
-use Rattle.std.proofs.Common.{◌≡◌, ◌≢◌, ◌⊎◌, inl, inr, ℕ, zero, suc, ◌<◌, Bool, true, false, Some, List, [], ◌∷◌, ◌++◌, refl, sym, ◌∙◌, ap, subst, arith}
-use Rattle.std.specs.Prelude.{Contains, slice_get}
+use Rattle.std.proofs.Common.{◌≡◌, ◌≢◌, ◌⊎◌, inl, inr, ℕ, zero, suc, ◌<◌, Bool, true, false, true≢false, nat_eq, Some, List, [], ◌∷◌, ◌++◌, refl, sym, ◌∙◌, ap, subst, arith}
+use Rattle.std.specs.Prelude.{Contains, slice_get, if◌then◌else◌}
+use Rattle.std.proofs.lemmas.Grind.{common_steps}
+use Rattle.std.proofs.lemmas.Bool.Decides.{nat_tests}
 use Rattle.op_core.specs.ThreadCode.{Code}
 use Rattle.heap_words.specs.declared.areas.Area.TheVariants.{Section}
 use Rattle.section_state.specs.SectionWord.{state_of}
+use Rattle.section_state.specs.declared.State.TheVariants.{Live}
 use Rattle.step_port.specs.declared.answer.Answer.{Answer}
+use Rattle.step_port.specs.declared.step.Step.{Step}
 use Rattle.step_port.specs.declared.step.Step.TheVariants.{OpenSection, Revoke}
-use Rattle.step_port.specs.Words.{Words}
+use Rattle.step_port.specs.Words.{Words, answer_of, words_after}
 use Rattle.thread_automaton.specs.declared.Bounds.{Bounds}
 use Rattle.thread_automaton.specs.declared.Move.TheVariants.{Make}
-use Rattle.thread_automaton.specs.ThreadState.{ThreadState}
+use Rattle.thread_automaton.specs.ThreadState.{ThreadState, own_word}
 use Rattle.thread_automaton.specs.NextMove.{next_move}
 use Rattle.thread_automaton.specs.Checks.{is_safe}
 use Rattle.thread_automaton.specs.Told.{after_answer}
-use Rattle.core_runs.specs.WordRuns.{StepMade, RunEntry, words_by}
-use Rattle.core_runs.specs.OwnParts.{is_beside, Quietly, MakesOwn, Birth, IsCoreRun}
-use Rattle.section_laws.specs.Runs.{BeginsAt, IsTouched}
-use Rattle.section_laws.specs.InRuns.{StandsBehind, IsMaker, SectionsOpenOnceInRuns, SectionsAreApartInRuns, OthersSectionsStayInRuns, ReadsIn, WritesOverIn, ObservesIn, ObservedSectionsStayInRuns}
+use Rattle.core_runs.specs.WordRuns.{StepMade, RunEntry, words_by, part_of}
+use Rattle.core_runs.specs.OwnParts.{is_beside, Quietly, MakesOwn, OwnTo, Birth, births, IsCoreRun}
+use Rattle.section_laws.specs.Runs.{BeginsAt, MayBecome, IsTouched}
+use Rattle.section_laws.specs.InRuns.{StandsBehind, IsMaker, OpensWith, SectionsComeOnInRuns, SectionsOpenOnceInRuns, SectionsAreApartInRuns, OthersSectionsStayInRuns, ReadsIn, WritesOverIn, ObservesIn, ObservedSectionsStayInRuns}
 use Rattle.section_laws.proofs.WordLemmas.{state_of_zero, put_section, state_packed}
 use Rattle.section_laws.proofs.DeedLemmas.{opening_of, view, Deed, done_as}
 use Rattle.section_laws.proofs.ClaimLemmas.{is_zero, above, claim_some, section_changes, some_is}
 use Rattle.section_laws.proofs.FactLemmas.{Facts}
-use Rattle.section_laws.proofs.PinLemmas.{Settled, Gone, state_moves, settled_follows, some_follows, touches}
+use Rattle.section_laws.proofs.PinLemmas.{Settled, Gone, state_moves, settled_follows, some_follows, touches, change_becomes, was_unopened, opens_it, beside_stays}
 use Rattle.section_laws.proofs.KnownLemmas.{IsSettled, safe_cases, knows_same, knows_now, known_steps, settles, read_safe}
-use Rattle.section_laws.proofs.CoreRunLemmas.{none_there, behind_front, in_front, StandsIn, sub_run, made, by_other, by_itself, maker, deed_by, entry_moves, run_facts, onwards, gone_in}
+use Rattle.section_laws.proofs.CoreRunLemmas.{begun_later, none_there, behind_front, in_front, StandsIn, sub_run, made, by_other, by_itself, maker, deed_by, entry_moves, run_facts, onwards, gone_in}
 
 -- an item at a place is one of the list
 pub is_in_list : {A : Type 0} (xs : List A) (k : ℕ) (x : A) → slice_get xs k ≡ Some x → Contains xs x
@@ -33,6 +37,9 @@ is_in_list [] k x at = absurd (no_item k at)
     no_item k at = cc
 is_in_list (y ∷ xs) zero x at = (0, omega arith, some_is y x at)
 is_in_list (y ∷ xs) (suc k) x at = behind_front y x xs (is_in_list xs k x at)
+
+abbrev made_as : Step → Answer → StepMade
+made_as step a = record { step = step; answer = a }
 
 module _ {S : Type 0} (code : Code S) (b : Bounds) (first : Birth → ThreadState S) (main : Birth) (w : Words) (none : (s : ℕ) → w (Section s) ≡ 0)
     (fresh : (birth : Birth) → BeginsAt (first birth)) where
@@ -181,6 +188,64 @@ module _ {S : Type 0} (code : Code S) (b : Bounds) (first : Birth → ThreadStat
       not_both : (n : ℕ) → Settled n → Gone n → ⊥
       not_both n settled gone = omega (arith, settled, gone)
 
+  -- ---- how sections come on
+
+  -- the thread that makes a step
+  maker_in : (e : RunEntry) (run : List RunEntry) → IsOne (e ∷ run) → is_beside e.made.step ≡ false → (th : ThreadState S) × IsMaker code b first main e run th
+  maker_in e run so stays =
+      let birth : Birth = so.begun.1.0 in
+      let part = so.own birth (begun_later e.made.step (births main run) birth so.begun.1.1) in
+      let own = by_test (nat_eq e.thread birth.number) (same e.thread birth.number so.begun.1.2) birth part.0 part.1 in (
+        own.1,
+        record {
+          stands = record {
+            birth = birth;
+            begun = so.begun.1.1;
+            number = so.begun.1.2;
+            last = own.0;
+            own = subst (λ n. OwnTo code b (first birth) (part_of n run) own.0) so.begun.1.2 own.3;
+            moves = own.2;
+            quietly = own.4;
+          };
+          makes = (subst (λ t. MakesOwn t code b e.made own.1 part.0) stays own.5).0;
+        },
+      )
+    where
+      same : (m n : ℕ) → n ≡ m → nat_eq m n ≡ true
+      same m n is = grind (arith, common_steps, nat_tests)
+
+      by_test : (t : Bool) → t ≡ true → (x : Birth) (y : ThreadState S) → OwnTo code b (first x) (if t then e.made ∷ part_of x.number run else part_of x.number run) y
+          → OwnTo code b (first x) (e.made ∷ part_of x.number run) y
+      by_test true is x y own = own
+      by_test false is x y own = absurd (true≢false (sym is))
+
+  opens_in : (e : RunEntry) (run : List RunEntry) → IsOne (e ∷ run) → (s : ℕ) (th : ThreadState S) → IsMaker code b first main e run th
+      → th.section ≡ 0 → opening_of th.stage ≡ s → 0 < s → OpensWith code b first main w e run s
+  opens_in e run so s th by closed opens some =
+      let it = opens_it code b th e.made.step by.makes s opens some in
+      let done : e.made.answer ≡ Answer.Done = so.words.1 ∙ ap (answer_of (words_by w run)) it.1 in
+      let deed = subst (λ m. Deed code th m e.made.answer (view (after_answer code b th e.made.step e.made.answer))) it.1 (deed_in e run so th (stands_in by.stands) by.makes) in
+      let word : it.0 ≡ own_word th Live = (done_as deed done).word in
+      record {
+        th = th;
+        maker = by;
+        opens = ap (λ m. made_as m e.made.answer) it.1 ∙ ap (made_as (OpenSection s it.0)) done ∙ ap (λ v. made_as (OpenSection s v) Answer.Done) word;
+        unopened = was_unopened code (words_by w run) (StandsIn code b run) (facts_in run (shorter e run so)) e.thread th (stands_in by.stands) s closed opens some;
+        leads = ap (λ m. words_after m (words_by w run) (Section s)) it.1 ∙ put_section (words_by w run) s it.0 ∙ word;
+      }
+
+  comes_on : (e : RunEntry) (run : List RunEntry) → IsOne (e ∷ run) → (s : ℕ)
+      → MayBecome (OpensWith code b first main w e run s) (words_by w run (Section s)) (words_by w (e ∷ run) (Section s))
+  comes_on e run so s = by_test (is_beside e.made.step) refl
+    where
+      by_test : (t : Bool) → is_beside e.made.step ≡ t → MayBecome (OpensWith code b first main w e run s) (words_by w run (Section s)) (words_by w (e ∷ run) (Section s))
+      by_test true is = inl (beside_stays e.made.step (words_by w run) s is)
+      by_test false is =
+          let one = maker_in e run so is in
+          change_becomes code (words_by w run) (StandsIn code b run) (facts_in run (shorter e run so)) e.thread one.0 (stands_in one.1.stands) s _
+          (λ closed opens some live. opens_in e run so s one.0 one.1 closed opens some)
+          (section_changes code one.0 (words_by w run) (deed_in e run so one.0 (stands_in one.1.stands) one.1.makes) so.words.1 s)
+
   apart : (run : List RunEntry) → IsOne run → (t u : ℕ) (th uh : ThreadState S) → StandsIn code b run t th → StandsIn code b run u uh → 0 < th.section → th.section ≡ uh.section → t ≡ u
   apart run so t u th uh at there some same =
       let claims = claim_some th.section (opening_of th.stage) some in
@@ -200,3 +265,6 @@ others_stay_in_runs code b first main w e run so s th by other some = others cod
 
 pub observed_stay_in_runs : {S : Type 0} (code : Code S) → ObservedSectionsStayInRuns code
 observed_stay_in_runs code b first main w newer e run so s some sees u x there = observed code b first main w so.sections so.threads newer e run so.is_run s some sees u x there
+
+pub come_on_in_runs : {S : Type 0} (code : Code S) → SectionsComeOnInRuns code
+come_on_in_runs code b first main w e run so s = comes_on code b first main w so.sections so.threads e run so.is_run s

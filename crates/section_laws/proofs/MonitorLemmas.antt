@@ -27,14 +27,14 @@ use Rattle.automaton_rows.proofs.RowLemmas.{answers_are_rows}
 use Rattle.core_runs.specs.OwnParts.{is_beside}
 use Rattle.core_runs.specs.Cores.{Core, threads_by}
 use Rattle.core_runs.specs.Acts.{Act, quiet, did, beside, DidAt, ActAt}
-use Rattle.section_laws.specs.Runs.{MayBecome, IsRun}
+use Rattle.section_laws.specs.Runs.{IsRun}
 use Rattle.section_laws.specs.Gone.{IsMonitorStep, IsMonitor, UndoneSectionsAreGone}
 use Rattle.section_laws.proofs.WordLemmas.{state_of_zero, exchanged, stays_at}
 use Rattle.section_laws.proofs.DeedLemmas.{opening_of, view, deed_of}
 use Rattle.section_laws.proofs.ClaimLemmas.{claim, claim_of, claim_calm, claim_some, keeps, takes, claim_steps, found_is, none_some, some_is}
 use Rattle.section_laws.proofs.FactLemmas.{Threads, InThreads, Facts, each}
 use Rattle.section_laws.proofs.RunLemmas.{get_below, along, Known, facts_at}
-use Rattle.section_laws.proofs.PinLemmas.{state_moves, some_follows, act_moves}
+use Rattle.section_laws.proofs.PinLemmas.{Moves, state_moves, some_follows, act_moves}
 use Rattle.section_laws.proofs.LogLemmas.{In, object_is, object_other, put_object}
 use Rattle.section_laws.proofs.StepLemmas.{WithinLimit, StoresMonitor, held_by, deepens_at, MonitorStep, leaves_all, looks, opens_one, closes_one, takes_one, deepens_one, releases_one, monitor_steps, limit_steps}
 use Rattle.section_laws.proofs.GoneLemmas.{along_from, beside_object, ending, ends_so, some_section, closed_later, free_later}
@@ -130,7 +130,7 @@ module _ {S : Type 0} (code : Code S) (b : Bounds) (small : b.limits.sections < 
     (facts : Facts code w (InThreads threads)) (before : Monitors b Is w threads) (t : ℕ) (th : ThreadState S) (stands : threads t ≡ Some th)
     (step : Step) (a : Answer) (makes : next_move code b th ≡ Make step) (is : a ≡ answer_of w step)
     (only : (r : ℕ) → Is r → place_of step ≡ Object (r + 1) → IsMonitorStep step)
-    (moves : (s : ℕ) → MayBecome (w (Section s)) (words_after step w (Section s))) where
+    (moves : (s : ℕ) → Moves (w (Section s)) (words_after step w (Section s))) where
   abbrev after : Words
   after = words_after step w
 
@@ -347,7 +347,7 @@ module _ {S : Type 0} (code : Code S) (b : Bounds) (c : ℕ → Core S) (acts : 
       subst (λ z. Monitors b Is z.words z.threads) (sym at.leads) (handed_monitors code b Is (words_after step (c k).words) step at.from.local _
       (step_monitors code b small Is (c k).words (c k).threads facts before t at.from at.stands step a at.move at.answered
       (λ r is_monitor on. is_monitor.apart k t step a here on)
-      (λ s. subst (λ z. MayBecome ((c k).words (Section s)) (z.words (Section s))) at.leads (act_moves code b c k (did t step a) at facts s))))
+      (λ s. subst (λ z. Moves ((c k).words (Section s)) (z.words (Section s))) at.leads (act_moves code b c k (did t step a) at facts s))))
   act_monitors k (beside t step a) here at facts before =
       subst (λ z. Monitors b Is z.words z.threads) (sym at.leads) (record {
         numbered = λ r is_monitor. elim (before.numbered r is_monitor) [
@@ -407,10 +407,10 @@ module _ {S : Type 0} (code : Code S) (b : Bounds) (c : ℕ → Core S) (acts : 
         let now : holder (words_after step (c k).words) r ≡ s = sym (ap (λ z. holder z.words r) at.leads) ∙ carries in
         elim (becomes code b small Is (c k).words (c k).threads so.0 so.1 u at.from at.stands step a at.move at.answered
         (λ q is_one on. is_one.apart k u step a here on)
-        (λ n. subst (λ z. MayBecome ((c k).words (Section n)) (z.words (Section n))) at.leads (act_moves code b c k (did u step a) at so.0 n)) r is_monitor
+        (λ n. subst (λ z. Moves ((c k).words (Section n)) (z.words (Section n))) at.leads (act_moves code b c k (did u step a) at so.0 n)) r is_monitor
         (made_so code b small Is (c k).words (c k).threads so.0 so.1 u at.from at.stands step a at.move at.answered
         (λ q is_one on. is_one.apart k u step a here on)
-        (λ n. subst (λ z. MayBecome ((c k).words (Section n)) (z.words (Section n))) at.leads (act_moves code b c k (did u step a) at so.0 n)))) [
+        (λ n. subst (λ z. Moves ((c k).words (Section n)) (z.words (Section n))) at.leads (act_moves code b c k (did u step a) at so.0 n)))) [
           | as_before same ↦ free r is_monitor (sym same ∙ now)
           | own_now same ↦ closed_later code b c acts run q t s v undone k up within u at.from at.stands (sym same ∙ now)
           | free_now same ↦ not_both s some_s (sym now ∙ same)

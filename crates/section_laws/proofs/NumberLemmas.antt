@@ -1,9 +1,8 @@
 -- The numbers of threads along a run: each thread that is handed out has a number of its own.
 use Rattle.std.proofs.Common.{◌≡◌, ◌≢◌, ◌⊎◌, inl, inr, ℕ, zero, suc, ◌+◌, ◌<◌, ◌≤◌, ◌&&◌, Bool, true, false, true≢false, None, Some, List, [], ◌∷◌, refl, sym, ◌∙◌, ap, subst, arith}
-use Rattle.std.specs.Prelude.{Contains, nat_le, if◌then◌else◌}
+use Rattle.std.specs.Prelude.{Contains, nat_le}
 use Rattle.op_core.specs.declared.Op.{Op}
 use Rattle.op_core.specs.declared.Op.TheVariants.{Wait, Print, Start, Init, InitDone, End}
-use Rattle.op_core.specs.declared.Limit.TheVariants.{Turns}
 use Rattle.op_core.specs.declared.Next.{Next}
 use Rattle.op_core.specs.declared.Next.TheVariants.{Silent, Want, Ended}
 use Rattle.op_core.specs.ThreadCode.{Code, leaves_any}
@@ -18,7 +17,7 @@ use Rattle.step_port.specs.Steps.{place_of, effect_of}
 use Rattle.step_port.specs.Words.{Words, CanAnswer, answer_of, words_after}
 use Rattle.thread_automaton.specs.declared.Bounds.{Bounds}
 use Rattle.thread_automaton.specs.declared.Move.{Move}
-use Rattle.thread_automaton.specs.declared.Move.TheVariants.{Over, Quiet, Stop, Make}
+use Rattle.thread_automaton.specs.declared.Move.TheVariants.{Quiet, Make}
 use Rattle.thread_automaton.specs.declared.Stage.{Stage}
 use Rattle.thread_automaton.specs.declared.Stage.TheVariants.{Begin, Checked, Fixed, Undoing, Full}
 use Rattle.thread_automaton.specs.ThreadState.{ThreadState, is_open}
@@ -34,6 +33,7 @@ use Rattle.core_runs.specs.WordRuns.{RunEntry, words_by}
 use Rattle.core_runs.specs.OwnParts.{is_beside, Quietly, MakesOwn, Birth, births_after, births}
 use Rattle.section_laws.specs.Runs.{BeginsAt}
 use Rattle.section_laws.proofs.WordLemmas.{by_if, stays_at}
+use Rattle.section_laws.proofs.DeedLemmas.{makes_it}
 use Rattle.section_laws.proofs.ClaimLemmas.{found_is}
 use Rattle.section_laws.proofs.CoreRunLemmas.{in_front, none_there, IsRun, StandsIn, StandsRight, sub_run, made, by_other, by_itself, maker, run_facts}
 
@@ -95,18 +95,9 @@ module _ {S : Type 0} (code : Code S) (b : Bounds) (th : ThreadState S) where
   move_number (Want op) Checked = first_none op
   move_number Ended g = refl
 
-  abbrev IsMake : Move → Type 0
-  IsMake (Make step) = Unit {0}
-  IsMake other = ⊥
-
-  made_by : (over full : Bool) (rest : Move) (step : Step) → (if over then Over else if full then Stop Turns else rest) ≡ Make step → rest ≡ Make step
-  made_by true full rest step is = absurd (subst IsMake (sym is) tt)
-  made_by false true rest step is = absurd (subst IsMake (sym is) tt)
-  made_by false false rest step is = is
-
   -- a thread makes a step for the number that it has
   pub number_made : (step : Step) → next_move code b th ≡ Make step → number_at th.stage ≡ number_in (Make step)
-  number_made step makes = sym (move_number (code.next th.local) th.stage) ∙ ap number_in (made_by th.over (nat_le b.limits.turns th.counted) _ step makes)
+  number_made step makes = sym (move_number (code.next th.local) th.stage) ∙ ap number_in (makes_it th.over (nat_le b.limits.turns th.counted) _ step makes)
 
   numbers : {next : Next} {step : Step} {a : Answer} {change : Change} → Row code b th next step a change → number_at th.stage ≡ number_in (Make step)
       → NumberStep th step a (number_at (changed code th change).stage)

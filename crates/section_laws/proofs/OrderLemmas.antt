@@ -35,14 +35,13 @@ use Rattle.core_runs.specs.Cores.{Core, threads_by}
 use Rattle.core_runs.specs.Acts.{Act, quiet, did, beside, DidAt, ActAt}
 use Rattle.section_laws.specs.Runs.{IsRun}
 use Rattle.section_laws.specs.Undoing.{HasOpened}
-use Rattle.section_laws.specs.UndoOrder.{FindsRevoked, is_by, UndoesInOrder, UndoingGoesInOrder}
+use Rattle.section_laws.specs.UndoOrder.{EntersAgain, FindsRevoked, is_by, UndoesInOrder, UndoingGoesInOrder}
 use Rattle.section_laws.proofs.WordLemmas.{state_is, state_of_zero}
-use Rattle.section_laws.proofs.DeedLemmas.{undoing_of, view, made_quiet}
+use Rattle.section_laws.proofs.DeedLemmas.{makes_it, undoing_of, view, made_quiet}
 use Rattle.section_laws.proofs.ClaimLemmas.{some_is, none_some, found_is}
 use Rattle.section_laws.proofs.FactLemmas.{Threads}
 use Rattle.section_laws.proofs.RunLemmas.{get_some, get_below, act_at, deed_at, facts_at}
 use Rattle.section_laws.proofs.PinLemmas.{did_at, opens_once, zero_no_section}
-use Rattle.section_laws.proofs.StepLemmas.{makes_it}
 use Rattle.section_laws.proofs.OpenerLemmas.{SectionStep, has_none, has_same, has_opened, section_step, IsSaved, Opener, opener}
 use Rattle.section_laws.proofs.MonitorLemmas.{held_at_end}
 use Rattle.section_laws.proofs.GoneLemmas.{along_from, closed_later, ending, ends_so}
@@ -391,35 +390,50 @@ module _ {S : Type 0} (code : Code S) (b : Bounds) (c : ℕ → Core S) (acts : 
       own = finds.own;
     }
 
+    low_end : q ≤ length acts
+    low_end = let below = within in omega (arith, below)
+
+    own_end : s ≡ end.from.section
+    own_end = (ends_so code b c acts run q t s x undone).own
+
+    last : Opener code b c acts run q t end.from
+    last = opener code b c acts run q low_end t end.from end.stands (subst (λ n. 0 < n) own_end some_section)
+
+    same_place : last.place ≡ opened.place
+    same_place = opens_once code b c acts run last.place opened.place t t s last.opened.word opened.opened.word
+        (last.opened.opens ∙ ap (λ n. Some (did t (OpenSection n last.opened.word) Answer.Done)) (sym own_end))
+        (opened.opened.opens ∙ ap (λ n. Some (did t (OpenSection n opened.opened.word) Answer.Done)) finds.own)
+
+    saved : IsSaved code b c acts run opened.place t end.from.saved
+    saved = subst (λ p. IsSaved code b c acts run p t end.from.saved) same_place (last.saved (ends_so code b c acts run q t s x undone).unpinned)
+
+    same_local : newest_or end.from.local end.from.saved ≡ saved.before.local
+    same_local = ap (newest_or end.from.local) saved.saves
+
+    again : EntersAgain code c opened.place t (after_answer code b end.from (MarkUndone s x) Answer.Done)
+    again = record {
+      before = saved.before;
+      stood = saved.stood;
+      local = same_local;
+      enters = subst (λ l. IsEntry (code.next l)) (sym same_local) saved.enters;
+      stage = refl;
+      section = refl;
+      log = refl;
+      held = held_at_end code b end.from (c q).words s x ((facts_at code b c acts run q low_end).fit t end.from end.stands).stage end.move;
+    }
+
+    count : q - k ≡ suc (q - suc k)
+    count = omega (arith, later)
+
     in_order : UndoesInOrder code c acts k q t s w th
-    in_order =
-        let low : q ≤ length acts = (let below = within in omega (arith, below)) in
-        let own : s ≡ end.from.section = (ends_so code b c acts run q t s x undone).own in
-        let last = opener code b c acts run q low t end.from end.stands (subst (λ n. 0 < n) own some_section) in
-        let same : last.place ≡ opened.place = opens_once code b c acts run last.place opened.place t t s last.opened.word opened.opened.word
-        (last.opened.opens ∙ ap (λ n. Some (did t (OpenSection n last.opened.word) Answer.Done)) (sym own))
-        (opened.opened.opens ∙ ap (λ n. Some (did t (OpenSection n opened.opened.word) Answer.Done)) finds.own) in
-        let saved : IsSaved code b c acts run opened.place t end.from.saved =
-        subst (λ p. IsSaved code b c acts run p t end.from.saved) same (last.saved (ends_so code b c acts run q t s x undone).unpinned) in
-        let size : q - k ≡ suc (q - suc k) = omega (arith, later) in
-        let local : newest_or end.from.local end.from.saved ≡ saved.before.local = ap (newest_or end.from.local) saved.saves in
-        record {
-          steps = ap (λ n. filter (is_by t) (take n (drop (suc k) acts))) size ∙ walk (q - suc k) (suc k) (omega (arith, later)) (omega arith) (record th { stage = Undoing w }) begins;
-          place = opened.place;
-          opened = subst (HasOpened acts opened.place k t) finds.own opened.opened;
-          behind = after_answer code b end.from (MarkUndone s x) Answer.Done;
-          stands = behind_own q (MarkUndone s x) Answer.Done end (λ l threads. refl);
-          enters_again = record {
-            before = saved.before;
-            stood = saved.stood;
-            local = local;
-            enters = subst (λ l. IsEntry (code.next l)) (sym local) saved.enters;
-            stage = refl;
-            section = refl;
-            log = refl;
-            held = held_at_end code b end.from (c q).words s x ((facts_at code b c acts run q low).fit t end.from end.stands).stage end.move;
-          };
-        }
+    in_order = record {
+      steps = ap (λ n. filter (is_by t) (take n (drop (suc k) acts))) count ∙ walk (q - suc k) (suc k) (omega (arith, later)) (omega arith) (record th { stage = Undoing w }) begins;
+      place = opened.place;
+      opened = subst (HasOpened acts opened.place k t) finds.own opened.opened;
+      behind = after_answer code b end.from (MarkUndone s x) Answer.Done;
+      stands = behind_own q (MarkUndone s x) Answer.Done end (λ l threads. refl);
+      enters_again = again;
+    }
 
 pub goes_in_order : {S : Type 0} (code : Code S) → UndoingGoesInOrder code
 goes_in_order code b c acts run k q t s w x th finds later undone = in_order code b c acts run k q t s w x th finds later undone

@@ -3,7 +3,6 @@ use Rattle.std.proofs.Common.{◌≡◌, ◌≢◌, ◌⊎◌, inl, inr, ℕ, �
 use Rattle.std.specs.Prelude.{nat_lt, nat_le, if◌then◌else◌}
 use Rattle.std.proofs.lemmas.Grind.{common_steps}
 use Rattle.std.proofs.lemmas.Bool.Decides.{nat_tests}
-use Rattle.op_core.specs.declared.Limit.TheVariants.{Turns}
 use Rattle.op_core.specs.declared.Op.{Op}
 use Rattle.op_core.specs.declared.Op.TheVariants.{Wait, Print, Start, Init, InitDone, End}
 use Rattle.op_core.specs.declared.Next.{Next}
@@ -19,7 +18,7 @@ use Rattle.step_port.specs.Steps.{effect_of}
 use Rattle.step_port.specs.Words.{Words, CanAnswer, answer_of}
 use Rattle.thread_automaton.specs.declared.Bounds.{Bounds}
 use Rattle.thread_automaton.specs.declared.Move.{Move}
-use Rattle.thread_automaton.specs.declared.Move.TheVariants.{Over, Quiet, Stop, Make}
+use Rattle.thread_automaton.specs.declared.Move.TheVariants.{Quiet, Make}
 use Rattle.thread_automaton.specs.declared.Stage.{Stage}
 use Rattle.thread_automaton.specs.declared.Stage.TheVariants.{Begin, Checked, Fixed, Undoing, Full}
 use Rattle.thread_automaton.specs.ThreadState.{ThreadState, is_open}
@@ -33,7 +32,7 @@ use Rattle.automaton_rows.specs.Fits.{StageFits}
 use Rattle.automaton_rows.specs.Rows.{Row, is_lost, pins, restores, gives_monitor_back, is_undone, section_numbered, sections_full, section_opened, monitor_taken, own_again, entered_again, exits_inner, left_once, monitor_left, section_left, wait_begins, wait_made, notify_begins, start_begins, is_unready}
 use Rattle.automaton_rows.proofs.RowLemmas.{answers_are_rows, words_can_answer}
 use Rattle.section_laws.proofs.WordLemmas.{by_if}
-use Rattle.section_laws.proofs.DeedLemmas.{view, opening_of}
+use Rattle.section_laws.proofs.DeedLemmas.{makes_it, view, opening_of}
 use Rattle.section_laws.proofs.ClaimLemmas.{above, claim, claim_of, claim_none, is_zero}
 use Rattle.section_laws.proofs.LogLemmas.{In}
 
@@ -50,18 +49,9 @@ abbrev MovesFixed : Move → Type 0
 MovesFixed (Make step) = OnlyFixed step
 MovesFixed move = ⊥
 
-abbrev IsMake : Move → Type 0
-IsMake (Make step) = Unit {0}
-IsMake move = ⊥
-
 abbrev step_of : Move → Step → Step
 step_of (Make step) other = step
 step_of move other = other
-
-pub makes_it : (over full : Bool) (rest : Move) (step : Step) → (if over then Over else if full then Stop Turns else rest) ≡ Make step → rest ≡ Make step
-makes_it true full rest step is = absurd (subst IsMake (sym is) tt)
-makes_it false true rest step is = absurd (subst IsMake (sym is) tt)
-makes_it false false rest step is = is
 
 module _ {S : Type 0} (code : Code S) (b : Bounds) (th : ThreadState S) where
   pinned_free : (step : Step) → (OnlyFixed step → ⊥) → OnlyFixed (pinned_then th step) → ⊥

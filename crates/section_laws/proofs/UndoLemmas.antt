@@ -20,13 +20,13 @@ use Rattle.thread_automaton.specs.Told.{after_answer, after_quiet}
 use Rattle.core_runs.specs.OwnParts.{is_beside}
 use Rattle.core_runs.specs.Cores.{Core, threads_by}
 use Rattle.core_runs.specs.Acts.{Act, quiet, did, beside, QuietAt, DidAt, ActAt}
-use Rattle.section_laws.specs.Runs.{MayBecome, IsRun}
+use Rattle.section_laws.specs.Runs.{IsRun}
 use Rattle.section_laws.specs.Undoing.{IsWordStep, IsHeapWord, HasPlainWords}
 use Rattle.section_laws.proofs.DeedLemmas.{view, quiet_deed}
 use Rattle.section_laws.proofs.ClaimLemmas.{section_changes}
 use Rattle.section_laws.proofs.FactLemmas.{Threads, InThreads}
 use Rattle.section_laws.proofs.RunLemmas.{get_below, along, Known, deed_at, facts_at}
-use Rattle.section_laws.proofs.PinLemmas.{change_moves}
+use Rattle.section_laws.proofs.PinLemmas.{Moves, change_moves}
 use Rattle.section_laws.proofs.KnownLemmas.{IsSettled, knows_at}
 use Rattle.section_laws.proofs.LogLemmas.{In, LogStep, log_steps}
 use Rattle.section_laws.proofs.TagLemmas.{Unsettled, IsOnce, IsNoted, Tags, step_tags, begun_tags}
@@ -73,7 +73,7 @@ module _ {S : Type 0} (code : Code S) (b : Bounds) (c : ℕ → Core S) (acts : 
     pub log_step : LogStep IsPlace at.from (c k).words after step a (view thread_after)
     log_step = log_steps code IsPlace at.from (c k).words (deed_at code b c k at facts) at.answered free writes range
 
-    moves : (s : ℕ) → MayBecome ((c k).words (Section s)) (after (Section s))
+    moves : (s : ℕ) → Moves ((c k).words (Section s)) (after (Section s))
     moves s = change_moves code (c k).words (InThreads (c k).threads) facts t at.from at.stands s (after (Section s)) (section_changes code at.from (c k).words (deed_at code b c k at facts) at.answered s)
 
     did_tags : TagsAt k → TagsAt (suc k)

@@ -9,6 +9,7 @@ use Rattle.op_core.specs.ThreadCode.{Code}
 use Rattle.op_core.specs.InPlaceList.{IsInRange}
 use Rattle.heap_words.specs.declared.areas.Area.TheVariants.{Control, Section, Object}
 use Rattle.heap_words.specs.Words.{tag_of}
+use Rattle.section_state.specs.declared.State.TheVariants.{Live}
 use Rattle.step_port.specs.declared.answer.Answer.TheVariants.{Found, Done}
 use Rattle.step_port.specs.declared.step.Step.{Step}
 use Rattle.step_port.specs.declared.step.Step.TheVariants.{LoadWord, SwapWord, OpenSection, Revoke, MarkUndone, Split}
@@ -16,14 +17,14 @@ use Rattle.step_port.specs.Steps.{place_of}
 use Rattle.step_port.specs.Words.{Words}
 use Rattle.thread_automaton.specs.declared.Bounds.{Bounds}
 use Rattle.thread_automaton.specs.declared.Move.TheVariants.{Make}
-use Rattle.thread_automaton.specs.ThreadState.{ThreadState, first_state}
+use Rattle.thread_automaton.specs.ThreadState.{ThreadState, first_state, own_word}
 use Rattle.thread_automaton.specs.NextMove.{next_move}
 use Rattle.thread_automaton.specs.Told.{advanced, told}
 use Rattle.core_runs.specs.WordRuns.{RunEntry, words_by, part_of}
 use Rattle.core_runs.specs.OwnParts.{Quietly, OwnTo, Birth, births}
 use Rattle.core_runs.specs.Cores.{Core}
 use Rattle.core_runs.specs.Acts.{Act, quiet, did, beside}
-use Rattle.section_laws.specs.Runs.{IsRun, IsRunFrom, IsTouched}
+use Rattle.section_laws.specs.Runs.{IsRun, IsRunFrom, MayBecome, IsTouched}
 use Rattle.section_laws.specs.Undoing.{IsWordStep, HasOpened, IsUndone}
 
 -- ---- where threads stand
@@ -95,6 +96,22 @@ RunsHaveActs {S} code = (b : Bounds) (first : Birth → ThreadState S) (main : B
     → ActsOf code b first main w run
 
 -- ---- the laws of sections
+
+-- With the entry a thread opens section s: its word was 0, and is then that of a live section with the number and the
+-- priority of the thread.
+pub record OpensWith {S : Type 0} (code : Code S) (b : Bounds) (first : Birth → ThreadState S) (main : Birth) (w : Words)
+    (e : RunEntry) (run : List RunEntry) (s : ℕ) : Type 0 where
+  pub th : ThreadState S
+  pub maker : IsMaker code b first main e run th
+  pub opens : e.made ≡ record { step = OpenSection s (own_word th Live); answer = Done }
+  pub unopened : words_by w run (Section s) ≡ 0
+  pub leads : words_by w (e ∷ run) (Section s) ≡ own_word th Live
+
+-- with an entry the word of a section stays as it is, or the section is opened, or it comes on
+abbrev pub SectionsComeOnInRuns : {S : Type 0} → Code S → Type 0
+SectionsComeOnInRuns {S} code = (b : Bounds) (first : Birth → ThreadState S) (main : Birth) (w : Words)
+    (e : RunEntry) (run : List RunEntry) → IsRunFrom code b first main w (e ∷ run)
+    → (s : ℕ) → MayBecome (OpensWith code b first main w e run s) (words_by w run (Section s)) (words_by w (e ∷ run) (Section s))
 
 -- no number is opened twice
 abbrev pub SectionsOpenOnceInRuns : {S : Type 0} → Code S → Type 0

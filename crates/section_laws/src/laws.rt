@@ -1,18 +1,19 @@
 //! Sections along runs, of every thread code.
 
-ghost use Rattle.section_laws.specs.Runs.{SectionsComeOn, SectionsComeOnInRuns, SectionsOpenOnce, ZeroIsNoSection, SectionsAreApart, OthersSectionsStay, RunsBeginWithRuns};
+ghost use Rattle.section_laws.specs.Runs.{SectionsComeOn, SectionsOpenOnce, ZeroIsNoSection, SectionsAreApart, OthersSectionsStay, RunsBeginWithRuns};
 ghost use Rattle.section_laws.specs.Pinning.{PinnedSectionsStay, PinnedSectionsStayInRuns};
 ghost use Rattle.section_laws.specs.Observed.{ObservedSectionsStay};
 ghost use Rattle.section_laws.specs.Undoing.{UndoingPutsBack};
 ghost use Rattle.section_laws.specs.UndoOrder.{UndoingGoesInOrder};
 ghost use Rattle.section_laws.specs.Gone.{UndoneSectionsAreGone};
-ghost use Rattle.section_laws.specs.InRuns.{RunsHaveActs, SectionsOpenOnceInRuns, SectionsAreApartInRuns, OthersSectionsStayInRuns, ObservedSectionsStayInRuns, UndoingPutsBackInRuns};
+ghost use Rattle.section_laws.specs.InRuns.{RunsHaveActs, SectionsComeOnInRuns, SectionsOpenOnceInRuns, SectionsAreApartInRuns, OthersSectionsStayInRuns, ObservedSectionsStayInRuns, UndoingPutsBackInRuns};
 ghost use Rattle.section_laws.specs.Example.{UndoneRun};
 
 use op_core::ThreadCode;
 
 /// An act leaves the word of a section as it is, or opens the section, whose word was 0, or brings it from its state
-/// into one that may follow, and leaves owner and priority.
+/// into one that may follow, and leaves owner and priority: those are the number and the priority of the thread that has
+/// opened it.
 pub fn sections_come_on<C: ThreadCode>()
     ensures { SectionsComeOn C.code }
 {}
