@@ -22,7 +22,9 @@ use Rattle.thread_automaton.specs.declared.Bounds.{Bounds}
 use Rattle.thread_automaton.specs.ThreadState.{ThreadState, first_state}
 use Rattle.core_runs.specs.Cores.{Core, core_after}
 use Rattle.core_runs.specs.Acts.{Act, did, DidAt, ActFrom}
-use Rattle.section_laws.specs.Undoing.{IsWordStep, HasPlainWords}
+use Rattle.section_laws.specs.Undoing.{IsWordStep, WritesObjectWords}
+use Rattle.section_laws.specs.UndoOrder.{FindsRevoked}
+use Rattle.section_laws.specs.Gone.{IsMonitorStep, IsMonitor}
 use Rattle.section_laws.specs.Example.{UndoneRun}
 use Rattle.section_laws.proofs.ClaimLemmas.{some_is, none_some}
 use Rattle.section_laws.proofs.FactLemmas.{each}
@@ -43,7 +45,7 @@ example_code = record {
   leaves = λ save now. false;
 }
 
-abbrev small : Bounds
+abbrev pub small : Bounds
 small = record { limits = record { turns = 100; heap = 10; sections = 3 }; first = 20 }
 
 abbrev first_core : Core ℕ
@@ -57,7 +59,7 @@ first_core = record {
 }
 
 -- the section's word in a state
-abbrev own : State → ℕ
+abbrev pub own : State → ℕ
 own state = section_word (number_of state) 1 1
 
 abbrev example_acts : List Act
@@ -177,7 +179,7 @@ abbrev IsApart : Act → Type 0
 IsApart (did u step answer) = place_of step ≡ Object 5 → IsWordStep step
 IsApart act = Unit {0}
 
-abbrev place_number : Area → ℕ
+abbrev pub place_number : Area → ℕ
 place_number (Object n) = n
 place_number a = 0
 
@@ -190,6 +192,33 @@ elsewhere n below is = absurd (no n below is)
 all_apart : Each IsApart example_acts
 all_apart = (λ on. elsewhere 2 (omega arith) (ap place_number on), (λ on. elsewhere 0 (omega arith) (ap place_number on), (λ on. elsewhere 0 (omega arith) (ap place_number on), (λ on. elsewhere 2 (omega arith) (ap place_number on), (λ on. elsewhere 0 (omega arith) (ap place_number on), (λ on. tt, (λ on. tt, (λ on. elsewhere 2 (omega arith) (ap place_number on), (λ on. elsewhere 0 (omega arith) (ap place_number on), (λ on. elsewhere 0 (omega arith) (ap place_number on), (λ on. elsewhere 0 (omega arith) (ap place_number on), (λ on. tt, (λ on. elsewhere 2 (omega arith) (ap place_number on), (λ on. elsewhere 0 (omega arith) (ap place_number on), tt))))))))))))))
 
+-- the monitor of object 1
+abbrev IsOnMonitor : Act → Type 0
+IsOnMonitor (did u step answer) = place_of step ≡ Object 2 → IsMonitorStep step
+IsOnMonitor act = Unit {0}
+
+other_place : {P : Type 0} (n : ℕ) → 2 < n → n ≡ 2 → P
+other_place n high is = absurd (no_way n high is)
+  where
+    no_way : (n : ℕ) → 2 < n → n ≡ 2 → ⊥
+    no_way n high is = omega arith
+
+none_placed : {P : Type 0} (n : ℕ) → n ≡ 0 → n ≡ 2 → P
+none_placed n none is = absurd (no_way n none is)
+  where
+    no_way : (n : ℕ) → n ≡ 0 → n ≡ 2 → ⊥
+    no_way n none is = omega arith
+
+all_on_monitor : Each IsOnMonitor example_acts
+all_on_monitor = (λ on. tt, (λ on. none_placed 0 refl (ap place_number on), (λ on. none_placed 0 refl (ap place_number on), (λ on. tt, (λ on. none_placed 0 refl (ap place_number on), (λ on. other_place 5 (omega arith) (ap place_number on), (λ on. other_place 5 (omega arith) (ap place_number on), (λ on. tt, (λ on. none_placed 0 refl (ap place_number on), (λ on. none_placed 0 refl (ap place_number on), (λ on. none_placed 0 refl (ap place_number on), (λ on. other_place 5 (omega arith) (ap place_number on), (λ on. tt, (λ on. none_placed 0 refl (ap place_number on), tt))))))))))))))
+
+monitor_one : IsMonitor example_cores example_acts 1
+monitor_one = record { apart = λ j u step answer here on. each_get IsOnMonitor example_acts j (did u step answer) all_on_monitor here on; free = refl }
+
+found_revoked : FindsRevoked example_cores example_acts 10 1 1 (own Revoking) (thread_at ((example_cores 10).threads 1))
+unfolding section_word state_of priority_of with_state pack tag_of monitor_word monitor_section
+found_revoked = record { stands = refl; own = refl; looks = refl; revoked = refl }
+
 abbrev HasRange : Next → Type 0
 HasRange (Want op) = IsInRange op
 HasRange next = Unit {0}
@@ -198,14 +227,14 @@ in_range : (l : ℕ) → HasRange (example_next l)
 in_range zero = omega arith
 in_range (suc l) = (omega arith, omega arith, omega arith)
 
-no_tag : tag_of 0 ≡ 0
+pub no_tag : tag_of 0 ≡ 0
 unfolding tag_of
 no_tag = refl
 
 abbrev BeginsSo : ThreadState ℕ → Type 0
 BeginsSo th = (number priority : ℕ) × (l : ℕ) × (th ≡ first_state number priority l)
 
-plain_words : HasPlainWords example_code example_cores example_acts
+plain_words : WritesObjectWords example_code example_cores example_acts
 plain_words = record {
   overwritten = λ k t at wrote. record {
     apart = λ j u step answer here on.
@@ -231,12 +260,18 @@ undone_run = record {
     leads = leads;
   };
   plain = plain_words;
+  small = omega arith;
   opened = 2;
+  taken = 3;
   written = 6;
+  found = 10;
   undone = 13;
+  in_order = (omega arith, omega arith, omega arith, omega arith);
   thread = 1;
   section = 1;
   opens = (own Live, refl);
-  writes = (omega arith, omega arith, (5, (0, pack 7 1, refl)));
+  takes = (1, monitor_word 1 1, monitor_one, refl);
+  writes = (5, (0, pack 7 1, refl));
+  finds = (own Revoking, thread_at ((example_cores 10).threads 1), found_revoked);
   undoes = (own Undone, refl);
 }

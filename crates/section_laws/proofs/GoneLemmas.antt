@@ -19,7 +19,7 @@ use Rattle.core_runs.specs.OwnParts.{is_beside}
 use Rattle.core_runs.specs.Cores.{Core, threads_by}
 use Rattle.core_runs.specs.Acts.{Act, quiet, did, beside, DidAt, ActAt}
 use Rattle.section_laws.specs.Runs.{IsRun}
-use Rattle.section_laws.specs.Undoing.{HasPlainWords, IsHeapWord}
+use Rattle.section_laws.specs.Undoing.{WritesObjectWords, IsHeapWord}
 use Rattle.section_laws.proofs.DeedLemmas.{view, Undoes, done_as}
 use Rattle.section_laws.proofs.ClaimLemmas.{open_above}
 use Rattle.section_laws.proofs.FactLemmas.{Threads, each}
@@ -128,7 +128,7 @@ module _ {S : Type 0} (code : Code S) (b : Bounds) (c : ℕ → Core S) (acts : 
 
   -- ---- the words of objects
 
-  module _ (plain : HasPlainWords code c acts) where
+  module _ (plain : WritesObjectWords code c acts) where
     abbrev Free : ℕ → Type 0
     Free k = (at : ℕ) → IsHeapWord c acts at → tag_of ((c k).words (Object at)) ≡ s → ⊥
 

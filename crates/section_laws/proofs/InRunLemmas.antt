@@ -19,7 +19,7 @@ use Rattle.thread_automaton.specs.Checks.{is_safe}
 use Rattle.thread_automaton.specs.Told.{after_answer}
 use Rattle.core_runs.specs.WordRuns.{StepMade, RunEntry, words_by, part_of}
 use Rattle.core_runs.specs.OwnParts.{is_beside, Quietly, MakesOwn, OwnTo, Birth, births, IsCoreRun}
-use Rattle.section_laws.specs.Runs.{BeginsAt, MayBecome, IsTouched}
+use Rattle.section_laws.specs.Runs.{BeginsAt, MayBecome, IsPinnedOrRevoked}
 use Rattle.section_laws.specs.InRuns.{StandsBehind, IsMaker, OpensWith, SectionsComeOnInRuns, SectionsOpenOnceInRuns, SectionsAreApartInRuns, OthersSectionsStayInRuns, ReadsIn, WritesOverIn, ObservesIn, ObservedSectionsStayInRuns}
 use Rattle.section_laws.proofs.WordLemmas.{state_of_zero, put_section, state_packed}
 use Rattle.section_laws.proofs.DeedLemmas.{opening_of, view, Deed, done_as}
@@ -102,7 +102,7 @@ module _ {S : Type 0} (code : Code S) (b : Bounds) (first : Birth → ThreadStat
 
   others : (e : RunEntry) (run : List RunEntry) → IsOne (e ∷ run) → (s : ℕ) (th : ThreadState S) → IsMaker code b first main e run th → s ≢ th.section
       → (words_by w run (Section s) ≡ 0 → ⊥)
-      → (words_by w (e ∷ run) (Section s) ≡ words_by w run (Section s)) ⊎ IsTouched (words_by w run (Section s)) (words_by w (e ∷ run) (Section s))
+      → (words_by w (e ∷ run) (Section s) ≡ words_by w run (Section s)) ⊎ IsPinnedOrRevoked (words_by w run (Section s)) (words_by w (e ∷ run) (Section s))
   others e run so s th by other some =
       let at = stands_in by.stands in
       let facts = facts_in run (shorter e run so) in

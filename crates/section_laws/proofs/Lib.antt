@@ -16,6 +16,7 @@ pub mod StepLemmas
 pub mod MonitorLemmas
 pub mod OrderLemmas
 pub mod ExampleLemmas
+pub mod ListExampleLemmas
 pub mod CoreRunLemmas
 pub mod NumberLemmas
 pub mod InRunLemmas

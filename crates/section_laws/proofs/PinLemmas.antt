@@ -22,7 +22,7 @@ use Rattle.thread_automaton.specs.Told.{after_answer}
 use Rattle.core_runs.specs.OwnParts.{is_beside}
 use Rattle.core_runs.specs.Cores.{Core}
 use Rattle.core_runs.specs.Acts.{Act, quiet, did, beside, DidAt, ActAt}
-use Rattle.section_laws.specs.Runs.{IsRun, MayBecome, OpensAt, SectionsComeOn, SectionsOpenOnce, SectionsAreApart, ZeroIsNoSection, IsTouched, OthersSectionsStay}
+use Rattle.section_laws.specs.Runs.{IsRun, MayBecome, OpensAt, SectionsComeOn, SectionsOpenOnce, SectionsAreApart, ZeroIsNoSection, IsPinnedOrRevoked, OthersSectionsStay}
 use Rattle.section_laws.specs.Pinning.{StaysPinned, PinnedSectionsStay}
 use Rattle.section_laws.proofs.WordLemmas.{state_replaced, state_of_zero, state_packed, is_state, state_is, exchanged, put_section}
 use Rattle.section_laws.proofs.DeedLemmas.{opening_of, view, Deed, makes_it, done_as}
@@ -351,7 +351,7 @@ sections_apart code b c acts run k t u th uh within at there some same =
     (claims ∙ same ∙ sym (claim_some uh.section (opening_of uh.stage) (subst (λ n. 0 < n) same some)))
 
 pub touches : {S : Type 0} {th : ThreadState S} {s old new : ℕ} → Change th s old new → s ≢ th.section → (th.section ≡ 0 → opening_of th.stage ≡ s → 0 < s → old ≡ 0)
-    → old ≢ 0 → (new ≡ old) ⊎ IsTouched old new
+    → old ≢ 0 → (new ≡ old) ⊎ IsPinnedOrRevoked old new
 touches (stays is) other unopened some = inl is
 touches (is_opened none opening above live) other unopened some = absurd (some (unopened none opening above))
 touches {old = old} (is_pinned stood is) other unopened some = inr (record { live = is_state Live old stood; leads = inl is })
@@ -364,7 +364,7 @@ others_stay code b c acts run k t s step a th here there other some =
     let at = did_at code b c acts run k t step a here in
     let facts = known_at code b c acts run k (did t step a) here in
     let same : at.from ≡ th = some_is at.from th (sym at.stands ∙ there) in
-    subst (λ z. (z.words (Section s) ≡ (c k).words (Section s)) ⊎ IsTouched ((c k).words (Section s)) (z.words (Section s))) (sym at.leads)
+    subst (λ z. (z.words (Section s) ≡ (c k).words (Section s)) ⊎ IsPinnedOrRevoked ((c k).words (Section s)) (z.words (Section s))) (sym at.leads)
     (touches (section_changes code at.from (c k).words (deed_at code b c k at facts) at.answered s) (λ is. other (is ∙ ap (λ x. x.section) same))
     (λ none opening above. ap (λ n. (c k).words (Section n)) (sym opening) ∙ facts.unopened t at.from at.stands none (subst (λ n. 0 < n) (sym opening) above)) some)
 

@@ -13,8 +13,8 @@ use Rattle.thread_automaton.specs.ThreadState.{ThreadState}
 use Rattle.core_runs.specs.WordRuns.{RunEntry}
 use Rattle.core_runs.specs.OwnParts.{Birth}
 use Rattle.core_runs.specs.Acts.{Act, quiet, did, beside}
-use Rattle.section_laws.specs.Undoing.{HasPlainWords, HasOpened, IsUndone}
-use Rattle.section_laws.specs.InRuns.{with_entry, with_entries, ActsOf, OverwritesIn, HasPlainWordsIn, UndoingPutsBackInRuns}
+use Rattle.section_laws.specs.Undoing.{WritesObjectWords, HasOpened, IsUndone}
+use Rattle.section_laws.specs.InRuns.{with_entry, with_entries, ActsOf, OverwritesIn, WritesObjectWordsIn, UndoingPutsBackInRuns}
 use Rattle.section_laws.proofs.ClaimLemmas.{none_some, some_is}
 use Rattle.section_laws.proofs.RunLemmas.{act_at}
 use Rattle.section_laws.proofs.CoreRunLemmas.{in_front, behind_front, none_there}
@@ -66,11 +66,11 @@ entry_there (x ∷ acts) run zero t step a at =
 entry_there (x ∷ acts) run (suc k) t step a at = entry_there acts (with_entry x run) k t step a at
 
 module _ {S : Type 0} (code : Code S) (b : Bounds) (first : Birth → ThreadState S) (main : Birth) (w : Words) (run : List RunEntry)
-    (plain : HasPlainWordsIn code b first main w run) (made : ActsOf code b first main w run) where
+    (plain : WritesObjectWordsIn code b first main w run) (made : ActsOf code b first main w run) where
   entry_in : (k t : ℕ) (step : Step) (a : Answer) → slice_get made.acts k ≡ Some (did t step a) → Contains run (entry t step a)
   entry_in k t step a at = subst (λ xs. Contains xs (entry t step a)) made.steps (entry_there made.acts [] k t step a at)
 
-  plain_acts : HasPlainWords code made.cores made.acts
+  plain_acts : WritesObjectWords code made.cores made.acts
   plain_acts = record {
     overwritten = λ k t at wrote.
         let there : OverwritesIn run at = (t, wrote.0, wrote.1, entry_in k t (SwapWord at wrote.0 wrote.1) Answer.Done wrote.2) in

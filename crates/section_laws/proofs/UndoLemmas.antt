@@ -21,7 +21,7 @@ use Rattle.core_runs.specs.OwnParts.{is_beside}
 use Rattle.core_runs.specs.Cores.{Core, threads_by}
 use Rattle.core_runs.specs.Acts.{Act, quiet, did, beside, QuietAt, DidAt, ActAt}
 use Rattle.section_laws.specs.Runs.{IsRun}
-use Rattle.section_laws.specs.Undoing.{IsWordStep, IsHeapWord, HasPlainWords}
+use Rattle.section_laws.specs.Undoing.{IsWordStep, IsHeapWord, WritesObjectWords}
 use Rattle.section_laws.proofs.DeedLemmas.{view, quiet_deed}
 use Rattle.section_laws.proofs.ClaimLemmas.{section_changes}
 use Rattle.section_laws.proofs.FactLemmas.{Threads, InThreads}
@@ -45,7 +45,7 @@ beside_tags IsPlace SetStop w threads is tags =
     record { tagged = tags.tagged; logged = tags.logged; own = tags.own; once = tags.once; noted_by = tags.noted_by }
 beside_tags IsPlace step w threads is tags = absurd (true≢false (sym is))
 
-module _ {S : Type 0} (code : Code S) (b : Bounds) (c : ℕ → Core S) (acts : List Act) (run : IsRun code b c acts) (plain : HasPlainWords code c acts) where
+module _ {S : Type 0} (code : Code S) (b : Bounds) (c : ℕ → Core S) (acts : List Act) (run : IsRun code b c acts) (plain : WritesObjectWords code c acts) where
   -- a place that is overwritten
   abbrev pub IsPlace : ℕ → Type 0
   IsPlace at = IsHeapWord c acts at

@@ -13,7 +13,7 @@ use Rattle.thread_automaton.specs.declared.Bounds.{Bounds}
 use Rattle.core_runs.specs.Cores.{Core}
 use Rattle.core_runs.specs.Acts.{Act, did}
 use Rattle.section_laws.specs.Runs.{IsRun}
-use Rattle.section_laws.specs.Undoing.{IsHeapWord, HasPlainWords}
+use Rattle.section_laws.specs.Undoing.{IsHeapWord, WritesObjectWords}
 
 -- a step on the word of a monitor
 abbrev pub IsMonitorStep : Step → Type 0
@@ -39,5 +39,5 @@ pub record IsGoneFrom {S : Type 0} (c : ℕ → Core S) (acts : List Act) (q s :
 -- so it is with each section that is noted undone, where the numbers of sections have 32 bits
 abbrev pub UndoneSectionsAreGone : {S : Type 0} → Code S → Type 0
 UndoneSectionsAreGone {S} code = (b : Bounds) (c : ℕ → Core S) (acts : List Act)
-    → IsRun code b c acts → HasPlainWords code c acts → b.limits.sections < 2 ^ 32
+    → IsRun code b c acts → WritesObjectWords code c acts → b.limits.sections < 2 ^ 32
     → (q t s w : ℕ) → slice_get acts q ≡ Some (did t (MarkUndone s w) Done) → IsGoneFrom c acts q s

@@ -24,7 +24,7 @@ use Rattle.core_runs.specs.WordRuns.{RunEntry, words_by, part_of}
 use Rattle.core_runs.specs.OwnParts.{Quietly, OwnTo, Birth, births}
 use Rattle.core_runs.specs.Cores.{Core}
 use Rattle.core_runs.specs.Acts.{Act, quiet, did, beside}
-use Rattle.section_laws.specs.Runs.{IsRun, IsRunFrom, MayBecome, IsTouched}
+use Rattle.section_laws.specs.Runs.{IsRun, IsRunFrom, MayBecome, IsPinnedOrRevoked}
 use Rattle.section_laws.specs.Undoing.{IsWordStep, HasOpened, IsUndone}
 
 -- ---- where threads stand
@@ -135,7 +135,7 @@ OthersSectionsStayInRuns {S} code = (b : Bounds) (first : Birth → ThreadState 
     → (s : ℕ) (th : ThreadState S) → IsMaker code b first main e run th
     → s ≢ th.section → words_by w run (Section s) ≢ 0
     → (words_by w (e ∷ run) (Section s) ≡ words_by w run (Section s))
-    ⊎ IsTouched (words_by w run (Section s)) (words_by w (e ∷ run) (Section s))
+    ⊎ IsPinnedOrRevoked (words_by w run (Section s)) (words_by w (e ∷ run) (Section s))
 
 -- with the entry the thread th reads the word w, and its code is given the value
 pub record ReadsIn {S : Type 0} (code : Code S) (b : Bounds) (e : RunEntry) (th : ThreadState S) (w : ℕ) : Type 0 where
@@ -174,7 +174,7 @@ OverwritesIn run at =
 
 -- The words that are overwritten are words of objects alone, and no section had written them as the run began; and
 -- what threads want is in range.
-pub record HasPlainWordsIn {S : Type 0} (code : Code S) (b : Bounds) (first : Birth → ThreadState S) (main : Birth)
+pub record WritesObjectWordsIn {S : Type 0} (code : Code S) (b : Bounds) (first : Birth → ThreadState S) (main : Birth)
     (w : Words) (run : List RunEntry) : Type 0 where
   pub apart : (at : ℕ) → OverwritesIn run at
       → (e : RunEntry) → Contains run e → place_of e.made.step ≡ Object at → IsWordStep e.made.step
@@ -186,7 +186,7 @@ pub record HasPlainWordsIn {S : Type 0} (code : Code S) (b : Bounds) (first : Bi
 -- of the run.
 abbrev pub UndoingPutsBackInRuns : {S : Type 0} → Code S → Type 0
 UndoingPutsBackInRuns {S} code = (b : Bounds) (first : Birth → ThreadState S) (main : Birth) (w : Words)
-    (run : List RunEntry) → HasPlainWordsIn code b first main w run → (made : ActsOf code b first main w run)
+    (run : List RunEntry) → WritesObjectWordsIn code b first main w run → (made : ActsOf code b first main w run)
     → (t s x : ℕ) → Contains run (record { thread = t; made = record { step = MarkUndone s x; answer = Done } })
     → (p q : ℕ) × (slice_get made.acts q ≡ Some (did t (MarkUndone s x) Done))
     × HasOpened made.acts p q t s × IsUndone made.cores made.acts p q t s

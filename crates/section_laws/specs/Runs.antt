@@ -94,7 +94,7 @@ SectionsAreApart {S} code = (b : Bounds) (c : ℕ → Core S) (acts : List Act) 
     → 0 < th.section → th.section ≡ uh.section → t ≡ u
 
 -- a live section is pinned or revoked
-pub record IsTouched (old new : ℕ) : Type 0 where
+pub record IsPinnedOrRevoked (old new : ℕ) : Type 0 where
   pub live : is_in Live old ≡ true
   pub leads : (new ≡ with_state old (number_of Pinned)) ⊎ (new ≡ with_state old (number_of Revoking))
 
@@ -106,7 +106,7 @@ OthersSectionsStay {S} code = (b : Bounds) (c : ℕ → Core S) (acts : List Act
     → slice_get acts k ≡ Some (did t step answer) → (c k).threads t ≡ Some th
     → s ≢ th.section → (c k).words (Section s) ≢ 0
     → ((c (suc k)).words (Section s) ≡ (c k).words (Section s))
-    ⊎ IsTouched ((c k).words (Section s)) ((c (suc k)).words (Section s))
+    ⊎ IsPinnedOrRevoked ((c k).words (Section s)) ((c (suc k)).words (Section s))
 
 -- what a run has begun with is a run
 abbrev pub RunsBeginWithRuns : {S : Type 0} → Code S → Type 0

@@ -7,7 +7,7 @@ ghost use Rattle.section_laws.specs.Undoing.{UndoingPutsBack};
 ghost use Rattle.section_laws.specs.UndoOrder.{UndoingGoesInOrder};
 ghost use Rattle.section_laws.specs.Gone.{UndoneSectionsAreGone};
 ghost use Rattle.section_laws.specs.InRuns.{RunsHaveActs, SectionsComeOnInRuns, SectionsOpenOnceInRuns, SectionsAreApartInRuns, OthersSectionsStayInRuns, ObservedSectionsStayInRuns, UndoingPutsBackInRuns};
-ghost use Rattle.section_laws.specs.Example.{UndoneRun};
+ghost use Rattle.section_laws.specs.Example.{UndoneRun, UndoneRunInList};
 
 use op_core::ThreadCode;
 
@@ -92,7 +92,7 @@ pub fn observed_sections_stay_in_runs<C: ThreadCode>()
     ensures { ObservedSectionsStayInRuns C.code }
 {}
 
-/// Where the words that are overwritten are words of objects alone (`HasPlainWords`): a section that is undone was opened
+/// Where the words that are overwritten are words of objects alone (`WritesObjectWords`): a section that is undone was opened
 /// by its thread before. Once it is undone, each word that its thread has overwritten in it was put back, and no other word. As it was put back the word still carried the
 /// section's number, and then it was as the section had found it, value and tag. As the section is noted undone, no word
 /// that is ever overwritten carries its number, and the thread stands where it stood as it was to enter.
@@ -117,7 +117,13 @@ pub fn undone_sections_are_gone<C: ThreadCode>()
     ensures { UndoneSectionsAreGone C.code }
 {}
 
-/// There are runs with all that `undoing_puts_back` asks for, in which a section overwrites a word and is undone.
-pub fn sections_are_undone()
+/// There are runs with all that the laws of undoing ask for, in which a section takes a monitor, overwrites a word, is
+/// found revoked by its thread and is undone.
+pub fn some_section_is_undone()
     ensures { UndoneRun }
+{}
+
+/// So there are as one list, also with a thread that another one has handed out.
+pub fn some_section_is_undone_in_runs()
+    ensures { UndoneRunInList }
 {}
