@@ -15,6 +15,9 @@ pub mod GoneLemmas
 pub mod StepLemmas
 pub mod MonitorLemmas
 pub mod OrderLemmas
+pub mod PlaceLemmas
+pub mod LaidLemmas
+pub mod LayoutLemmas
 pub mod ExampleLemmas
 pub mod ListExampleLemmas
 pub mod CoreRunLemmas

@@ -1,5 +1,5 @@
 -- That the laws of undoing speak of runs that there are.
-use Rattle.std.specs.Prelude.{◌≡◌, ◌<◌, ◌≤◌, ◌^◌, ℕ, Some, List, Contains, slice_get}
+use Rattle.std.specs.Prelude.{◌≡◌, ◌<◌, ◌≤◌, ◌^◌, ℕ, Bool, Some, List, Contains, slice_get}
 use Rattle.op_core.specs.ThreadCode.{Code}
 use Rattle.heap_words.specs.declared.areas.Area.TheVariants.{Control}
 use Rattle.step_port.specs.declared.answer.Answer.TheVariants.{Found, Done}
@@ -14,6 +14,7 @@ use Rattle.core_runs.specs.Cores.{Core}
 use Rattle.core_runs.specs.Acts.{Act, did}
 use Rattle.section_laws.specs.Runs.{IsRun, IsRunFrom}
 use Rattle.section_laws.specs.Undoing.{WritesObjectWords, Overwrites}
+use Rattle.section_laws.specs.Layout.{IsLaidOut, WantsFitObjects}
 use Rattle.section_laws.specs.UndoOrder.{FindsRevoked}
 use Rattle.section_laws.specs.Gone.{IsMonitor}
 use Rattle.section_laws.specs.InRuns.{BeginAsHandedOut, WritesObjectWordsIn}
@@ -26,6 +27,9 @@ pub record UndoneRun : Type 0 where
   pub cores : ℕ → Core ℕ
   pub acts : List Act
   pub is_run : IsRun code bounds cores acts
+  pub is_thread : ℕ → Bool
+  pub laid_out : IsLaidOut bounds.first (cores 0).words (cores 0).objects
+  pub wants : WantsFitObjects code is_thread cores acts
   pub plain : WritesObjectWords code cores acts
   pub small : bounds.limits.sections < 2 ^ 32
   pub opened : ℕ

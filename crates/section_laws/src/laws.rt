@@ -4,6 +4,7 @@ ghost use Rattle.section_laws.specs.Runs.{SectionsComeOn, SectionsOpenOnce, Zero
 ghost use Rattle.section_laws.specs.Pinning.{PinnedSectionsStay, PinnedSectionsStayInRuns};
 ghost use Rattle.section_laws.specs.Observed.{ObservedSectionsStay};
 ghost use Rattle.section_laws.specs.Undoing.{UndoingPutsBack};
+ghost use Rattle.section_laws.specs.Layout.{RunsKeepLayout};
 ghost use Rattle.section_laws.specs.UndoOrder.{UndoingGoesInOrder};
 ghost use Rattle.section_laws.specs.Gone.{UndoneSectionsAreGone};
 ghost use Rattle.section_laws.specs.InRuns.{RunsHaveActs, SectionsComeOnInRuns, SectionsOpenOnceInRuns, SectionsAreApartInRuns, OthersSectionsStayInRuns, ObservedSectionsStayInRuns, UndoingPutsBackInRuns};
@@ -115,6 +116,12 @@ pub fn undoing_goes_in_order<C: ThreadCode>()
 /// Once a section is noted undone, no word of an object carries its number again, and no monitor is held by it again.
 pub fn undone_sections_are_gone<C: ThreadCode>()
     ensures { UndoneSectionsAreGone C.code }
+{}
+
+/// Where objects lie apart as the run begins, and each thread wants objects and words that are there, in range, and no
+/// start words: threads overwrite words of objects alone, as the laws of undoing need it, and each object has a monitor.
+pub fn runs_keep_layout<C: ThreadCode>()
+    ensures { RunsKeepLayout C.code }
 {}
 
 /// There are runs with all that the laws of undoing ask for, in which a section takes a monitor, overwrites a word, is
