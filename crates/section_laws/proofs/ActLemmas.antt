@@ -1,5 +1,5 @@
 -- The acts of a run as one list.
-use Rattle.std.proofs.Common.{◌≡◌, ◌≢◌, inl, inr, ℕ, zero, suc, ◌+◌, ◌<◌, ◌≤◌, Bool, true, false, true≢false, None, Some, List, [], ◌∷◌, ◌++◌, length, nat_eq, refl, sym, ◌∙◌, ap, subst, arith}
+use Rattle.std.proofs.Common.{◌≡◌, ◌≢◌, inl, inr, ℕ, zero, suc, ◌+◌, ◌<◌, ◌≤◌, Bool, true, false, true≢false, None, Some, List, [], ◌∷◌, ◌++◌, length, take, nat_eq, refl, sym, ◌∙◌, ap, subst, arith}
 use Rattle.std.specs.Prelude.{Contains, nat_le, if◌then◌else◌}
 use Rattle.std.proofs.lemmas.Grind.{common_steps}
 use Rattle.std.proofs.lemmas.Bool.Decides.{nat_tests, leb_tells}
@@ -36,6 +36,23 @@ length_more (y ∷ xs) x = ap suc (length_more xs x)
 entries_more : (acts : List Act) (x : Act) (run : List RunEntry) → with_entries (acts ++ x ∷ []) run ≡ with_entry x (with_entries acts run)
 entries_more [] x run = refl
 entries_more (y ∷ acts) x run = entries_more acts x (with_entry y run)
+
+take_same : {A : Type 0} (xs : List A) (x : A) (k : ℕ) → k ≤ length xs → take k (xs ++ x ∷ []) ≡ take k xs
+take_same xs x zero within = refl
+take_same [] x (suc k) within = absurd (too_long k within)
+  where
+    too_long : (k : ℕ) → suc k ≤ 0 → ⊥
+    too_long k within = omega arith
+take_same (y ∷ xs) x (suc k) within = ap (λ zs. y ∷ zs) (take_same xs x k (omega (arith, within)))
+
+take_whole : {A : Type 0} (xs : List A) (k : ℕ) → length xs ≤ k → take k xs ≡ xs
+take_whole [] zero within = refl
+take_whole [] (suc k) within = refl
+take_whole (y ∷ xs) zero within = absurd (too_long (length xs) within)
+  where
+    too_long : (n : ℕ) → suc n ≤ 0 → ⊥
+    too_long n within = omega arith
+take_whole (y ∷ xs) (suc k) within = ap (λ zs. y ∷ zs) (take_whole xs k (omega (arith, within)))
 
 same_number : (n : ℕ) → nat_eq n n ≡ true
 same_number n = grind (arith, common_steps, nat_tests)
@@ -110,7 +127,8 @@ module _ {S : Type 0} (code : Code S) (b : Bounds) where
       steps : with_entries acts [] ≡ run
       words : (cores (length acts)).words ≡ words_by w run
       stands : (t : ℕ) (th : ThreadState S) → (cores (length acts)).threads t ≡ Some th → Stands run t th
-      places : (k : ℕ) → k ≤ length acts → IsPlaceIn code b first main w run (cores k)
+      begun : (x : Birth) → Contains (births main run) x → (th : ThreadState S) × ((cores (length acts)).threads x.number ≡ Some th)
+      places : (k : ℕ) → k ≤ length acts → IsPlaceIn code b first main w run (with_entries (take k acts) []) (cores k)
 
     abbrev last : {run : List RunEntry} → Path run → Core S
     last p = p.cores (length p.acts)
@@ -123,8 +141,9 @@ module _ {S : Type 0} (code : Code S) (b : Bounds) where
     grow : (run later : List RunEntry) (p : Path run) (x : Act) (d : Core S) → with_entry x run ≡ later
         → ((c : ℕ → Core S) → c (length p.acts) ≡ last p → c (suc (length p.acts)) ≡ d → ActAt code b c (length p.acts) x)
         → d.words ≡ words_by w later → ((t : ℕ) (th : ThreadState S) → d.threads t ≡ Some th → Stands later t th)
+        → ((y : Birth) → Contains (births main later) y → (th : ThreadState S) × (d.threads y.number ≡ Some th))
         → (newer : List RunEntry) → later ≡ newer ++ run → Grown later d
-    grow run later p x d entry at words stands newer parts = record {
+    grow run later p x d entry at words stands begun newer parts = record {
       path = record {
         cores = c;
         acts = acts;
@@ -137,17 +156,16 @@ module _ {S : Type 0} (code : Code S) (b : Bounds) where
         steps = entries_more p.acts x [] ∙ ap (with_entry x) p.steps ∙ entry;
         words = ap (λ z. z.words) ends ∙ words;
         stands = λ t th is. stands t th (ap (λ z. z.threads t) (sym ends) ∙ is);
+        begun = λ y there. let so = begun y there in (so.0, ap (λ (z : Core S). z.threads y.number) ends ∙ so.1);
         places = λ k within. elim (leb_tells k n) [
-          | inl less ↦ subst (IsPlaceIn code b first main w later) (sym (up_to p.cores n d k less.1)) (earlier (p.places k less.1))
+          | inl less ↦
+              subst (λ xs. IsPlaceIn code b first main w later (with_entries xs []) (c k)) (sym (take_same p.acts x k less.1))
+              (subst (IsPlaceIn code b first main w later (with_entries (take k p.acts) [])) (sym (up_to p.cores n d k less.1)) (earlier (p.places k less.1)))
           | inr more ↦
               let here : k ≡ suc n = all_but k within more.1 in
-              record {
-                newer = [];
-                older = later;
-                parts = refl;
-                words = ap (λ m. (c m).words) here ∙ ap (λ z. z.words) (behind_all p.cores n d) ∙ words;
-                threads = λ t th is. stands t th (ap (λ z. z.threads t) (sym (ap c here ∙ behind_all p.cores n d)) ∙ is);
-              }
+              subst (λ xs. IsPlaceIn code b first main w later xs (c k)) (sym (ap (λ xs. with_entries xs []) (take_whole acts k (whole k here)) ∙ all_steps))
+              (subst (IsPlaceIn code b first main w later later) (sym (ap c here ∙ behind_all p.cores n d))
+              (record { newer = []; parts = refl; words = words; threads = stands; begun = begun }))
         ];
       };
       ends = ends;
@@ -168,8 +186,27 @@ module _ {S : Type 0} (code : Code S) (b : Bounds) where
         all_but : (k : ℕ) → k ≤ length (p.acts ++ x ∷ []) → n < k → k ≡ suc n
         all_but k within more = let size = length_more p.acts x in omega (arith, within, more, size)
 
-        earlier : {core : Core S} → IsPlaceIn code b first main w run core → IsPlaceIn code b first main w later core
-        earlier at = record { newer = newer ++ at.newer; older = at.older; parts = parts ∙ ap (λ xs. newer ++ xs) at.parts ∙ sym (append_assoc newer at.newer at.older); words = at.words; threads = at.threads }
+        whole : (k : ℕ) → k ≡ suc n → length (p.acts ++ x ∷ []) ≤ k
+        whole k here = let size = length_more p.acts x in omega (arith, here, size)
+
+        all_steps : with_entries (p.acts ++ x ∷ []) [] ≡ later
+        all_steps = entries_more p.acts x [] ∙ ap (with_entry x) p.steps ∙ entry
+
+        earlier : {older : List RunEntry} {core : Core S} → IsPlaceIn code b first main w run older core → IsPlaceIn code b first main w later older core
+        earlier {older = older} at =
+            record { newer = newer ++ at.newer; parts = parts ∙ ap (λ xs. newer ++ xs) at.parts ∙ sym (append_assoc newer at.newer older); words = at.words; threads = at.threads; begun = at.begun }
+
+    -- each thread that has begun is there still, where one of them is another one now
+    still_there : (bs : List Birth) (threads : Threads S) (t : ℕ) (y : ThreadState S) → ((x : Birth) → Contains bs x → (th : ThreadState S) × (threads x.number ≡ Some th))
+        → (x : Birth) → Contains bs x → (th : ThreadState S) × (set_at threads t (Some y) x.number ≡ Some th)
+    still_there bs threads t y begun x there = elim (same_or_other x.number t) [
+      | inl own ↦ (y, ap (set_at threads t (Some y)) own ∙ set_at-hit threads t (Some y))
+      | inr other ↦ let was = begun x there in (was.0, set_at-other threads t (Some y) x.number other ∙ was.1)
+    ]
+
+    beside_births : (step : Step) (bs : List Birth) → is_beside step ≡ true → births_after step bs ≡ bs
+    beside_births (Split n r p) bs is = absurd (true≢false (sym is))
+    beside_births step bs is = refl
 
     -- ---- silent moves
 
@@ -213,7 +250,7 @@ module _ {S : Type 0} (code : Code S) (b : Bounds) where
             q.path.words
             (λ u. each (Stands run u) (last q.path).threads t (after_quiet z l) u
             (λ mine. subst (λ v. Stands run v (after_quiet z l)) (sym mine) (stands_by own (suc n) moves))
-            (λ uh other at. q.path.stands u uh at)) [] refl
+            (λ uh other at. q.path.stands u uh at)) (still_there (births main run) (last q.path).threads t (after_quiet z l) q.path.begun) [] refl
 
     quiet_grow : (run : List RunEntry) (p : Path run) (t : ℕ) (x : ThreadState S) → Own run t x → (last p).threads t ≡ Some x → (n : ℕ) (y : ThreadState S) → Quietly code b n x y
         → Quieted run (last p).threads t y
@@ -296,7 +333,7 @@ module _ {S : Type 0} (code : Code S) (b : Bounds) where
               | inl own ↦ subst (λ u. Stands (e ∷ run) u th) (sym own)
                   (subst (Stands (e ∷ run) e.thread) (sym stays ∙ some_is turn.about th (sym there ∙ ap (last p).threads (sym own) ∙ at)) (turned turn))
               | inr other ↦ stands_on e run t th other (p.stands t th at)
-            ]) (e ∷ []) refl
+            ]) (λ x at. p.begun x (subst (λ bs. Contains bs x) (beside_births e.made.step (births main run) is) at)) (e ∷ []) refl
 
     -- a thread that hasn't begun has made no steps
     no_steps : (n : ℕ) (run : List RunEntry) → StepOnceBegun main run → ((x : Birth) → Contains (births main run) x → n ≡ x.number → ⊥) → part_of n run ≡ []
@@ -362,6 +399,20 @@ module _ {S : Type 0} (code : Code S) (b : Bounds) where
       not_handed (Split n r q) split x at = set_at-other after n (Some (first_state n q (code.child z.local r))) x.number (λ same. new n r q split x at (sym same))
       not_handed step same x at = refl
 
+      -- each thread that has begun is there
+      begun_after : (step : Step) → e.made.step ≡ step → (x : Birth) → Contains (births_after step (births main run)) x → (th : ThreadState S) × (threads_by code step z.local after x.number ≡ Some th)
+      begun_after (Split n r q) split x at = elim (in_front (record { number = n; object = r; priority = q }) x (births main run) at) [
+        | inl is_new ↦ (
+          first_state n q (code.child z.local r),
+          ap (λ (v : Birth). set_at after n (Some (first_state n q (code.child z.local r))) v.number) (sym is_new)
+              ∙ set_at-hit after n (Some (first_state n q (code.child z.local r))),
+        )
+        | inr rest ↦
+            let was = still_there (births main run) (last p).threads t (after_answer code b z e.made.step e.made.answer) p.begun x rest in
+            (was.0, not_handed (Split n r q) split x rest ∙ was.1)
+      ]
+      begun_after step same x at = still_there (births main run) (last p).threads t (after_answer code b z e.made.step e.made.answer) p.begun x at
+
       abbrev behind : Core S
       behind = core_after code b (length p.acts) (last p) t z e.made.step e.made.answer
 
@@ -374,7 +425,7 @@ module _ {S : Type 0} (code : Code S) (b : Bounds) where
             answered = answered ∙ ap (λ v. answer_of v e.made.step) (sym p.words ∙ ap (λ (core : Core S). core.words) (sym here));
             leads = next ∙ ap (λ (core : Core S). core_after code b (length p.acts) core t z e.made.step e.made.answer) (sym here);
           })
-          (ap (words_after e.made.step) p.words) (handed_stands e.made.step refl) (e ∷ []) refl
+          (ap (words_after e.made.step) p.words) (handed_stands e.made.step refl) (begun_after e.made.step refl) (e ∷ []) refl
 
       did_step : Stepped e run (last p).threads y
       did_step = record {
@@ -419,6 +470,12 @@ module _ {S : Type 0} (code : Code S) (b : Bounds) where
           (λ own. record { birth = main; begun = (0, omega arith, refl); number = sym own; last = first main; own = refl; moves = 0; quietly = refl })
           (λ uh other at. none_some uh at)
 
+      first_begun : (x : Birth) → Contains (births main []) x → (th : ThreadState S) × (first_core.threads x.number ≡ Some th)
+      first_begun x at = elim (in_front main x [] at) [
+        | inl is ↦ (first main, ap (λ (y : Birth). first_core.threads y.number) (sym is) ∙ set_at-hit (λ t. None) main.number (Some (first main)))
+        | inr rest ↦ none_there x rest
+      ]
+
       first_path : Path []
       first_path = record {
         cores = λ k. first_core;
@@ -434,7 +491,9 @@ module _ {S : Type 0} (code : Code S) (b : Bounds) where
         steps = refl;
         words = refl;
         stands = first_stands;
-        places = λ k within. record { newer = []; older = []; parts = refl; words = refl; threads = first_stands };
+        begun = first_begun;
+        places = λ k within. subst (λ xs. IsPlaceIn code b first main w [] (with_entries xs []) first_core) (sym (take_whole [] k (omega arith)))
+            (record { newer = []; parts = refl; words = refl; threads = first_stands; begun = first_begun });
       }
 
       first_reached : (ys : ℕ → ThreadState S) → Owns [] ys → Reached [] ys

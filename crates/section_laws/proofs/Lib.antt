@@ -15,6 +15,7 @@ pub mod GoneLemmas
 pub mod StepLemmas
 pub mod MonitorLemmas
 pub mod OrderLemmas
+pub mod FoundLemmas
 pub mod PlaceLemmas
 pub mod LaidLemmas
 pub mod LayoutLemmas

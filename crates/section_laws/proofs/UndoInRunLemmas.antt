@@ -1,5 +1,5 @@
 -- Undoing puts back what a section has overwritten, in runs as lists.
-use Rattle.std.proofs.Common.{◌≡◌, inl, inr, ℕ, zero, suc, true≢false, Some, List, [], ◌∷◌, refl, sym, ◌∙◌, ap, subst, arith}
+use Rattle.std.proofs.Common.{◌≡◌, inl, inr, ℕ, zero, suc, true≢false, Some, List, [], ◌∷◌, take, refl, sym, ◌∙◌, ap, subst, arith}
 use Rattle.std.specs.Prelude.{Contains, slice_get}
 use Rattle.op_core.specs.ThreadCode.{Code}
 use Rattle.heap_words.specs.declared.areas.Area.TheVariants.{Object}
@@ -80,7 +80,7 @@ module _ {S : Type 0} (code : Code S) (b : Bounds) (first : Birth → ThreadStat
         };
     in_range = λ k t th op within stands wants.
         let place = made.places k within in
-        plain.in_range place.newer place.older place.parts t th op (place.threads t th stands) wants;
+        plain.in_range place.newer (with_entries (take k made.acts) []) place.parts t th op (place.threads t th stands) wants;
   }
 
   puts_back : (t s x : ℕ) → Contains run (entry t (MarkUndone s x) Answer.Done)

@@ -1,6 +1,6 @@
 -- Runs as one list of entries, newest first: where threads stand in them, which acts they have, and the laws of sections
 -- in them.
-use Rattle.std.specs.Prelude.{◌≡◌, ◌≢◌, ◌<◌, ◌≤◌, ℕ, Some, ◌⊎◌, List, [], ◌∷◌, ◌++◌, Contains, length, slice_get}
+use Rattle.std.specs.Prelude.{◌≡◌, ◌≢◌, ◌<◌, ◌≤◌, ℕ, Some, ◌⊎◌, List, [], ◌∷◌, ◌++◌, Contains, length, take, slice_get}
 use Rattle.op_core.specs.declared.Op.{Op}
 use Rattle.op_core.specs.declared.Op.TheVariants.{Read}
 use Rattle.op_core.specs.declared.Reply.{Reply}
@@ -58,16 +58,17 @@ abbrev pub with_entries : List Act → List RunEntry → List RunEntry
 with_entries [] run = run
 with_entries (x ∷ acts) run = with_entries acts (with_entry x run)
 
--- the core is what is so behind some first entries of the run: those are `older`
+-- the core is what is so behind the entries `older`, with which the run begins
 pub record IsPlaceIn {S : Type 0} (code : Code S) (b : Bounds) (first : Birth → ThreadState S) (main : Birth)
-    (w : Words) (run : List RunEntry) (core : Core S) : Type 0 where
+    (w : Words) (run older : List RunEntry) (core : Core S) : Type 0 where
   pub newer : List RunEntry
-  pub older : List RunEntry
   pub parts : run ≡ newer ++ older
   pub words : core.words ≡ words_by w older
   pub threads : (t : ℕ) (th : ThreadState S) → core.threads t ≡ Some th → StandsBehind code b first main older t th
+  pub begun : (x : Birth) → Contains (births main older) x → (th : ThreadState S) × (core.threads x.number ≡ Some th)
 
--- The acts are the steps of the run, one after another, with the silent moves of the threads between them.
+-- The acts are the steps of the run, one after another, with the silent moves of the threads between them: behind each
+-- act words and threads are those behind the entries of the acts so far.
 pub record ActsOf {S : Type 0} (code : Code S) (b : Bounds) (first : Birth → ThreadState S) (main : Birth)
     (w : Words) (run : List RunEntry) : Type 0 where
   pub cores : ℕ → Core S
@@ -75,7 +76,7 @@ pub record ActsOf {S : Type 0} (code : Code S) (b : Bounds) (first : Birth → T
   pub is_run : IsRun code b cores acts
   pub starts : (cores 0).words ≡ w
   pub steps : with_entries acts [] ≡ run
-  pub places : (k : ℕ) → k ≤ length acts → IsPlaceIn code b first main w run (cores k)
+  pub places : (k : ℕ) → k ≤ length acts → IsPlaceIn code b first main w run (with_entries (take k acts) []) (cores k)
 
 -- A thread that is handed out begins as the code says, with its number and its priority.
 abbrev pub BeginsSo : {S : Type 0} → Code S → Bounds → (Birth → ThreadState S) → Birth → RunEntry → List RunEntry

@@ -63,3 +63,9 @@ UndoingGoesInOrder {S} code = (b : Bounds) (c : ℕ → Core S) (acts : List Act
     → (k q t s w x : ℕ) (th : ThreadState S) → FindsRevoked c acts k t s w th
     → k < q → slice_get acts q ≡ Some (did t (MarkUndone s x) Done)
     → UndoesInOrder code c acts k q t s w th
+
+-- a section that is undone was found revoked by its thread before
+abbrev pub UndoneSectionsWereFoundRevoked : {S : Type 0} → Code S → Type 0
+UndoneSectionsWereFoundRevoked {S} code = (b : Bounds) (c : ℕ → Core S) (acts : List Act) → IsRun code b c acts
+    → (q t s x : ℕ) → slice_get acts q ≡ Some (did t (MarkUndone s x) Done)
+    → (k w : ℕ) × (th : ThreadState S) × (k < q) × FindsRevoked c acts k t s w th

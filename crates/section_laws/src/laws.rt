@@ -5,7 +5,7 @@ ghost use Rattle.section_laws.specs.Pinning.{PinnedSectionsStay, PinnedSectionsS
 ghost use Rattle.section_laws.specs.Observed.{ObservedSectionsStay};
 ghost use Rattle.section_laws.specs.Undoing.{UndoingPutsBack};
 ghost use Rattle.section_laws.specs.Layout.{RunsKeepLayout};
-ghost use Rattle.section_laws.specs.UndoOrder.{UndoingGoesInOrder};
+ghost use Rattle.section_laws.specs.UndoOrder.{UndoingGoesInOrder, UndoneSectionsWereFoundRevoked};
 ghost use Rattle.section_laws.specs.Gone.{UndoneSectionsAreGone};
 ghost use Rattle.section_laws.specs.InRuns.{RunsHaveActs, SectionsComeOnInRuns, SectionsOpenOnceInRuns, SectionsAreApartInRuns, OthersSectionsStayInRuns, ObservedSectionsStayInRuns, UndoingPutsBackInRuns};
 ghost use Rattle.section_laws.specs.Example.{UndoneRun, UndoneRunInList};
@@ -93,10 +93,11 @@ pub fn observed_sections_stay_in_runs<C: ThreadCode>()
     ensures { ObservedSectionsStayInRuns C.code }
 {}
 
-/// Where the words that are overwritten are words of objects alone (`WritesObjectWords`): a section that is undone was opened
-/// by its thread before. Once it is undone, each word that its thread has overwritten in it was put back, and no other word. As it was put back the word still carried the
-/// section's number, and then it was as the section had found it, value and tag. As the section is noted undone, no word
-/// that is ever overwritten carries its number, and the thread stands where it stood as it was to enter.
+/// Where the words that are overwritten are words of objects alone (`WritesObjectWords`): a section that is undone was
+/// opened by its thread before. Once it is undone, each word that its thread has overwritten in it was put back, and no
+/// other word. As it was put back the word still carried the section's number, and then it was as the section had found
+/// it, value and tag. As the section is noted undone, no word of an object carries its number, and the thread stands where
+/// it stood as it was to enter.
 pub fn undoing_puts_back<C: ThreadCode>()
     ensures { UndoingPutsBack C.code }
 {}
@@ -104,6 +105,11 @@ pub fn undoing_puts_back<C: ThreadCode>()
 /// So it is in each run as one list, in the acts that it has (`runs_have_acts`).
 pub fn undoing_puts_back_in_runs<C: ThreadCode>()
     ensures { UndoingPutsBackInRuns C.code }
+{}
+
+/// A section that is undone was found revoked by its thread before.
+pub fn undone_sections_were_found_revoked<C: ThreadCode>()
+    ensures { UndoneSectionsWereFoundRevoked C.code }
 {}
 
 /// A thread that finds its section revoked makes, until the section is noted undone, the steps of undoing and nothing

@@ -13,5 +13,5 @@ pub use laws::{
     sections_are_apart_in_runs, sections_come_on, sections_come_on_in_runs, sections_open_once,
     sections_open_once_in_runs, some_section_is_undone, some_section_is_undone_in_runs,
     undoing_goes_in_order, undoing_puts_back, undoing_puts_back_in_runs, undone_sections_are_gone,
-    zero_is_no_section,
+    undone_sections_were_found_revoked, zero_is_no_section,
 };
