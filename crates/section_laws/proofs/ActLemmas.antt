@@ -45,7 +45,7 @@ take_same [] x (suc k) within = absurd (too_long k within)
     too_long k within = omega arith
 take_same (y ∷ xs) x (suc k) within = ap (λ zs. y ∷ zs) (take_same xs x k (omega (arith, within)))
 
-take_whole : {A : Type 0} (xs : List A) (k : ℕ) → length xs ≤ k → take k xs ≡ xs
+pub take_whole : {A : Type 0} (xs : List A) (k : ℕ) → length xs ≤ k → take k xs ≡ xs
 take_whole [] zero within = refl
 take_whole [] (suc k) within = refl
 take_whole (y ∷ xs) zero within = absurd (too_long (length xs) within)

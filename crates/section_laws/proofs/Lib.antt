@@ -21,6 +21,7 @@ pub mod LaidLemmas
 pub mod LayoutLemmas
 pub mod ExampleLemmas
 pub mod ListExampleLemmas
+pub mod ObservedExampleLemmas
 pub mod CoreRunLemmas
 pub mod NumberLemmas
 pub mod InRunLemmas

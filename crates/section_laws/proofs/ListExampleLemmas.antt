@@ -23,6 +23,7 @@ use Rattle.thread_automaton.specs.Told.{after_answer}
 use Rattle.core_runs.specs.WordRuns.{StepMade, RunEntry, IsWordRun, part_of}
 use Rattle.core_runs.specs.OwnParts.{OwnTo, IsOwnPart, Birth, births, StepOnceBegun}
 use Rattle.section_laws.specs.Undoing.{IsWordStep}
+use Rattle.section_laws.specs.Gone.{IsMonitorStep}
 use Rattle.section_laws.specs.InRuns.{BeginAsHandedOut, WritesObjectWordsIn}
 use Rattle.section_laws.specs.Example.{UndoneRunInList}
 use Rattle.section_laws.proofs.ClaimLemmas.{some_is, none_some}
@@ -354,6 +355,16 @@ elsewhere n other is = absurd (differ n 5 other (sym is))
 all_apart : Each IsApart list_run
 all_apart = (λ on. elsewhere 0 refl (ap place_number on), (λ on. elsewhere 2 refl (ap place_number on), (λ on. tt, (λ on. elsewhere 0 refl (ap place_number on), (λ on. elsewhere 0 refl (ap place_number on), (λ on. elsewhere 0 refl (ap place_number on), (λ on. elsewhere 2 refl (ap place_number on), (λ on. tt, (λ on. tt, (λ on. elsewhere 0 refl (ap place_number on), (λ on. elsewhere 2 refl (ap place_number on), (λ on. elsewhere 0 refl (ap place_number on), (λ on. elsewhere 0 refl (ap place_number on), (λ on. elsewhere 2 refl (ap place_number on), (λ on. elsewhere 0 refl (ap place_number on), (λ on. elsewhere 12 refl (ap place_number on), (λ on. elsewhere 0 refl (ap place_number on), (λ on. elsewhere 12 refl (ap place_number on), tt))))))))))))))))))
 
+-- the monitor of object 1
+abbrev IsOnMonitor : RunEntry → Type 0
+IsOnMonitor e = place_of e.made.step ≡ Object 2 → IsMonitorStep e.made.step
+
+not_there : {P : Type 0} (n : ℕ) → nat_eq n 2 ≡ false → n ≡ 2 → P
+not_there n other is = absurd (differ n 2 other (sym is))
+
+all_on_monitor : Each IsOnMonitor list_run
+all_on_monitor = (λ on. not_there 0 refl (ap place_number on), (λ on. tt, (λ on. not_there 5 refl (ap place_number on), (λ on. not_there 0 refl (ap place_number on), (λ on. not_there 0 refl (ap place_number on), (λ on. not_there 0 refl (ap place_number on), (λ on. tt, (λ on. not_there 5 refl (ap place_number on), (λ on. not_there 5 refl (ap place_number on), (λ on. not_there 0 refl (ap place_number on), (λ on. tt, (λ on. not_there 0 refl (ap place_number on), (λ on. not_there 0 refl (ap place_number on), (λ on. tt, (λ on. not_there 0 refl (ap place_number on), (λ on. not_there 12 refl (ap place_number on), (λ on. not_there 0 refl (ap place_number on), (λ on. not_there 12 refl (ap place_number on), tt))))))))))))))))))
+
 abbrev HasRange : Next → Type 0
 HasRange (Want op) = IsInRange op
 HasRange next = Unit {0}
@@ -365,10 +376,12 @@ in_range (suc (suc l)) = (omega arith, omega arith, omega arith)
 
 plain_words : WritesObjectWordsIn list_code small list_first list_main list_words list_run
 plain_words = record {
-  apart = λ at wrote e there on.
-      let five : at ≡ 5 = each_there OnlyFive list_run only_five _ wrote.3 at refl in
-      each_there IsApart list_run all_apart e there (on ∙ ap Object five);
-  unwritten = λ at wrote. no_tag;
+  overwritten = λ at wrote. record {
+    apart = λ e there on.
+        let five : at ≡ 5 = each_there OnlyFive list_run only_five _ wrote.3 at refl in
+        each_there IsApart list_run all_apart e there (on ∙ ap Object five);
+    unwritten = no_tag;
+  };
   in_range = λ newer older parts t th op stands wants. subst HasRange wants (in_range th.local);
 }
 
@@ -388,10 +401,12 @@ undone_in_list = record {
   drawn = omega arith;
   begin = all_handed_out;
   plain = plain_words;
+  small = omega arith;
   thread = 1;
   section = 1;
   hands_out = (2, 9, 5, 0, (14, omega arith, refl));
   opens = (own Live, (11, omega arith, refl));
+  takes = (1, monitor_word 1 1, record { apart = λ e there on. each_there IsOnMonitor list_run all_on_monitor e there on; free = refl }, (10, omega arith, refl));
   writes = (5, 0, pack 7 1, (7, omega arith, refl));
   undoes = (own Undone, (0, omega arith, refl));
 }

@@ -1,5 +1,5 @@
--- That the laws of undoing speak of runs that there are.
-use Rattle.std.specs.Prelude.{◌≡◌, ◌<◌, ◌≤◌, ◌^◌, ℕ, Bool, Some, List, Contains, slice_get}
+-- That the laws speak of runs that there are.
+use Rattle.std.specs.Prelude.{◌≡◌, ◌≢◌, ◌<◌, ◌≤◌, ◌^◌, ℕ, Bool, Some, List, ◌∷◌, ◌++◌, Contains, slice_get}
 use Rattle.op_core.specs.ThreadCode.{Code}
 use Rattle.heap_words.specs.declared.areas.Area.TheVariants.{Control}
 use Rattle.step_port.specs.declared.answer.Answer.TheVariants.{Found, Done}
@@ -17,7 +17,7 @@ use Rattle.section_laws.specs.Undoing.{WritesObjectWords, Overwrites}
 use Rattle.section_laws.specs.Layout.{IsLaidOut, WantsFitObjects}
 use Rattle.section_laws.specs.UndoOrder.{FindsRevoked}
 use Rattle.section_laws.specs.Gone.{IsMonitor}
-use Rattle.section_laws.specs.InRuns.{BeginAsHandedOut, WritesObjectWordsIn}
+use Rattle.section_laws.specs.InRuns.{BeginAsHandedOut, ObservesIn, WritesObjectWordsIn, IsMonitorIn}
 
 -- A run with all that the laws ask for, in which a section is opened, takes a monitor, overwrites a word, is found revoked
 -- by its thread and is undone.
@@ -50,8 +50,8 @@ pub record UndoneRun : Type 0 where
 abbrev pub done : ℕ → Step → RunEntry
 done t step = record { thread = t; made = record { step = step; answer = Done } }
 
--- A run as one list with all that the laws ask for, in which a thread is handed out, and a section is opened, overwrites
--- a word and is undone.
+-- A run as one list with all that the laws ask for, in which a thread is handed out, and a section is opened, takes a
+-- monitor, overwrites a word and is undone.
 pub record UndoneRunInList : Type 0 where
   pub code : Code ℕ
   pub bounds : Bounds
@@ -63,9 +63,27 @@ pub record UndoneRunInList : Type 0 where
   pub drawn : main.number ≤ words (Control 4)
   pub begin : BeginAsHandedOut code bounds first main run
   pub plain : WritesObjectWordsIn code bounds first main words run
+  pub small : bounds.limits.sections < 2 ^ 32
   pub thread : ℕ
   pub section : ℕ
-  pub hands_out : (n r p place : ℕ) × Contains run (record { thread = thread; made = record { step = Split n r p; answer = Found place } })
+  pub hands_out : (n r p place : ℕ)
+      × Contains run (record { thread = thread; made = record { step = Split n r p; answer = Found place } })
   pub opens : (word : ℕ) × Contains run (done thread (OpenSection section word))
+  pub takes : (r word : ℕ) × IsMonitorIn words run r × Contains run (done thread (TakeMonitor r word))
   pub writes : (at old new : ℕ) × Contains run (done thread (SwapWord at old new))
   pub undoes : (word : ℕ) × Contains run (done thread (MarkUndone section word))
+
+-- A run as one list, in which with an entry a thread reads a word that carries the number of another one's section.
+pub record ObservedRunInList : Type 0 where
+  pub code : Code ℕ
+  pub bounds : Bounds
+  pub first : Birth → ThreadState ℕ
+  pub main : Birth
+  pub words : Words
+  pub newer : List RunEntry
+  pub entry : RunEntry
+  pub older : List RunEntry
+  pub is_run : IsRunFrom code bounds first main words (newer ++ entry ∷ older)
+  pub section : ℕ
+  pub some : section ≢ 0
+  pub observes : ObservesIn code bounds first main entry older section

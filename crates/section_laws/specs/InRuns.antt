@@ -1,6 +1,6 @@
 -- Runs as one list of entries, newest first: where threads stand in them, which acts they have, and the laws of sections
 -- in them.
-use Rattle.std.specs.Prelude.{◌≡◌, ◌≢◌, ◌<◌, ◌≤◌, ℕ, Some, ◌⊎◌, List, [], ◌∷◌, ◌++◌, Contains, length, take, slice_get}
+use Rattle.std.specs.Prelude.{◌≡◌, ◌≢◌, ◌<◌, ◌≤◌, ◌+◌, ◌^◌, ℕ, Some, ◌⊎◌, List, [], ◌∷◌, ◌++◌, Contains, length, take, slice_get}
 use Rattle.op_core.specs.declared.Op.{Op}
 use Rattle.op_core.specs.declared.Op.TheVariants.{Read}
 use Rattle.op_core.specs.declared.Reply.{Reply}
@@ -10,6 +10,7 @@ use Rattle.op_core.specs.InPlaceList.{IsInRange}
 use Rattle.heap_words.specs.declared.areas.Area.TheVariants.{Control, Section, Object}
 use Rattle.heap_words.specs.Words.{tag_of}
 use Rattle.section_state.specs.declared.State.TheVariants.{Live}
+use Rattle.monitor_core.specs.Monitors.{monitor_section}
 use Rattle.step_port.specs.declared.answer.Answer.TheVariants.{Found, Done}
 use Rattle.step_port.specs.declared.step.Step.{Step}
 use Rattle.step_port.specs.declared.step.Step.TheVariants.{LoadWord, SwapWord, OpenSection, Revoke, MarkUndone, Split}
@@ -26,6 +27,7 @@ use Rattle.core_runs.specs.Cores.{Core}
 use Rattle.core_runs.specs.Acts.{Act, quiet, did, beside}
 use Rattle.section_laws.specs.Runs.{IsRun, IsRunFrom, MayBecome, IsPinnedOrRevoked}
 use Rattle.section_laws.specs.Undoing.{IsWordStep, HasOpened, IsUndone}
+use Rattle.section_laws.specs.Gone.{IsMonitorStep}
 
 -- ---- where threads stand
 
@@ -173,13 +175,16 @@ abbrev pub OverwritesIn : List RunEntry → ℕ → Type 0
 OverwritesIn run at =
     (t old new : ℕ) × Contains run (record { thread = t; made = record { step = SwapWord at old new; answer = Done } })
 
--- The words that are overwritten are words of objects alone, and no section had written them as the run began; and
--- what threads want is in range.
+-- a word of an object that code reads and writes: no other steps are made on it, and no section had written it as the
+-- run began
+pub record IsHeapWordIn (w : Words) (run : List RunEntry) (at : ℕ) : Type 0 where
+  pub apart : (e : RunEntry) → Contains run e → place_of e.made.step ≡ Object at → IsWordStep e.made.step
+  pub unwritten : tag_of (w (Object at)) ≡ 0
+
+-- Only such words are overwritten, and what threads want is in range.
 pub record WritesObjectWordsIn {S : Type 0} (code : Code S) (b : Bounds) (first : Birth → ThreadState S) (main : Birth)
     (w : Words) (run : List RunEntry) : Type 0 where
-  pub apart : (at : ℕ) → OverwritesIn run at
-      → (e : RunEntry) → Contains run e → place_of e.made.step ≡ Object at → IsWordStep e.made.step
-  pub unwritten : (at : ℕ) → OverwritesIn run at → tag_of (w (Object at)) ≡ 0
+  pub overwritten : (at : ℕ) → OverwritesIn run at → IsHeapWordIn w run at
   pub in_range : (newer older : List RunEntry) → run ≡ newer ++ older → (t : ℕ) (th : ThreadState S) (op : Op)
       → StandsBehind code b first main older t th → code.next th.local ≡ Want op → IsInRange op
 
@@ -191,3 +196,22 @@ UndoingPutsBackInRuns {S} code = (b : Bounds) (first : Birth → ThreadState S) 
     → (t s x : ℕ) → Contains run (record { thread = t; made = record { step = MarkUndone s x; answer = Done } })
     → (p q : ℕ) × (slice_get made.acts q ≡ Some (did t (MarkUndone s x) Done))
     × HasOpened made.acts p q t s × IsUndone made.cores made.acts p q t s
+
+-- the monitor of an object at r: no other steps are made on its word, and it was free as the run began
+pub record IsMonitorIn (w : Words) (run : List RunEntry) (r : ℕ) : Type 0 where
+  pub apart : (e : RunEntry) → Contains run e → place_of e.made.step ≡ Object (r + 1) → IsMonitorStep e.made.step
+  pub free : w (Object (r + 1)) ≡ 0
+
+-- behind the run no word carries the number of the section, and no monitor is held by it
+pub record IsGoneBehind (w : Words) (run : List RunEntry) (s : ℕ) : Type 0 where
+  pub words : (at : ℕ) → IsHeapWordIn w run at → tag_of (words_by w run (Object at)) ≡ s → ⊥
+  pub monitors : (r : ℕ) → IsMonitorIn w run r → monitor_section (words_by w run (Object (r + 1))) ≡ s → ⊥
+
+-- So it is with each section that is noted undone, where the run has acts. What a run has begun with is a run too, so
+-- this is so at each place behind the note.
+abbrev pub UndoneSectionsAreGoneInRuns : {S : Type 0} → Code S → Type 0
+UndoneSectionsAreGoneInRuns {S} code = (b : Bounds) (first : Birth → ThreadState S) (main : Birth) (w : Words)
+    (run : List RunEntry) → IsRunFrom code b first main w run → main.number ≤ w (Control 4)
+    → BeginAsHandedOut code b first main run → WritesObjectWordsIn code b first main w run → b.limits.sections < 2 ^ 32
+    → (t s x : ℕ) → Contains run (record { thread = t; made = record { step = MarkUndone s x; answer = Done } })
+    → IsGoneBehind w run s

@@ -7,8 +7,8 @@ ghost use Rattle.section_laws.specs.Undoing.{UndoingPutsBack};
 ghost use Rattle.section_laws.specs.Layout.{RunsKeepLayout};
 ghost use Rattle.section_laws.specs.UndoOrder.{UndoingGoesInOrder, UndoneSectionsWereFoundRevoked};
 ghost use Rattle.section_laws.specs.Gone.{UndoneSectionsAreGone};
-ghost use Rattle.section_laws.specs.InRuns.{RunsHaveActs, SectionsComeOnInRuns, SectionsOpenOnceInRuns, SectionsAreApartInRuns, OthersSectionsStayInRuns, ObservedSectionsStayInRuns, UndoingPutsBackInRuns};
-ghost use Rattle.section_laws.specs.Example.{UndoneRun, UndoneRunInList};
+ghost use Rattle.section_laws.specs.InRuns.{RunsHaveActs, SectionsComeOnInRuns, SectionsOpenOnceInRuns, SectionsAreApartInRuns, OthersSectionsStayInRuns, ObservedSectionsStayInRuns, UndoingPutsBackInRuns, UndoneSectionsAreGoneInRuns};
+ghost use Rattle.section_laws.specs.Example.{UndoneRun, UndoneRunInList, ObservedRunInList};
 
 use op_core::ThreadCode;
 
@@ -124,6 +124,11 @@ pub fn undone_sections_are_gone<C: ThreadCode>()
     ensures { UndoneSectionsAreGone C.code }
 {}
 
+/// So it is behind each run as one list in which it is noted undone.
+pub fn undone_sections_are_gone_in_runs<C: ThreadCode>()
+    ensures { UndoneSectionsAreGoneInRuns C.code }
+{}
+
 /// Where objects lie apart as the run begins, and each thread wants objects and words that are there, in range, and no
 /// start words: threads overwrite words of objects alone, as the laws of undoing need it, and each object has a monitor.
 pub fn runs_keep_layout<C: ThreadCode>()
@@ -139,4 +144,9 @@ pub fn some_section_is_undone()
 /// So there are as one list, also with a thread that another one has handed out.
 pub fn some_section_is_undone_in_runs()
     ensures { UndoneRunInList }
+{}
+
+/// There are runs as one list in which a thread reads a word that another one's section has written.
+pub fn some_section_is_observed_in_runs()
+    ensures { ObservedRunInList }
 {}
