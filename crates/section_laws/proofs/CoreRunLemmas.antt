@@ -22,37 +22,37 @@ use Rattle.automaton_rows.proofs.RowLemmas.{words_can_answer}
 use Rattle.automaton_rows.proofs.FitLemmas.{answers_keep, silent_steps_keep}
 use Rattle.core_runs.specs.WordRuns.{StepMade, RunEntry, words_by, part_of}
 use Rattle.core_runs.specs.OwnParts.{is_beside, Quietly, MakesOwn, OwnTo, IsOwnPart, Birth, births_after, births, IsCoreRun}
-use Rattle.section_laws.specs.Runs.{BeginsAt, MayBecome, SectionsComeOnInRuns, RunsBeginWithRuns}
+use Rattle.section_laws.specs.Runs.{BeginsAt, RunsBeginWithRuns}
 use Rattle.section_laws.specs.Pinning.{StaysPinnedIn, PinnedSectionsStayInRuns}
 use Rattle.section_laws.proofs.WordLemmas.{state_replaced, is_state, exchanged, put_section}
 use Rattle.section_laws.proofs.DeedLemmas.{view, calm, Deed, deed_of, done_as}
 use Rattle.section_laws.proofs.ClaimLemmas.{section_changes}
 use Rattle.section_laws.proofs.FactLemmas.{Facts, came_other, came_own, step_facts, Calmed, as_before, calmed, still_facts, first_facts, beside_facts}
-use Rattle.section_laws.proofs.PinLemmas.{Settled, Gone, state_moves, settled_follows, gone_follows, change_moves, beside_stays}
+use Rattle.section_laws.proofs.PinLemmas.{Moves, Settled, Gone, state_moves, settled_follows, gone_follows, change_moves, beside_stays}
 
 -- ---- lists
 
-in_front : {A : Type 0} (y x : A) (xs : List A) → Contains (y ∷ xs) x → (y ≡ x) ⊎ Contains xs x
+pub in_front : {A : Type 0} (y x : A) (xs : List A) → Contains (y ∷ xs) x → (y ≡ x) ⊎ Contains xs x
 in_front y x xs (zero, below, is) = inl is
 in_front y x xs (suc k, below, is) = inr (k, omega (arith, below), is)
 
-behind_front : {A : Type 0} (y x : A) (xs : List A) → Contains xs x → Contains (y ∷ xs) x
+pub behind_front : {A : Type 0} (y x : A) (xs : List A) → Contains xs x → Contains (y ∷ xs) x
 behind_front y x xs (k, below, is) = (suc k, omega (arith, below), is)
 
-none_there : {A : Type 0} {P : Type 0} (x : A) → Contains [] x → P
+pub none_there : {A : Type 0} {P : Type 0} (x : A) → Contains [] x → P
 none_there x (k, below, is) = absurd (no k below)
   where
     no : (k : ℕ) → k < 0 → ⊥
     no k below = omega arith
 
-begun_later : (step : Step) (births : List Birth) (birth : Birth) → Contains births birth → Contains (births_after step births) birth
+pub begun_later : (step : Step) (births : List Birth) (birth : Birth) → Contains births birth → Contains (births_after step births) birth
 begun_later (Split n r p) births birth there = behind_front _ birth births there
 begun_later step births birth there = there
 
-equal : (m n : ℕ) → nat_eq m n ≡ true → m ≡ n
+pub equal : (m n : ℕ) → nat_eq m n ≡ true → m ≡ n
 equal m n is = grind (arith, common_steps, nat_tests)
 
-differ : (m n : ℕ) → nat_eq m n ≡ false → n ≢ m
+pub differ : (m n : ℕ) → nat_eq m n ≡ false → n ≢ m
 differ m n is same = grind (arith, common_steps, nat_tests)
 
 module _ {S : Type 0} (code : Code S) (b : Bounds) where
@@ -70,19 +70,19 @@ module _ {S : Type 0} (code : Code S) (b : Bounds) where
   -- ---- who stands where
 
   -- from some beginning on, these are its steps, and then it has made silent moves
-  record StandsIn (run : List RunEntry) (u : ℕ) (th : ThreadState S) : Type 0 where
-    start : ThreadState S
-    begins : BeginsAt start
-    behind : ThreadState S
-    own : OwnTo code b start (part_of u run) behind
-    moves : ℕ
-    quiet : Quietly code b moves behind th
+  pub record StandsIn (run : List RunEntry) (u : ℕ) (th : ThreadState S) : Type 0 where
+    pub start : ThreadState S
+    pub begins : BeginsAt start
+    pub behind : ThreadState S
+    pub own : OwnTo code b start (part_of u run) behind
+    pub moves : ℕ
+    pub quiet : Quietly code b moves behind th
 
   -- without the silent moves
-  record StandsRight (run : List RunEntry) (u : ℕ) (th : ThreadState S) : Type 0 where
-    start : ThreadState S
-    begins : BeginsAt start
-    own : OwnTo code b start (part_of u run) th
+  pub record StandsRight (run : List RunEntry) (u : ℕ) (th : ThreadState S) : Type 0 where
+    pub start : ThreadState S
+    pub begins : BeginsAt start
+    pub own : OwnTo code b start (part_of u run) th
 
   settle_down : (w : Words) (run : List RunEntry) → Facts code w (StandsRight run) → Facts code w (StandsIn run)
   settle_down w run facts = still_facts code w (StandsRight run) facts (StandsIn run) (λ u th at.
@@ -93,11 +93,11 @@ module _ {S : Type 0} (code : Code S) (b : Bounds) where
       ])
 
   module _ (first : Birth → ThreadState S) (main : Birth) (w : Words) (none : (s : ℕ) → w (Section s) ≡ 0) (fresh : (birth : Birth) → BeginsAt (first birth)) where
-    abbrev IsRun : List RunEntry → Type 0
+    abbrev pub IsRun : List RunEntry → Type 0
     IsRun run = IsCoreRun code b first main w run
 
     -- what a run begins with is a run
-    sub_run : (e : RunEntry) (run : List RunEntry) → IsRun (e ∷ run) → IsRun run
+    pub sub_run : (e : RunEntry) (run : List RunEntry) → IsRun (e ∷ run) → IsRun run
     sub_run e run so = record {
       words = so.words.0;
       begun = so.begun.0;
@@ -109,17 +109,17 @@ module _ {S : Type 0} (code : Code S) (b : Bounds) where
         shorter false x part own = own
 
     -- the thread that makes the step of an entry
-    record Maker (e : RunEntry) (run : List RunEntry) : Type 0 where
-      thread : ThreadState S
-      stands : StandsIn run e.thread thread
-      move : next_move code b thread ≡ Make e.made.step
+    pub record Maker (e : RunEntry) (run : List RunEntry) : Type 0 where
+      pub thread : ThreadState S
+      pub stands : StandsIn run e.thread thread
+      pub move : next_move code b thread ≡ Make e.made.step
 
     -- a thread whose number the entry has made its step
-    data Made (e : RunEntry) (run : List RunEntry) (u : ℕ) (y : ThreadState S) : Type 0 where
+    pub data Made (e : RunEntry) (run : List RunEntry) (u : ℕ) (y : ThreadState S) : Type 0 where
       by_other : u ≢ e.thread → StandsIn run u y → Made e run u y
       by_itself : u ≡ e.thread → (z : ThreadState S) → StandsIn run e.thread z → MakesOwn (is_beside e.made.step) code b e.made z y → Made e run u y
 
-    made : (e : RunEntry) (run : List RunEntry) (u : ℕ) (y : ThreadState S) → StandsRight (e ∷ run) u y → Made e run u y
+    pub made : (e : RunEntry) (run : List RunEntry) (u : ℕ) (y : ThreadState S) → StandsRight (e ∷ run) u y → Made e run u y
     made e run u y at = by_test (nat_eq e.thread u) refl at.own
       where
         by_test : (t : Bool) → nat_eq e.thread u ≡ t → OwnTo code b at.start (if t then e.made ∷ part_of u run else part_of u run) y → Made e run u y
@@ -135,7 +135,7 @@ module _ {S : Type 0} (code : Code S) (b : Bounds) where
             }) makes
         by_test false is own = by_other (differ e.thread u is) (record { start = at.start; begins = at.begins; behind = y; own = own; moves = 0; quiet = refl })
 
-    maker : (e : RunEntry) (run : List RunEntry) → IsRun (e ∷ run) → is_beside e.made.step ≡ false → Maker e run
+    pub maker : (e : RunEntry) (run : List RunEntry) → IsRun (e ∷ run) → is_beside e.made.step ≡ false → Maker e run
     maker e run so stays =
         let birth = so.begun.1 in
         let part = so.own birth.0 (begun_later e.made.step (births main run) birth.0 birth.1) in
@@ -155,7 +155,7 @@ module _ {S : Type 0} (code : Code S) (b : Bounds) where
       can = subst (CanAnswer (effect_of e.made.step)) (sym so.words.1) (words_can_answer before e.made.step)
 
       -- a thread that stands there and makes the step
-      deed_by : (z : ThreadState S) → StandsIn run e.thread z → next_move code b z ≡ Make e.made.step
+      pub deed_by : (z : ThreadState S) → StandsIn run e.thread z → next_move code b z ≡ Make e.made.step
           → Deed code z e.made.step e.made.answer (view (after_answer code b z e.made.step e.made.answer))
       deed_by z at move = deed_of code b z before e.made.step e.made.answer (facts.fit e.thread z at).stage move so.words.1
 
@@ -179,22 +179,22 @@ module _ {S : Type 0} (code : Code S) (b : Bounds) where
                 (subst (IsFit code) (sym does.1) (answers_keep code b z e.made.step e.made.answer (facts.fit e.thread z there) does.0 can))
           ])
 
-      entry_moves : (t : Bool) → is_beside e.made.step ≡ t → (s : ℕ) → MayBecome (before (Section s)) (words_after e.made.step before (Section s))
+      pub entry_moves : (t : Bool) → is_beside e.made.step ≡ t → (s : ℕ) → Moves (before (Section s)) (words_after e.made.step before (Section s))
       entry_moves true is s = inl (beside_stays e.made.step before s is)
       entry_moves false is s =
           let one = maker e run so is in
           change_moves code before (StandsIn run) facts e.thread one.thread one.stands s _ (section_changes code one.thread before (deed_by one.thread one.stands one.move) so.words.1 s)
 
-    run_facts : (run : List RunEntry) → IsRun run → Facts code (words_by w run) (StandsIn run)
+    pub run_facts : (run : List RunEntry) → IsRun run → Facts code (words_by w run) (StandsIn run)
     run_facts [] so = settle_down w [] (first_facts code w (StandsRight []) none (λ u th at. subst BeginsAt at.own at.begins))
     run_facts (e ∷ run) so = settle_down (words_by w (e ∷ run)) (e ∷ run) (right_facts e run so (run_facts run (sub_run e run so)) (is_beside e.made.step) refl)
 
     -- ---- states
 
-    abbrev state : List RunEntry → ℕ → ℕ
+    abbrev pub state : List RunEntry → ℕ → ℕ
     state run s = state_of (words_by w run (Section s))
 
-    onwards : (P : ℕ → Type 0) → ((old new : ℕ) → MayBecome old new → P (state_of old) → P (state_of new)) → (e : RunEntry) (run : List RunEntry) → IsRun (e ∷ run) → (s : ℕ)
+    pub onwards : (P : ℕ → Type 0) → ((old new : ℕ) → Moves old new → P (state_of old) → P (state_of new)) → (e : RunEntry) (run : List RunEntry) → IsRun (e ∷ run) → (s : ℕ)
         → P (state run s) → P (state (e ∷ run) s)
     onwards P keeps e run so s = keeps _ _ (entry_moves e run so (run_facts run (sub_run e run so)) (is_beside e.made.step) refl s)
 
@@ -220,14 +220,14 @@ module _ {S : Type 0} (code : Code S) (b : Bounds) where
         let e = exchanged (words_by w run) (Section s) x (with_state x 3) so.words.1 in
         (ap state_of e.found ∙ live, ap (λ (v : Words). state_of (v (Section s))) e.leaves ∙ ap state_of (put_section (words_by w run) s (with_state x 3)) ∙ state_replaced x 3 (omega arith))
 
-    gone_in : (run : List RunEntry) → IsRun run → (u s x : ℕ) → Contains run (revoke_of u s x) → Gone (state run s)
+    pub gone_in : (run : List RunEntry) → IsRun run → (u s x : ℕ) → Contains run (revoke_of u s x) → Gone (state run s)
     gone_in [] so u s x there = none_there _ there
     gone_in (e ∷ run) so u s x there = elim (in_front e (revoke_of u s x) run there) [
       | inl is ↦ subst (λ z. IsRun (z ∷ run) → Gone (state (z ∷ run) s)) (sym is) (λ now. inl (revoked_from u s x run now).1) so
       | inr before ↦ onwards Gone (state_moves Gone (λ no. omega (arith, no)) gone_follows) e run so s (gone_in run (sub_run e run so) u s x before)
     ]
 
-    settled_in : (run : List RunEntry) → IsRun run → (t s x : ℕ) → Contains run (pin_of t s x) → Settled (state run s)
+    pub settled_in : (run : List RunEntry) → IsRun run → (t s x : ℕ) → Contains run (pin_of t s x) → Settled (state run s)
     settled_in [] so t s x there = none_there _ there
     settled_in (e ∷ run) so t s x there = elim (in_front e (pin_of t s x) run there) [
       | inl is ↦ subst (λ z. IsRun (z ∷ run) → Settled (state (z ∷ run) s)) (sym is) (λ now. inl (pinned_from t s x run now).1) so
@@ -249,11 +249,6 @@ module _ {S : Type 0} (code : Code S) (b : Bounds) where
 
 pub pinned_stay_in_runs : {S : Type 0} (code : Code S) → PinnedSectionsStayInRuns code
 pinned_stay_in_runs code b first main w run so t s x there = stays_pinned_in code b first main w so.sections so.threads run so.is_run t s x there
-
-pub come_on_in_runs : {S : Type 0} (code : Code S) → SectionsComeOnInRuns code
-come_on_in_runs code b first main w e run so s =
-    entry_moves code b first main w so.sections so.threads e run so.is_run
-    (run_facts code b first main w so.sections so.threads run (sub_run code b first main w so.sections so.threads e run so.is_run)) (is_beside e.made.step) refl s
 
 pub begin_with_runs : {S : Type 0} (code : Code S) → RunsBeginWithRuns code
 begin_with_runs code b first main w e run so =

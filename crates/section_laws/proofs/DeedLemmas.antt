@@ -162,6 +162,17 @@ pub data Deed {S : Type 0} (code : Code S) (th : ThreadState S) : Step → Answe
   closes_section : {r : ℕ} → undoing_of th.stage ≡ None
       → Deed code th (Release r) Answer.Done (record (calm (view th)) { section = 0; pinned = false; log = []; saved = [] })
 
+-- ---- moves
+
+abbrev pub IsMake : Move → Type 0
+IsMake (Make step) = Unit {0}
+IsMake other = ⊥
+
+pub makes_it : (over full : Bool) (rest : Move) (step : Step) → (if over then Over else if full then Stop Turns else rest) ≡ Make step → rest ≡ Make step
+makes_it true full rest step is = absurd (subst IsMake (sym is) tt)
+makes_it false true rest step is = absurd (subst IsMake (sym is) tt)
+makes_it false false rest step is = is
+
 -- ---- stages behind a step
 
 module _ {S : Type 0} (code : Code S) (b : Bounds) (th : ThreadState S) where
@@ -239,22 +250,13 @@ module _ {S : Type 0} (code : Code S) (b : Bounds) (th : ThreadState S) where
   calm_stage next step (Undoing w) is other = absurd (other (subst IsUndoMove is (undo_is th.section w th.log th.held)))
   calm_stage next step g is other = refl
 
-  abbrev IsMake : Move → Type 0
-  IsMake (Make step) = Unit {0}
-  IsMake other = ⊥
-
   abbrev IsEnd : Move → Type 0
   IsEnd Over = Unit {0}
   IsEnd (Stop limit) = Unit {0}
   IsEnd other = ⊥
 
-  made_by : (over full : Bool) (rest : Move) (step : Step) → (if over then Over else if full then Stop Turns else rest) ≡ Make step → rest ≡ Make step
-  made_by true full rest step is = absurd (subst IsMake (sym is) tt)
-  made_by false true rest step is = absurd (subst IsMake (sym is) tt)
-  made_by false false rest step is = is
-
   made : (step : Step) → next_move code b th ≡ Make step → move_of code th (code.next th.local) th.stage ≡ Make step
-  made step makes = made_by th.over (nat_le b.limits.turns th.counted) _ step makes
+  made step makes = makes_it th.over (nat_le b.limits.turns th.counted) _ step makes
 
   made_calm : (step : Step) → next_move code b th ≡ Make step → (IsUndoStep step → ⊥) → undoing_of th.stage ≡ None
   made_calm step makes other = calm_stage (code.next th.local) step th.stage (made step makes) other

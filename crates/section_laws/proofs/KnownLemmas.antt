@@ -29,14 +29,14 @@ use Rattle.thread_automaton.specs.Answers.{change_of}
 use Rattle.thread_automaton.specs.Told.{Told, probed, advanced, shown, told_of, after_answer, after_quiet}
 use Rattle.core_runs.specs.Cores.{Core, threads_by}
 use Rattle.core_runs.specs.Acts.{Act, quiet, did, beside, ActAt}
-use Rattle.section_laws.specs.Runs.{MayBecome, IsRun}
+use Rattle.section_laws.specs.Runs.{IsRun}
 use Rattle.section_laws.specs.Observed.{Reads, WritesOver, Observes, ObservedSectionsStay}
 use Rattle.section_laws.proofs.WordLemmas.{state_replaced, state_is, exchanged, put_section}
 use Rattle.section_laws.proofs.DeedLemmas.{View, Deed, plain, sees_own_pinned, sees_own_revoked, pins_own, pins_writer, knows_writer, puts_word_back, gives_back, undoes, overwrites, draws, draws_none, opens_section, revokes, commits, closes_section, done_as}
 use Rattle.section_laws.proofs.ClaimLemmas.{found_is, some_is}
 use Rattle.section_laws.proofs.FactLemmas.{Threads, each}
 use Rattle.section_laws.proofs.RunLemmas.{get_below, along, Known, deed_at}
-use Rattle.section_laws.proofs.PinLemmas.{Settled, state_moves, settled_follows, act_moves, did_at, known_at, unrevoked_settled}
+use Rattle.section_laws.proofs.PinLemmas.{Moves, Settled, state_moves, settled_follows, act_moves, did_at, known_at, unrevoked_settled}
 
 -- no section, or one that is pinned or committed
 abbrev pub IsSettled : Words → ℕ → Type 0
@@ -95,7 +95,7 @@ known_steps code th w (closes_section none) is = knows_same refl
 abbrev pub Knows : {S : Type 0} → Words → Threads S → Type 0
 Knows {S} w threads = (u : ℕ) (th : ThreadState S) → threads u ≡ Some th → IsSettled w th.known
 
-settles : (w w' : Words) (s : ℕ) → MayBecome (w (Section s)) (w' (Section s)) → IsSettled w s → IsSettled w' s
+pub settles : (w w' : Words) (s : ℕ) → Moves (w (Section s)) (w' (Section s)) → IsSettled w s → IsSettled w' s
 settles w w' s moves (inl none) = inl none
 settles w w' s moves (inr so) = inr (state_moves Settled (λ no. omega (arith, no)) settled_follows (w (Section s)) (w' (Section s)) moves so)
 
@@ -127,7 +127,7 @@ module _ {S : Type 0} (code : Code S) (b : Bounds) (c : ℕ → Core S) (k : ℕ
       y = after_answer code b at.from step a
 
       keeps : (s : ℕ) → IsSettled (c k).words s → IsSettled w' s
-      keeps s = settles (c k).words w' s (subst (λ z. MayBecome ((c k).words (Section s)) (z.words (Section s))) at.leads (act_moves code b c k (did t step a) at facts s))
+      keeps s = settles (c k).words w' s (subst (λ z. Moves ((c k).words (Section s)) (z.words (Section s))) at.leads (act_moves code b c k (did t step a) at facts s))
   act_knows (beside t step a) at facts knows = subst (λ (threads : Threads S). Knows (c (suc k)).words threads) (sym (ap (λ z. z.threads) at.leads))
       (λ u th there. settles (c k).words (c (suc k)).words th.known (act_moves code b c k (beside t step a) at facts th.known) (knows u th there))
 
@@ -145,7 +145,7 @@ module _ {S : Type 0} (code : Code S) (b : Bounds) where
   IsProbed other = ⊥
 
   -- a word that is read is safe
-  read_safe : (th : ThreadState S) (next : Next) (at w r i : ℕ) (reply : Reply) → next ≡ Want (Read r i)
+  pub read_safe : (th : ThreadState S) (next : Next) (at w r i : ℕ) (reply : Reply) → next ≡ Want (Read r i)
       → told_of next (LoadWord at) (Found w) (change_of code b th next (LoadWord at) (Found w)) (shown (change_of code b th next (LoadWord at) (Found w))) ≡ advanced (Some reply)
       → is_safe th w ≡ true
   read_safe th next at w r i reply wants gets =

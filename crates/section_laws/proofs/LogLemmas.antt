@@ -65,14 +65,14 @@ pub data LogStep {S : Type 0} (IsPlace : ℕ → Type 0) (th : ThreadState S) (w
       → undoing_of th.stage ≡ Some seen → v.undoing ≡ Some seen → w' (Object x.at) ≡ x.old → ((q : ℕ) → q ≢ x.at → w' (Object q) ≡ w (Object q))
       → v.log ≡ log → SameSection th v → LogStep IsPlace th w w' step a v
 
-object_is : (at : ℕ) (a : Area) → area_eq (Object at) a ≡ true → a ≡ Object at
+pub object_is : (at : ℕ) (a : Area) → area_eq (Object at) a ≡ true → a ≡ Object at
 object_is m (Object n) is = ap Object (same m n is)
   where
     same : (m n : ℕ) → nat_eq m n ≡ true → n ≡ m
     same m n is = grind (arith, common_steps, nat_tests)
 object_is m a is = cc
 
-object_other : (q at : ℕ) → q ≢ at → area_eq (Object q) (Object at) ≡ false
+pub object_other : (q at : ℕ) → q ≢ at → area_eq (Object q) (Object at) ≡ false
 object_other q at other = by_test (nat_eq q at) refl
   where
     same : (m n : ℕ) → nat_eq m n ≡ true → m ≡ n
@@ -82,13 +82,13 @@ object_other q at other = by_test (nat_eq q at) refl
     by_test true is = absurd (other (same q at is))
     by_test false is = is
 
-put_object : (w : Words) (at v : ℕ) → put_at w (Object at) v (Object at) ≡ v
+pub put_object : (w : Words) (at v : ℕ) → put_at w (Object at) v (Object at) ≡ v
 put_object w at v = ap (λ t. if t then v else w (Object at)) (same at)
   where
     same : (n : ℕ) → nat_eq n n ≡ true
     same n = grind (arith, common_steps, nat_tests)
 
-shut_after : (a : Bool) → (a && false) ≡ false
+pub shut_after : (a : Bool) → (a && false) ≡ false
 shut_after true = refl
 shut_after false = refl
 

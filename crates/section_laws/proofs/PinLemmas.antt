@@ -1,45 +1,61 @@
 -- How sections come on, and that pinned ones stay pinned.
 use Rattle.std.proofs.Common.{◌≢◌, ◌≡◌, ◌⊎◌, inl, inr, ℕ, zero, suc, ◌+◌, ◌-◌, ◌<◌, ◌≤◌, ◌^◌, true, Some, List, length, refl, sym, ◌∙◌, ap, subst, arith}
-use Rattle.std.specs.Prelude.{slice_get}
+use Rattle.std.specs.Prelude.{slice_get, nat_le}
 use Rattle.std.proofs.lemmas.Bool.Decides.{leb_tells}
 use Rattle.op_core.specs.ThreadCode.{Code}
 use Rattle.heap_words.specs.declared.areas.Area.TheVariants.{Section}
 use Rattle.section_state.specs.declared.State.{State}
 use Rattle.section_state.specs.declared.State.TheVariants.{Live, Pinned, Revoking, Undone, Committed}
 use Rattle.section_state.specs.SectionWord.{number_of, with_state, state_of, MayFollow}
+use Rattle.monitor_core.specs.Contention.{is_in}
 use Rattle.step_port.specs.declared.answer.Answer.{Answer}
 use Rattle.step_port.specs.declared.step.Step.{Step}
 use Rattle.step_port.specs.declared.step.Step.TheVariants.{OpenSection, Pin, Revoke, LoadStop, SetStop}
-use Rattle.step_port.specs.Words.{Words, words_after}
+use Rattle.step_port.specs.Words.{Words, answer_of, words_after}
 use Rattle.thread_automaton.specs.declared.Bounds.{Bounds}
-use Rattle.thread_automaton.specs.ThreadState.{ThreadState}
+use Rattle.thread_automaton.specs.declared.Move.TheVariants.{Make}
+use Rattle.thread_automaton.specs.declared.Stage.{Stage}
+use Rattle.thread_automaton.specs.declared.Stage.TheVariants.{Fixed}
+use Rattle.thread_automaton.specs.ThreadState.{ThreadState, own_word}
+use Rattle.thread_automaton.specs.NextMove.{move_of, next_move}
+use Rattle.thread_automaton.specs.Told.{after_answer}
 use Rattle.core_runs.specs.OwnParts.{is_beside}
 use Rattle.core_runs.specs.Cores.{Core}
 use Rattle.core_runs.specs.Acts.{Act, quiet, did, beside, DidAt, ActAt}
-use Rattle.section_laws.specs.Runs.{IsRun, MayBecome, SectionsComeOn, SectionsOpenOnce, SectionsAreApart, ZeroIsNoSection, IsTouched, OthersSectionsStay}
+use Rattle.section_laws.specs.Runs.{IsRun, MayBecome, OpensAt, SectionsComeOn, SectionsOpenOnce, SectionsAreApart, ZeroIsNoSection, IsPinnedOrRevoked, OthersSectionsStay}
 use Rattle.section_laws.specs.Pinning.{StaysPinned, PinnedSectionsStay}
 use Rattle.section_laws.proofs.WordLemmas.{state_replaced, state_of_zero, state_packed, is_state, state_is, exchanged, put_section}
-use Rattle.section_laws.proofs.DeedLemmas.{opening_of, done_as}
+use Rattle.section_laws.proofs.DeedLemmas.{opening_of, view, Deed, makes_it, done_as}
 use Rattle.section_laws.proofs.ClaimLemmas.{claim_some, some_is, above, is_zero, Change, stays, is_opened, is_pinned, is_revoked, is_committed, is_undone, section_changes}
 use Rattle.section_laws.proofs.FactLemmas.{not_some, Standing, InThreads, Facts}
 use Rattle.section_laws.proofs.RunLemmas.{along, get_some, get_below, act_at, Known, deed_at, facts_at}
 
 -- ---- one act
 
+-- a section is opened: its word was 0
+pub record IsNew (old new : ℕ) : Type 0 where
+  pub unopened : old ≡ 0
+  pub live : is_in Live new ≡ true
+
+-- what becomes of the word of a section
+abbrev pub Moves : ℕ → ℕ → Type 0
+Moves old new = MayBecome (IsNew old new) old new
+
 module _ {S : Type 0} (code : Code S) (w : Words) (Stands : Standing S) (facts : Facts code w Stands) (t : ℕ) (th : ThreadState S) (stands : Stands t th) where
-  pub change_moves : (s new : ℕ) → Change th s (w (Section s)) new → MayBecome (w (Section s)) new
-  change_moves s new (stays is) = inl is
-  change_moves s new (is_opened none opening some live) = inr (inl (record {
-    unopened = ap (λ n. w (Section n)) (sym opening) ∙ facts.unopened t th stands none (subst (λ n. 0 < n) (sym opening) some);
-    live = is_state Live new live;
-  }))
-  change_moves s new (is_pinned stood is) = inr (inr (record { from = Live; to = Pinned; stood = is_state Live (w (Section s)) stood; follows = tt; leads = is }))
-  change_moves s new (is_revoked stood is) = inr (inr (record { from = Live; to = Revoking; stood = is_state Live (w (Section s)) stood; follows = tt; leads = is }))
-  change_moves s new (is_committed own some (inl live) is) =
+  -- `opens` says how it is opened
+  pub change_becomes : {Opens : Type 0} (s new : ℕ) → (th.section ≡ 0 → opening_of th.stage ≡ s → 0 < s → state_of new ≡ 1 → Opens) → Change th s (w (Section s)) new
+      → MayBecome Opens (w (Section s)) new
+  change_becomes s new opens (stays is) = inl is
+  change_becomes s new opens (is_opened none opening some live) = inr (inl (opens none opening some live))
+  change_becomes s new opens (is_pinned stood is) =
+      inr (inr (record { from = Live; to = Pinned; stood = is_state Live (w (Section s)) stood; follows = tt; leads = is }))
+  change_becomes s new opens (is_revoked stood is) =
+      inr (inr (record { from = Live; to = Revoking; stood = is_state Live (w (Section s)) stood; follows = tt; leads = is }))
+  change_becomes s new opens (is_committed own some (inl live) is) =
       inr (inr (record { from = Live; to = Committed; stood = is_state Live (w (Section s)) live; follows = tt; leads = is }))
-  change_moves s new (is_committed own some (inr pinned) is) =
+  change_becomes s new opens (is_committed own some (inr pinned) is) =
       inr (inr (record { from = Pinned; to = Committed; stood = is_state Pinned (w (Section s)) pinned; follows = tt; leads = is }))
-  change_moves s new (is_undone {w = seen} own some undoing is) =
+  change_becomes s new opens (is_undone {w = seen} own some undoing is) =
       let was = facts.undoing t th seen stands undoing in
       let says : w (Section s) ≡ seen = ap (λ n. w (Section n)) (sym own) ∙ was.says in
       inr (inr (record {
@@ -50,6 +66,12 @@ module _ {S : Type 0} (code : Code S) (w : Words) (Stands : Standing S) (facts :
         leads = is ∙ ap (λ x. with_state x 4) (sym says);
       }))
 
+  pub was_unopened : (s : ℕ) → th.section ≡ 0 → opening_of th.stage ≡ s → 0 < s → w (Section s) ≡ 0
+  was_unopened s none opening some = ap (λ n. w (Section n)) (sym opening) ∙ facts.unopened t th stands none (subst (λ n. 0 < n) (sym opening) some)
+
+  pub change_moves : (s new : ℕ) → Change th s (w (Section s)) new → Moves (w (Section s)) new
+  change_moves s new change = change_becomes s new (λ none opening some live. record { unopened = was_unopened s none opening some; live = is_state Live new live }) change
+
 pub beside_stays : (step : Step) (w : Words) (s : ℕ) → is_beside step ≡ true → words_after step w (Section s) ≡ w (Section s)
 beside_stays LoadStop w s is = refl
 beside_stays SetStop w s is = refl
@@ -59,30 +81,30 @@ module _ {S : Type 0} (code : Code S) (b : Bounds) (c : ℕ → Core S) (k : ℕ
   abbrev word : ℕ → ℕ → ℕ
   word n s = (c n).words (Section s)
 
-  pub act_moves : (x : Act) → ActAt code b c k x → Known code (c k) → (s : ℕ) → MayBecome (word k s) (word (suc k) s)
+  pub act_moves : (x : Act) → ActAt code b c k x → Known code (c k) → (s : ℕ) → Moves (word k s) (word (suc k) s)
   act_moves (quiet t) at facts s = inl (ap (λ z. z.words (Section s)) at.leads)
   act_moves (did t step a) at facts s =
-      subst (λ z. MayBecome (word k s) (z.words (Section s))) (sym at.leads)
+      subst (λ z. Moves (word k s) (z.words (Section s))) (sym at.leads)
       (change_moves code (c k).words (InThreads (c k).threads) facts t at.from at.stands s _ (section_changes code at.from (c k).words (deed_at code b c k at facts) at.answered s))
   act_moves (beside t step a) at facts s = inl (ap (λ z. z.words (Section s)) at.leads ∙ beside_stays step (c k).words s at.is)
 
 -- ---- from a place on
 
 module _ {S : Type 0} (code : Code S) (b : Bounds) (c : ℕ → Core S) (acts : List Act) (run : IsRun code b c acts) where
-  pub moves_at : (k s : ℕ) → k < length acts → MayBecome ((c k).words (Section s)) ((c (suc k)).words (Section s))
+  pub moves_at : (k s : ℕ) → k < length acts → Moves ((c k).words (Section s)) ((c (suc k)).words (Section s))
   moves_at k s within =
       let here = get_some acts k within in
       act_moves code b c k here.0 (act_at code b c acts k here.0 run.leads here.1) (facts_at code b c acts run k (omega (arith, within))) s
 
   -- what is so of the word of a section and stays so with each move
-  onwards : (P : ℕ → Type 0) → ((old new : ℕ) → MayBecome old new → P old → P new) → (s k d : ℕ) → k + d ≤ length acts
+  onwards : (P : ℕ → Type 0) → ((old new : ℕ) → Moves old new → P old → P new) → (s k d : ℕ) → k + d ≤ length acts
       → P ((c k).words (Section s)) → P ((c (k + d)).words (Section s))
   onwards P keeps s k zero within start = subst (λ n. P ((c n).words (Section s))) (omega arith) start
   onwards P keeps s k (suc d) within start =
       let before = onwards P keeps s k d (omega (arith, within)) start in
       subst (λ n. P ((c n).words (Section s))) (omega arith) (keeps _ _ (moves_at (k + d) s (omega (arith, within))) before)
 
-  from_to : (P : ℕ → Type 0) → ((old new : ℕ) → MayBecome old new → P old → P new) → (s k j : ℕ) → k ≤ j → j ≤ length acts
+  pub from_to : (P : ℕ → Type 0) → ((old new : ℕ) → Moves old new → P old → P new) → (s k j : ℕ) → k ≤ j → j ≤ length acts
       → P ((c k).words (Section s)) → P ((c j).words (Section s))
   from_to P keeps s k j up within start =
       subst (λ n. P ((c n).words (Section s))) (omega (arith, up)) (onwards P keeps s k (j - k) (omega (arith, up, within)) start)
@@ -97,7 +119,7 @@ module _ {S : Type 0} (code : Code S) (b : Bounds) (c : ℕ → Core S) (acts : 
 -- ---- states that stay
 
 pub state_moves : (P : ℕ → Type 0) → (P 0 → ⊥) → ((from to : State) → MayFollow from to → P (number_of from) → P (number_of to))
-    → (old new : ℕ) → MayBecome old new → P (state_of old) → P (state_of new)
+    → (old new : ℕ) → Moves old new → P (state_of old) → P (state_of new)
 state_moves P none follows old new (inl is) so = subst P (ap state_of (sym is)) so
 state_moves P none follows old new (inr (inl opened)) so = absurd (none (subst P (ap state_of opened.unopened ∙ state_of_zero) so))
 state_moves P none follows old new (inr (inr on)) so =
@@ -156,8 +178,44 @@ some_follows from Committed follows so = omega arith
 
 -- ---- the laws
 
+-- a section that is about to be opened is opened with the next step
+pub opens_it : {S : Type 0} (code : Code S) (b : Bounds) (th : ThreadState S) (step : Step) → next_move code b th ≡ Make step → (s : ℕ) → opening_of th.stage ≡ s → 0 < s
+    → (v : ℕ) × (step ≡ OpenSection s v)
+opens_it code b th step makes s opening some = by_stage th.stage opening (makes_it th.over (nat_le b.limits.turns th.counted) _ step makes)
+  where
+    by_stage : (g : Stage) → opening_of g ≡ s → move_of code th (code.next th.local) g ≡ Make step → (v : ℕ) × (step ≡ OpenSection s v)
+    by_stage (Fixed (OpenSection n v)) is made = (v, sym (ap (λ m. elim m [ Make x ↦ x | other ↦ step ]) made) ∙ ap (λ m. OpenSection m v) is)
+    by_stage g is made = not_some s some (sym is)
+
+module _ {S : Type 0} (code : Code S) (b : Bounds) (c : ℕ → Core S) (acts : List Act) (run : IsRun code b c acts) (k s : ℕ) where
+  opens_at : (t : ℕ) (step : Step) (a : Answer) → slice_get acts k ≡ Some (did t step a) → (at : DidAt code b c k t step a) → Known code (c k)
+      → at.from.section ≡ 0 → opening_of at.from.stage ≡ s → 0 < s → OpensAt c acts k s
+  opens_at t step a here at facts none opening some =
+      let it = opens_it code b at.from step at.move s opening some in
+      let done : a ≡ Answer.Done = at.answered ∙ ap (answer_of (c k).words) it.1 in
+      let deed = subst (λ m. Deed code at.from m a (view (after_answer code b at.from step a))) it.1 (deed_at code b c k at facts) in
+      let word : it.0 ≡ own_word at.from Live = (done_as deed done).word in
+      record {
+        thread = t;
+        th = at.from;
+        stands = at.stands;
+        opens = here ∙ ap (λ m. Some (did t m a)) it.1 ∙ ap (λ r. Some (did t (OpenSection s it.0) r)) done ∙ ap (λ v. Some (did t (OpenSection s v) Answer.Done)) word;
+        unopened = was_unopened code (c k).words (InThreads (c k).threads) facts t at.from at.stands s none opening some;
+        leads = ap (λ z. z.words (Section s)) at.leads ∙ ap (λ m. words_after m (c k).words (Section s)) it.1 ∙ put_section (c k).words s it.0 ∙ word;
+      }
+
+  act_comes_on : (x : Act) → slice_get acts k ≡ Some x → ActAt code b c k x → Known code (c k) → MayBecome (OpensAt c acts k s) ((c k).words (Section s)) ((c (suc k)).words (Section s))
+  act_comes_on (quiet t) here at facts = inl (ap (λ z. z.words (Section s)) at.leads)
+  act_comes_on (beside t step a) here at facts = inl (ap (λ z. z.words (Section s)) at.leads ∙ beside_stays step (c k).words s at.is)
+  act_comes_on (did t step a) here at facts =
+      subst (λ z. MayBecome (OpensAt c acts k s) ((c k).words (Section s)) (z.words (Section s))) (sym at.leads)
+      (change_becomes code (c k).words (InThreads (c k).threads) facts t at.from at.stands s _ (λ none opening some live. opens_at t step a here at facts none opening some)
+      (section_changes code at.from (c k).words (deed_at code b c k at facts) at.answered s))
+
 pub sections_come_on : {S : Type 0} (code : Code S) → SectionsComeOn code
-sections_come_on code b c acts run k s within = moves_at code b c acts run k s within
+sections_come_on code b c acts run k s within =
+    let here = get_some acts k within in
+    act_comes_on code b c acts run k s here.0 here.1 (act_at code b c acts k here.0 run.leads here.1) (facts_at code b c acts run k (omega (arith, within)))
 
 module _ {S : Type 0} (code : Code S) (b : Bounds) (c : ℕ → Core S) (acts : List Act) (run : IsRun code b c acts) where
   -- a section is pinned or revoked from Live
@@ -222,7 +280,7 @@ module _ {S : Type 0} (code : Code S) (b : Bounds) (c : ℕ → Core S) (acts : 
       let none = ap state_of (opened_at k u s w at_k).before ∙ state_of_zero in
       omega (arith, some, none)
 
-  opens_once : (j k t u s v w : ℕ) → slice_get acts j ≡ Some (did t (OpenSection s v) Answer.Done) → slice_get acts k ≡ Some (did u (OpenSection s w) Answer.Done) → j ≡ k
+  pub opens_once : (j k t u s v w : ℕ) → slice_get acts j ≡ Some (did t (OpenSection s v) Answer.Done) → slice_get acts k ≡ Some (did u (OpenSection s w) Answer.Done) → j ≡ k
   opens_once j k t u s v w at_j at_k =
       equal j k (not_later j k t u s v w at_j at_k) (not_later k j u t s w v at_k at_j)
     where
@@ -292,8 +350,8 @@ sections_apart code b c acts run k t u th uh within at there some same =
     (facts_at code b c acts run k within).apart t u th uh at there (subst (λ n. 0 < n) (sym claims) some)
     (claims ∙ same ∙ sym (claim_some uh.section (opening_of uh.stage) (subst (λ n. 0 < n) same some)))
 
-touches : {S : Type 0} {th : ThreadState S} {s old new : ℕ} → Change th s old new → s ≢ th.section → (th.section ≡ 0 → opening_of th.stage ≡ s → 0 < s → old ≡ 0)
-    → old ≢ 0 → (new ≡ old) ⊎ IsTouched old new
+pub touches : {S : Type 0} {th : ThreadState S} {s old new : ℕ} → Change th s old new → s ≢ th.section → (th.section ≡ 0 → opening_of th.stage ≡ s → 0 < s → old ≡ 0)
+    → old ≢ 0 → (new ≡ old) ⊎ IsPinnedOrRevoked old new
 touches (stays is) other unopened some = inl is
 touches (is_opened none opening above live) other unopened some = absurd (some (unopened none opening above))
 touches {old = old} (is_pinned stood is) other unopened some = inr (record { live = is_state Live old stood; leads = inl is })
@@ -306,7 +364,7 @@ others_stay code b c acts run k t s step a th here there other some =
     let at = did_at code b c acts run k t step a here in
     let facts = known_at code b c acts run k (did t step a) here in
     let same : at.from ≡ th = some_is at.from th (sym at.stands ∙ there) in
-    subst (λ z. (z.words (Section s) ≡ (c k).words (Section s)) ⊎ IsTouched ((c k).words (Section s)) (z.words (Section s))) (sym at.leads)
+    subst (λ z. (z.words (Section s) ≡ (c k).words (Section s)) ⊎ IsPinnedOrRevoked ((c k).words (Section s)) (z.words (Section s))) (sym at.leads)
     (touches (section_changes code at.from (c k).words (deed_at code b c k at facts) at.answered s) (λ is. other (is ∙ ap (λ x. x.section) same))
     (λ none opening above. ap (λ n. (c k).words (Section n)) (sym opening) ∙ facts.unopened t at.from at.stands none (subst (λ n. 0 < n) (sym opening) above)) some)
 

@@ -20,7 +20,7 @@ use Rattle.thread_automaton.specs.Told.{after_answer, after_quiet}
 use Rattle.core_runs.specs.Cores.{Core, threads_by, core_after}
 use Rattle.core_runs.specs.Acts.{Act, quiet, did, beside, QuietAt, DidAt, BesideAt, ActAt}
 use Rattle.section_laws.specs.Runs.{IsRun}
-use Rattle.section_laws.specs.Undoing.{Overwrites, HasPlainWords, IsFirstWrite, IsPutBack, IsUndone, UndoingPutsBack}
+use Rattle.section_laws.specs.Undoing.{Overwrites, WritesObjectWords, IsFirstWrite, PutsBackAt, IsUndone, HasOpened, UndoingPutsBack}
 use Rattle.section_laws.proofs.WordLemmas.{state_of_zero}
 use Rattle.section_laws.proofs.DeedLemmas.{opening_of, undoing_of, view, made_quiet, Undoes, done_as}
 use Rattle.section_laws.proofs.ClaimLemmas.{is_zero, open_above, some_is, none_some}
@@ -29,6 +29,7 @@ use Rattle.section_laws.proofs.RunLemmas.{get_below, along, Known, deed_at}
 use Rattle.section_laws.proofs.PinLemmas.{did_at, opened_at, stays_open, settles_on}
 use Rattle.section_laws.proofs.LogLemmas.{In, SameSection, IsStore, idles, sheds, begins, notes, restores}
 use Rattle.section_laws.proofs.TagLemmas.{Unsettled, IsNoted, notes_it, is_shut, was_own, noted_as, same_open, not_open, shut_of, no_zero}
+use Rattle.section_laws.proofs.OpenerLemmas.{opener}
 use Rattle.section_laws.proofs.UndoLemmas.{IsPlace, TagsAt, log_step, tags_at}
 
 -- ---- what an act is
@@ -73,7 +74,7 @@ handed code (Split n r p) l threads t th is =
     each (λ uh. (uh.section ≡ 0) ⊎ (threads t ≡ Some uh)) threads n (first_state n p (code.child l r)) t (λ own. inl refl) (λ uh other at. inr at) th is
 handed code step l threads t th is = inr is
 
-module _ {S : Type 0} (code : Code S) (b : Bounds) (c : ℕ → Core S) (acts : List Act) (run : IsRun code b c acts) (plain : HasPlainWords code c acts)
+module _ {S : Type 0} (code : Code S) (b : Bounds) (c : ℕ → Core S) (acts : List Act) (run : IsRun code b c acts) (plain : WritesObjectWords code c acts)
     (p t s v : ℕ) (opens : slice_get acts p ≡ Some (did t (OpenSection s v) Answer.Done)) where
   abbrev opening : DidAt code b c p t (OpenSection s v) Answer.Done
   opening = did_at code b c acts run p t (OpenSection s v) Answer.Done opens
@@ -92,7 +93,7 @@ module _ {S : Type 0} (code : Code S) (b : Bounds) (c : ℕ → Core S) (acts : 
 
   -- a word was put back
   abbrev WasPutBack : ℕ → ℕ → ℕ → Type 0
-  WasPutBack j k at = (i : ℕ) × (j < i) × (i < k) × IsPutBack c acts p i t s at
+  WasPutBack j k at = (i : ℕ) × (j < i) × (i < k) × PutsBackAt c acts p i t s at
 
   -- what is so of the thread th when k acts were made, where it has the section open that can be undone
   record Since (k : ℕ) (th : ThreadState S) : Type 0 where
@@ -102,7 +103,7 @@ module _ {S : Type 0} (code : Code S) (b : Bounds) (c : ℕ → Core S) (acts : 
         → IsNoted th.log at ⊎ ((seen : ℕ) × (undoing_of th.stage ≡ Some seen) × WasPutBack j k at)
     -- what is noted was overwritten
     first : (x : Noted) → In x th.log → (j : ℕ) × (j < k) × IsFirstWrite acts p j t x.at × ((c j).words (Object x.at) ≡ x.old)
-    puts : (i at old : ℕ) → p < i → i < k → slice_get acts i ≡ Some (did t (RestoreWord at old) Answer.Done) → IsPutBack c acts p i t s at
+    puts : (i at old : ℕ) → p < i → i < k → slice_get acts i ≡ Some (did t (RestoreWord at old) Answer.Done) → PutsBackAt c acts p i t s at
 
   abbrev Sinces : ℕ → Type 0
   Sinces k = p < k → (th : ThreadState S) → (c k).threads t ≡ Some th → th.section ≡ s → is_open th ≡ true → Unsettled (c k).words s → Since k th
@@ -126,7 +127,7 @@ module _ {S : Type 0} (code : Code S) (b : Bounds) (c : ℕ → Core S) (acts : 
         ])
         (λ is wrote_k. absurd (no_write at wrote_k)) wrote;
     first = λ x there. let was = since.first x (subst (In x) log there) in (was.0, (let low = was.1 in omega (arith, low)), was.2, was.3);
-    puts = λ i at old later up restores. one_more (λ n. slice_get acts n ≡ Some (did t (RestoreWord at old) Answer.Done) → IsPutBack c acts p n t s at) i k up
+    puts = λ i at old later up restores. one_more (λ n. slice_get acts n ≡ Some (did t (RestoreWord at old) Answer.Done) → PutsBackAt c acts p n t s at) i k up
         (λ before at_i. since.puts i at old later before at_i) (λ is at_k. absurd (no_put at old at_k)) restores;
   }
 
@@ -225,7 +226,7 @@ module _ {S : Type 0} (code : Code S) (b : Bounds) (c : ℕ → Core S) (acts : 
             | is_shut log_is shut ↦ older x (subst (In x) log_is there)
             | was_own log_is mine ↦ older x (subst (In x) log_is there)
           ];
-          puts = λ i q kept above_p up restores_it. one_more (λ n. slice_get acts n ≡ Some (did t (RestoreWord q kept) Answer.Done) → IsPutBack c acts p n t s q) i k up
+          puts = λ i q kept above_p up restores_it. one_more (λ n. slice_get acts n ≡ Some (did t (RestoreWord q kept) Answer.Done) → PutsBackAt c acts p n t s q) i k up
               (λ less at_i. since.puts i q kept above_p less at_i)
               (λ equal at_k. none_some q (ap put_back (same_act acts k _ _ act at_k))) restores_it;
         }
@@ -240,7 +241,7 @@ module _ {S : Type 0} (code : Code S) (b : Bounds) (c : ℕ → Core S) (acts : 
         let act : slice_get acts k ≡ Some (did t (RestoreWord x.at x.old) Answer.Done) = here ∙ ap (λ z. Some (did t z a)) makes ∙ ap (λ z. Some (did t (RestoreWord x.at x.old) z)) done in
         let there : In x at.from.log = subst (In x) (sym logs) (inl refl) in
         let was = since.first x there in
-        let is_put : IsPutBack c acts p k t s x.at = record {
+        let is_put : PutsBackAt c acts p k t s x.at = record {
           old = x.old;
           puts = act;
           found = was.0;
@@ -254,7 +255,7 @@ module _ {S : Type 0} (code : Code S) (b : Bounds) (c : ℕ → Core S) (acts : 
           written = λ j q above_p up wrote. one_more (λ n. Overwrites acts n t q → IsNoted y.log q ⊎ ((m : ℕ) × (undoing_of y.stage ≡ Some m) × WasPutBack n (suc k) q)) j k up
               (λ less wrote_j. elim (since.written j q above_p less wrote_j) [
                 | inl noted ↦ elim (subst (In noted.0) logs noted.1) [
-                  | inl mine ↦ inr (seen, still, (k, less, omega arith, subst (IsPutBack c acts p k t s) (ap (λ z. z.at) mine ∙ noted.2) is_put))
+                  | inl mine ↦ inr (seen, still, (k, less, omega arith, subst (PutsBackAt c acts p k t s) (ap (λ z. z.at) mine ∙ noted.2) is_put))
                   | inr others ↦ inl (subst (λ xs. IsNoted xs q) (sym rest) (noted.0, others, noted.2))
                 ]
                 | inr before_it ↦ inr (seen, still, (before_it.2.0, before_it.2.1, (let low = before_it.2.2 in omega (arith, low)), before_it.2.3))
@@ -262,9 +263,9 @@ module _ {S : Type 0} (code : Code S) (b : Bounds) (c : ℕ → Core S) (acts : 
               (λ equal wrote_k. none_some q (ap overwritten (same_act acts k _ _ act wrote_k.2))) wrote;
           first = λ z in_log. let was_z = since.first z (subst (In z) (sym logs) (inr (subst (In z) rest in_log))) in
               (was_z.0, (let low = was_z.1 in omega (arith, low)), was_z.2, was_z.3);
-          puts = λ i q kept above_p up restores_it. one_more (λ n. slice_get acts n ≡ Some (did t (RestoreWord q kept) Answer.Done) → IsPutBack c acts p n t s q) i k up
+          puts = λ i q kept above_p up restores_it. one_more (λ n. slice_get acts n ≡ Some (did t (RestoreWord q kept) Answer.Done) → PutsBackAt c acts p n t s q) i k up
               (λ less at_i. since.puts i q kept above_p less at_i)
-              (λ equal at_k. subst (IsPutBack c acts p k t s) (some_is x.at q (ap put_back (same_act acts k _ _ act at_k))) is_put) restores_it;
+              (λ equal at_k. subst (PutsBackAt c acts p k t s) (some_is x.at q (ap put_back (same_act acts k _ _ act at_k))) is_put) restores_it;
         }
 
     -- no section of this number is opened again
@@ -391,8 +392,8 @@ module _ {S : Type 0} (code : Code S) (b : Bounds) (c : ℕ → Core S) (acts : 
         | inr was ↦ was.2
       ];
       nothing_else = since.puts;
-      none_left = λ j u at wrote carries.
-          let noted = (tags q within_q).noted_by t ending.from ending.stands ends_so.unpinned (subst (Unsettled (c q).words) ends_so.own is_unsettled) at (j, u, wrote)
+      none_left = λ at heap_word carries.
+          let noted = (tags q within_q).noted_by t ending.from ending.stands ends_so.unpinned (subst (Unsettled (c q).words) ends_so.own is_unsettled) at heap_word
           (carries ∙ ends_so.own) in
           absurd (subst (In noted.0) ends_so.log noted.1);
       stands_again = λ first behind at_first at_behind.
@@ -403,4 +404,10 @@ module _ {S : Type 0} (code : Code S) (b : Bounds) (c : ℕ → Core S) (acts : 
     }
 
 pub undoing_puts_back : {S : Type 0} (code : Code S) → UndoingPutsBack code
-undoing_puts_back code b c acts run plain p q t s v w opens undone = is_undone code b c acts run plain p t s v opens q w undone
+undoing_puts_back code b c acts run plain q t s w undone =
+    let within : q ≤ length acts = (let below = get_below acts q (did t (MarkUndone s w) Answer.Done) undone in omega (arith, below)) in
+    let ending = did_at code b c acts run q t (MarkUndone s w) Answer.Done undone in
+    let ends = done_as (deed_at code b c q ending (tags_at code b c acts run plain q within).0) refl in
+    let opened = opener code b c acts run q within t ending.from ending.stands (open_above ending.from ends.unpinned) in
+    let so : HasOpened acts opened.place q t s = subst (HasOpened acts opened.place q t) (sym ends.own) opened.opened in
+    (opened.place, so, is_undone code b c acts run plain opened.place t s so.word so.opens q w undone)

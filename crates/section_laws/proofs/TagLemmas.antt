@@ -16,12 +16,11 @@ use Rattle.step_port.specs.Words.{Words}
 use Rattle.thread_automaton.specs.ThreadState.{ThreadState, first_state, is_open}
 use Rattle.thread_automaton.specs.Checks.{is_safe, noted}
 use Rattle.automaton_rows.specs.Fits.{IsFit}
-use Rattle.section_laws.specs.Runs.{MayBecome}
 use Rattle.section_laws.proofs.WordLemmas.{state_of_zero}
 use Rattle.section_laws.proofs.DeedLemmas.{opening_of, undoing_of, view}
 use Rattle.section_laws.proofs.ClaimLemmas.{above, is_zero, open_above, claim, claim_some}
 use Rattle.section_laws.proofs.FactLemmas.{Threads, InThreads, Facts, each}
-use Rattle.section_laws.proofs.PinLemmas.{Settled, state_moves, settled_follows, some_follows}
+use Rattle.section_laws.proofs.PinLemmas.{Moves, Settled, state_moves, settled_follows, some_follows}
 use Rattle.section_laws.proofs.KnownLemmas.{IsSettled, safe_cases}
 use Rattle.section_laws.proofs.LogLemmas.{In, SameSection, SameWords, LogStep, idles, sheds, begins, notes, restores}
 
@@ -91,7 +90,7 @@ pub no_zero : (n : ℕ) → 0 < n → n ≡ 0 → ⊥
 no_zero n some none = omega arith
 
 module _ {S : Type 0} (code : Code S) (IsPlace : ℕ → Type 0) (w w' : Words) (threads : Threads S) (facts : Facts code w (InThreads threads)) (tags : Tags IsPlace w threads)
-    (moves : (s : ℕ) → MayBecome (w (Section s)) (w' (Section s))) (t : ℕ) (th y : ThreadState S) (stands : threads t ≡ Some th)
+    (moves : (s : ℕ) → Moves (w (Section s)) (w' (Section s))) (t : ℕ) (th y : ThreadState S) (stands : threads t ≡ Some th)
     (made : Step) (a : Answer) (step : LogStep IsPlace th w w' made a (view y)) (known : IsSettled w th.known) where
   settles : (s : ℕ) → Settled (state_of (w (Section s))) → Settled (state_of (w' (Section s)))
   settles s so = state_moves Settled (λ no. omega (arith, no)) settled_follows (w (Section s)) (w' (Section s)) (moves s) so

@@ -20,13 +20,13 @@ use Rattle.thread_automaton.specs.Told.{after_answer, after_quiet}
 use Rattle.core_runs.specs.OwnParts.{is_beside}
 use Rattle.core_runs.specs.Cores.{Core, threads_by}
 use Rattle.core_runs.specs.Acts.{Act, quiet, did, beside, QuietAt, DidAt, ActAt}
-use Rattle.section_laws.specs.Runs.{MayBecome, IsRun}
-use Rattle.section_laws.specs.Undoing.{Overwrites, IsWordStep, HasPlainWords}
+use Rattle.section_laws.specs.Runs.{IsRun}
+use Rattle.section_laws.specs.Undoing.{IsWordStep, IsHeapWord, WritesObjectWords}
 use Rattle.section_laws.proofs.DeedLemmas.{view, quiet_deed}
 use Rattle.section_laws.proofs.ClaimLemmas.{section_changes}
 use Rattle.section_laws.proofs.FactLemmas.{Threads, InThreads}
 use Rattle.section_laws.proofs.RunLemmas.{get_below, along, Known, deed_at, facts_at}
-use Rattle.section_laws.proofs.PinLemmas.{change_moves}
+use Rattle.section_laws.proofs.PinLemmas.{Moves, change_moves}
 use Rattle.section_laws.proofs.KnownLemmas.{IsSettled, knows_at}
 use Rattle.section_laws.proofs.LogLemmas.{In, LogStep, log_steps}
 use Rattle.section_laws.proofs.TagLemmas.{Unsettled, IsOnce, IsNoted, Tags, step_tags, begun_tags}
@@ -45,10 +45,10 @@ beside_tags IsPlace SetStop w threads is tags =
     record { tagged = tags.tagged; logged = tags.logged; own = tags.own; once = tags.once; noted_by = tags.noted_by }
 beside_tags IsPlace step w threads is tags = absurd (true≢false (sym is))
 
-module _ {S : Type 0} (code : Code S) (b : Bounds) (c : ℕ → Core S) (acts : List Act) (run : IsRun code b c acts) (plain : HasPlainWords code c acts) where
+module _ {S : Type 0} (code : Code S) (b : Bounds) (c : ℕ → Core S) (acts : List Act) (run : IsRun code b c acts) (plain : WritesObjectWords code c acts) where
   -- a place that is overwritten
   abbrev pub IsPlace : ℕ → Type 0
-  IsPlace at = (k t : ℕ) × Overwrites acts k t at
+  IsPlace at = IsHeapWord c acts at
 
   abbrev pub TagsAt : ℕ → Type 0
   TagsAt k = Tags IsPlace (c k).words (c k).threads
@@ -61,11 +61,11 @@ module _ {S : Type 0} (code : Code S) (b : Bounds) (c : ℕ → Core S) (acts : 
     thread_after = after_answer code b at.from step a
 
     free : (place : ℕ) → IsPlace place → place_of step ≡ Object place → IsWordStep step
-    free place is on = plain.apart is.0 is.1 place is.2 k t step a here on
+    free place is on = is.apart k t step a here on
 
     writes : (place old new : ℕ) → step ≡ SwapWord place old new → a ≡ Answer.Done → IsPlace place
     writes place old new is done =
-        (k, t, (old, new, here ∙ ap (λ z. Some (did t z a)) is ∙ ap (λ z. Some (did t (SwapWord place old new) z)) done))
+        plain.overwritten k t place (old, new, here ∙ ap (λ z. Some (did t z a)) is ∙ ap (λ z. Some (did t (SwapWord place old new) z)) done)
 
     range : (r i v : ℕ) → code.next at.from.local ≡ Want (Write r i v) → v < 2 ^ 32
     range r i v wants = (plain.in_range k t at.from (Write r i v) (let below = get_below acts k (did t step a) here in omega (arith, below)) at.stands wants).2
@@ -73,7 +73,7 @@ module _ {S : Type 0} (code : Code S) (b : Bounds) (c : ℕ → Core S) (acts : 
     pub log_step : LogStep IsPlace at.from (c k).words after step a (view thread_after)
     log_step = log_steps code IsPlace at.from (c k).words (deed_at code b c k at facts) at.answered free writes range
 
-    moves : (s : ℕ) → MayBecome ((c k).words (Section s)) (after (Section s))
+    moves : (s : ℕ) → Moves ((c k).words (Section s)) (after (Section s))
     moves s = change_moves code (c k).words (InThreads (c k).threads) facts t at.from at.stands s (after (Section s)) (section_changes code at.from (c k).words (deed_at code b c k at facts) at.answered s)
 
     did_tags : TagsAt k → TagsAt (suc k)
@@ -115,7 +115,7 @@ module _ {S : Type 0} (code : Code S) (b : Bounds) (c : ℕ → Core S) (acts : 
 
   first_tags : TagsAt 0
   first_tags = record {
-    tagged = λ at place. inl (plain.unwritten place.0 place.1 at place.2);
+    tagged = λ at place. inl place.unwritten;
     logged = λ u th at. by_first u th at (λ y. (x : Noted) → In x y.log → IsPlace x.at × IsSettled (c 0).words (tag_of x.old)) (λ number priority l x there. absurd there);
     own = λ u th at un. by_first u th at (λ y. (x : Noted) → In x y.log → tag_of ((c 0).words (Object x.at)) ≡ y.section) (λ number priority l x there. absurd there);
     once = λ u th at un. by_first u th at (λ y. IsOnce y.log) (λ number priority l. tt);

@@ -12,8 +12,8 @@ use Rattle.step_port.specs.declared.step.Step.{Step}
 use Rattle.step_port.specs.declared.step.Step.TheVariants.{OpenSection}
 use Rattle.step_port.specs.Words.{Words}
 use Rattle.thread_automaton.specs.declared.Bounds.{Bounds}
-use Rattle.thread_automaton.specs.ThreadState.{ThreadState, first_state}
-use Rattle.core_runs.specs.WordRuns.{RunEntry, words_by}
+use Rattle.thread_automaton.specs.ThreadState.{ThreadState, first_state, own_word}
+use Rattle.core_runs.specs.WordRuns.{RunEntry}
 use Rattle.core_runs.specs.OwnParts.{Birth, IsCoreRun}
 use Rattle.core_runs.specs.Cores.{Core}
 use Rattle.core_runs.specs.Acts.{Act, did, ActFrom}
@@ -48,10 +48,15 @@ pub record IsRunFrom {S : Type 0} (code : Code S) (b : Bounds) (first : Birth �
 
 -- ---- the word of a section
 
--- a section is opened: its word was 0
-pub record IsOpened (old new : ℕ) : Type 0 where
-  pub unopened : old ≡ 0
-  pub live : is_in Live new ≡ true
+-- With act number k a thread opens section s: its word was 0, and is then that of a live section with the number and the
+-- priority of the thread.
+pub record OpensAt {S : Type 0} (c : ℕ → Core S) (acts : List Act) (k s : ℕ) : Type 0 where
+  pub thread : ℕ
+  pub th : ThreadState S
+  pub stands : (c k).threads thread ≡ Some th
+  pub opens : slice_get acts k ≡ Some (did thread (OpenSection s (own_word th Live)) Done)
+  pub unopened : (c k).words (Section s) ≡ 0
+  pub leads : (c (suc k)).words (Section s) ≡ own_word th Live
 
 -- a section comes from one state into another that may follow, and the rest of its word stays
 pub record ComesOn (old new : ℕ) : Type 0 where
@@ -62,19 +67,14 @@ pub record ComesOn (old new : ℕ) : Type 0 where
   pub leads : new ≡ with_state old (number_of to)
 
 -- the word of a section stays as it is, or the section is opened, or it comes on
-abbrev pub MayBecome : ℕ → ℕ → Type 0
-MayBecome old new = (new ≡ old) ⊎ IsOpened old new ⊎ ComesOn old new
+abbrev pub MayBecome : Type 0 → ℕ → ℕ → Type 0
+MayBecome Opens old new = (new ≡ old) ⊎ Opens ⊎ ComesOn old new
 
 -- nothing else becomes of it with an act
 abbrev pub SectionsComeOn : {S : Type 0} → Code S → Type 0
 SectionsComeOn {S} code = (b : Bounds) (c : ℕ → Core S) (acts : List Act) → IsRun code b c acts
-    → (k s : ℕ) → k < length acts → MayBecome ((c k).words (Section s)) ((c (suc k)).words (Section s))
-
--- or with an entry
-abbrev pub SectionsComeOnInRuns : {S : Type 0} → Code S → Type 0
-SectionsComeOnInRuns {S} code = (b : Bounds) (first : Birth → ThreadState S) (main : Birth) (w : Words)
-    (e : RunEntry) (run : List RunEntry) → IsRunFrom code b first main w (e ∷ run)
-    → (s : ℕ) → MayBecome (words_by w run (Section s)) (words_by w (e ∷ run) (Section s))
+    → (k s : ℕ) → k < length acts
+    → MayBecome (OpensAt c acts k s) ((c k).words (Section s)) ((c (suc k)).words (Section s))
 
 -- no number is opened twice
 abbrev pub SectionsOpenOnce : {S : Type 0} → Code S → Type 0
@@ -94,7 +94,7 @@ SectionsAreApart {S} code = (b : Bounds) (c : ℕ → Core S) (acts : List Act) 
     → 0 < th.section → th.section ≡ uh.section → t ≡ u
 
 -- a live section is pinned or revoked
-pub record IsTouched (old new : ℕ) : Type 0 where
+pub record IsPinnedOrRevoked (old new : ℕ) : Type 0 where
   pub live : is_in Live old ≡ true
   pub leads : (new ≡ with_state old (number_of Pinned)) ⊎ (new ≡ with_state old (number_of Revoking))
 
@@ -106,7 +106,7 @@ OthersSectionsStay {S} code = (b : Bounds) (c : ℕ → Core S) (acts : List Act
     → slice_get acts k ≡ Some (did t step answer) → (c k).threads t ≡ Some th
     → s ≢ th.section → (c k).words (Section s) ≢ 0
     → ((c (suc k)).words (Section s) ≡ (c k).words (Section s))
-    ⊎ IsTouched ((c k).words (Section s)) ((c (suc k)).words (Section s))
+    ⊎ IsPinnedOrRevoked ((c k).words (Section s)) ((c (suc k)).words (Section s))
 
 -- what a run has begun with is a run
 abbrev pub RunsBeginWithRuns : {S : Type 0} → Code S → Type 0

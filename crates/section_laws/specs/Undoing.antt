@@ -28,13 +28,16 @@ IsWordStep (SwapWord at old new) = Unit {0}
 IsWordStep (RestoreWord at old) = Unit {0}
 IsWordStep step = ⊥
 
--- The words that are overwritten are words of objects alone, and no section had written them as the run began; and
--- what threads want is in range.
-pub record HasPlainWords {S : Type 0} (code : Code S) (c : ℕ → Core S) (acts : List Act) : Type 0 where
-  pub apart : (k t at : ℕ) → Overwrites acts k t at
-      → (j u : ℕ) (step : Step) (answer : Answer) → slice_get acts j ≡ Some (did u step answer)
+-- a word of an object that code reads and writes: no other steps are made on it, and no section had written it as the
+-- run began
+pub record IsHeapWord {S : Type 0} (c : ℕ → Core S) (acts : List Act) (at : ℕ) : Type 0 where
+  pub apart : (j u : ℕ) (step : Step) (answer : Answer) → slice_get acts j ≡ Some (did u step answer)
       → place_of step ≡ Object at → IsWordStep step
-  pub unwritten : (k t at : ℕ) → Overwrites acts k t at → tag_of ((c 0).words (Object at)) ≡ 0
+  pub unwritten : tag_of ((c 0).words (Object at)) ≡ 0
+
+-- Only such words are overwritten, and what threads want is in range.
+pub record WritesObjectWords {S : Type 0} (code : Code S) (c : ℕ → Core S) (acts : List Act) : Type 0 where
+  pub overwritten : (k t at : ℕ) → Overwrites acts k t at → IsHeapWord c acts at
   pub in_range : (k t : ℕ) (th : ThreadState S) (op : Op) → k ≤ length acts
       → (c k).threads t ≡ Some th → code.next th.local ≡ Want op → IsInRange op
 
@@ -46,7 +49,7 @@ pub record IsFirstWrite (acts : List Act) (p j t at : ℕ) : Type 0 where
 
 -- Act number i puts the word at a place back that thread t has overwritten in its section s, which act number p has
 -- opened. The word still carries the section's number, and is then as the section found it, value and tag.
-pub record IsPutBack {S : Type 0} (c : ℕ → Core S) (acts : List Act) (p i t s at : ℕ) : Type 0 where
+pub record PutsBackAt {S : Type 0} (c : ℕ → Core S) (acts : List Act) (p i t s at : ℕ) : Type 0 where
   pub old : ℕ
   pub puts : slice_get acts i ≡ Some (did t (RestoreWord at old) Done)
   pub found : ℕ
@@ -59,21 +62,26 @@ pub record IsPutBack {S : Type 0} (c : ℕ → Core S) (acts : List Act) (p i t 
 pub record IsUndone {S : Type 0} (c : ℕ → Core S) (acts : List Act) (p q t s : ℕ) : Type 0 where
   -- each word that it has overwritten was put back
   pub all_put_back : (j at : ℕ) → p < j → j < q → Overwrites acts j t at
-      → (i : ℕ) × (j < i) × (i < q) × IsPutBack c acts p i t s at
+      → (i : ℕ) × (j < i) × (i < q) × PutsBackAt c acts p i t s at
   -- and no other word
   pub nothing_else : (i at old : ℕ) → p < i → i < q → slice_get acts i ≡ Some (did t (RestoreWord at old) Done)
-      → IsPutBack c acts p i t s at
-  -- no word that is ever overwritten carries its number then
-  pub none_left : (j u at : ℕ) → Overwrites acts j u at → tag_of ((c q).words (Object at)) ≡ s → ⊥
+      → PutsBackAt c acts p i t s at
+  -- no word carries its number then
+  pub none_left : (at : ℕ) → IsHeapWord c acts at → tag_of ((c q).words (Object at)) ≡ s → ⊥
   -- its thread stands where it stood as it was to enter
   pub stands_again : (before behind : ThreadState S)
       → (c p).threads t ≡ Some before → (c (suc q)).threads t ≡ Some behind
       → behind.local ≡ before.local
 
--- so it is with each section that is undone
+-- act number p, before act number q, is the one with which thread t has opened its section s
+pub record HasOpened (acts : List Act) (p q t s : ℕ) : Type 0 where
+  pub earlier : p < q
+  pub word : ℕ
+  pub opens : slice_get acts p ≡ Some (did t (OpenSection s word) Done)
+
+-- so it is with each section that is undone: its thread has opened it before
 abbrev pub UndoingPutsBack : {S : Type 0} → Code S → Type 0
 UndoingPutsBack {S} code = (b : Bounds) (c : ℕ → Core S) (acts : List Act)
-    → IsRun code b c acts → HasPlainWords code c acts
-    → (p q t s v w : ℕ) → slice_get acts p ≡ Some (did t (OpenSection s v) Done)
-    → slice_get acts q ≡ Some (did t (MarkUndone s w) Done)
-    → IsUndone c acts p q t s
+    → IsRun code b c acts → WritesObjectWords code c acts
+    → (q t s w : ℕ) → slice_get acts q ≡ Some (did t (MarkUndone s w) Done)
+    → (p : ℕ) × HasOpened acts p q t s × IsUndone c acts p q t s

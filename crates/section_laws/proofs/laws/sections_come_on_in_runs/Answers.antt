@@ -1,4 +1,4 @@
-use Rattle.section_laws.proofs.CoreRunLemmas.{come_on_in_runs}
+use Rattle.section_laws.proofs.InRunLemmas.{come_on_in_runs}
 use Rattle.section_laws.proofs.laws.sections_come_on_in_runs.Goals as goal
 
 pub returns : goal.returns

@@ -1,0 +1,320 @@
+-- Objects lie apart at each place of a run.
+use Rattle.std.proofs.Common.{◌≡◌, ◌≢◌, ◌⊎◌, inl, inr, ℕ, ◌+◌, ◌<◌, ◌≤◌, true≢false, Option, None, Some, refl, sym, ◌∙◌, ap, subst, arith}
+use Rattle.std.specs.Prelude.{IsSome, IsSomeAnd}
+use Rattle.op_core.specs.declared.Op.{Op}
+use Rattle.op_core.specs.declared.Op.TheVariants.{Write, New, Enter, Exit, Wait, Rewake}
+use Rattle.op_core.specs.declared.Next.{Next}
+use Rattle.op_core.specs.declared.Next.TheVariants.{Want}
+use Rattle.op_core.specs.ThreadCode.{Code}
+use Rattle.op_core.specs.OrdinaryState.{set_at, Object}
+use Rattle.op_core.specs.InPlaceList.{IsAllThere}
+use Rattle.op_core.proofs.PointwiseLemmas.{set_at-at, set_at-other, same_or_other}
+use Rattle.heap_words.specs.declared.areas.Area.TheVariants.{Control}
+use Rattle.write_log.specs.declared.Noted.{Noted}
+use Rattle.step_port.specs.declared.answer.Answer.{Answer}
+use Rattle.step_port.specs.declared.step.Step.{Step}
+use Rattle.step_port.specs.declared.step.Step.TheVariants.{TakeWords, SetHeader, LoadThread, Split}
+use Rattle.step_port.specs.Steps.{place_of, effect_of}
+use Rattle.step_port.specs.Words.{Words, answer_of, words_after}
+use Rattle.thread_automaton.specs.declared.Bounds.{Bounds}
+use Rattle.thread_automaton.specs.declared.Move.TheVariants.{Make}
+use Rattle.thread_automaton.specs.ThreadState.{ThreadState, first_state}
+use Rattle.thread_automaton.specs.NextMove.{word_place, words_asked, next_move}
+use Rattle.thread_automaton.specs.Told.{after_answer, after_quiet}
+use Rattle.automaton_rows.specs.Fits.{StageFits}
+use Rattle.core_runs.specs.Cores.{threads_by, objects_by}
+use Rattle.section_laws.specs.Layout.{end_of}
+use Rattle.section_laws.proofs.WordLemmas.{stays_at}
+use Rattle.section_laws.proofs.ClaimLemmas.{some_is, none_some, found_is}
+use Rattle.section_laws.proofs.FactLemmas.{Threads, each}
+use Rattle.section_laws.proofs.LogLemmas.{In}
+use Rattle.section_laws.proofs.PlaceLemmas.{NamesMonitor, NamesWrite, Names, step_names, new_place, owned_by, OwnedStep, owned_steps, new_wanted}
+
+abbrev pub Objects : Type 0
+Objects = ℕ → Option Object
+
+-- an object is there, or a word of one
+abbrev pub There : Objects → ℕ → Type 0
+There objects r = (o : Object) × (objects r ≡ Some o)
+
+abbrev pub WordThere : Objects → ℕ → ℕ → Type 0
+WordThere objects r i = (o : Object) × (objects r ≡ Some o) × (i < o.words)
+
+pub is_there : (o : Option Object) → IsSome o → (x : Object) × (o ≡ Some x)
+is_there (Some x) there = (x, refl)
+is_there None there = absurd (true≢false (sym there))
+
+pub is_such : {P : Object → Type 0} (o : Option Object) → IsSomeAnd o P → (x : Object) × (o ≡ Some x) × P x
+is_such (Some x) so = (x, refl, so)
+is_such None so = absurd so
+
+abbrev pub AllThere : Objects → Next → Type 0
+AllThere objects next = (op : Op) → next ≡ Want op → IsAllThere objects op
+
+pub monitor_there : (objects : Objects) (next : Next) (q : ℕ) → NamesMonitor next q → AllThere objects next → There objects q
+monitor_there objects (Want (Enter r)) q names all = subst (There objects) (sym names) (is_there (objects r) (all (Enter r) refl))
+monitor_there objects (Want (Exit r)) q names all = subst (There objects) (sym names) (is_there (objects r) (all (Exit r) refl))
+monitor_there objects (Want (Wait r)) q names all = subst (There objects) (sym names) (is_there (objects r) (all (Wait r) refl))
+monitor_there objects (Want (Rewake r)) q names all = subst (There objects) (sym names) (is_there (objects r) (all (Rewake r) refl))
+monitor_there objects (Want (Op.Notify r)) q names all = subst (There objects) (sym names) (is_there (objects r) (all (Op.Notify r) refl))
+monitor_there objects next q names all = absurd names
+
+-- a place is that of a word of an object that is there
+abbrev pub IsPlaced : Objects → ℕ → Type 0
+IsPlaced objects at = (r i : ℕ) × WordThere objects r i × (at ≡ word_place r i)
+
+pub write_there : (objects : Objects) (next : Next) (at : ℕ) → NamesWrite next at → AllThere objects next → IsPlaced objects at
+write_there objects (Want (Write r i v)) at names all = let such = is_such (objects r) (all (Write r i v) refl) in (r, i, such, names)
+write_there objects next at names all = absurd names
+
+-- ---- what is so at a place of a run
+
+-- how many words a new object is about to have, with header and monitor
+abbrev size_of : {S : Type 0} → Code S → S → Next → ℕ
+size_of code l (Want (New c n)) = words_asked code l c n
+size_of code l next = 0
+
+abbrev new_end : {S : Type 0} → Code S → ThreadState S → ℕ → ℕ
+new_end code th r = r + size_of code th.local (code.next th.local)
+
+-- there is room for the new object of thread u, which lies from r on
+pub record HasRoom {S : Type 0} (code : Code S) (first : ℕ) (w : Words) (objects : Objects) (threads : Threads S) (u r last : ℕ) : Type 0 where
+  pub low : last ≤ first + w (Control 2)
+  pub high : first ≤ r
+  pub some : r + 2 ≤ last
+  pub objects_apart : (q : ℕ) (p : Object) → objects q ≡ Some p → (last ≤ q) ⊎ (end_of q p ≤ r)
+  pub others_apart : (v q : ℕ) (vh : ThreadState S) → v ≢ u → threads v ≡ Some vh → new_place vh.stage ≡ Some q → (last ≤ q) ⊎ (new_end code vh q ≤ r)
+
+pub record Laid {S : Type 0} (code : Code S) (first : ℕ) (begun : Objects) (w : Words) (objects : Objects) (threads : Threads S) : Type 0 where
+  pub apart : (r q : ℕ) (o p : Object) → objects r ≡ Some o → objects q ≡ Some p → r ≢ q → (end_of r o ≤ q) ⊎ (end_of q p ≤ r)
+  pub low : (r : ℕ) (o : Object) → objects r ≡ Some o → end_of r o ≤ first + w (Control 2)
+  pub from : (r : ℕ) (o : Object) → objects r ≡ Some o → (begun r ≡ Some o) ⊎ (first ≤ r)
+  pub held : (u q : ℕ) (th : ThreadState S) → threads u ≡ Some th → In q th.held → There objects q
+  pub logged : (u : ℕ) (x : Noted) (th : ThreadState S) → threads u ≡ Some th → In x th.log → IsPlaced objects x.at
+  pub room : (u r : ℕ) (th : ThreadState S) → threads u ≡ Some th → new_place th.stage ≡ Some r → HasRoom code first w objects threads u r (new_end code th r)
+
+-- the count of words doesn't sink
+more_taken : (step : Step) (w : Words) → w (Control 2) ≤ words_after step w (Control 2)
+more_taken (TakeWords n) w = omega arith
+more_taken (LoadThread which) w = omega arith
+more_taken step w = let same = stays_at (effect_of step) w (place_of step) (Control 2) refl in omega (arith, same)
+
+module _ {S : Type 0} (code : Code S) (b : Bounds) (begun : Objects) (w : Words) (objects : Objects) (threads : Threads S) (laid : Laid code b.first begun w objects threads)
+    (t : ℕ) (th : ThreadState S) (stands : threads t ≡ Some th) (step : Step) (a : Answer) (fits : StageFits th (code.next th.local) th.stage)
+    (makes : next_move code b th ≡ Make step) (is : a ≡ answer_of w step) (all : AllThere objects (code.next th.local)) where
+  abbrev after : Words
+  after = words_after step w
+
+  abbrev objects_after : Objects
+  objects_after = objects_by code step th.local (code.next th.local) objects
+
+  abbrev y : ThreadState S
+  y = after_answer code b th step a
+
+  owned : OwnedStep code b th step a (owned_by y)
+  owned = owned_steps code b th w step a fits makes is
+
+  taken : w (Control 2) ≤ after (Control 2)
+  taken = more_taken step w
+
+  -- the objects stay, or the new one is there
+  data Made : Type 0 where
+    no_more : objects_after ≡ objects → Made
+    one_more : (r c n : ℕ) → new_place th.stage ≡ Some r → code.next th.local ≡ Want (New c n)
+        → objects_after ≡ set_at objects r (Some (record { class = c; length = n; words = code.words th.local c n })) → Made
+
+  made : Made
+  made = by_step step refl
+    where
+      by_step : (m : Step) → step ≡ m → Made
+      by_step (SetHeader r v) same =
+          let fixed = subst (Names (code.next th.local) th.stage th.log th.held) same (step_names code b th step fits makes) in
+          let at : new_place th.stage ≡ Some r = ap new_place fixed in
+          let wants = new_wanted code b th (code.next th.local) th.stage r fits at in
+          one_more r wants.0 wants.1 at wants.2 (ap (λ m. objects_by code m th.local (code.next th.local) objects) same ∙ ap (λ next. objects_by code (SetHeader r v) th.local next objects) wants.2)
+      by_step m same = no_more (ap (λ s. objects_by code s th.local (code.next th.local) objects) same)
+
+  -- the end of the new object
+  same_end : (r c n : ℕ) → code.next th.local ≡ Want (New c n) → new_end code th r ≡ end_of r (record { class = c; length = n; words = code.words th.local c n })
+  same_end r c n wants = ap (λ next. r + size_of code th.local next) wants ∙ omega arith
+
+  -- what is so of an object behind the step
+  with_objects : (P : ℕ → Object → Type 0) → ((q : ℕ) (p : Object) → objects q ≡ Some p → P q p)
+      → ((r c n : ℕ) → new_place th.stage ≡ Some r → code.next th.local ≡ Want (New c n) → P r (record { class = c; length = n; words = code.words th.local c n }))
+      → (q : ℕ) (p : Object) → objects_after q ≡ Some p → P q p
+  with_objects P old new q p there = elim made [
+    | no_more same ↦ old q p (ap (λ (f : Objects). f q) (sym same) ∙ there)
+    | one_more r c n at wants same ↦
+        set_at-at (λ o. (x : Object) → o ≡ Some x → P q x) objects r (Some (record { class = c; length = n; words = code.words th.local c n })) q
+        (λ own x is_x. subst (P q) (some_is (record { class = c; length = n; words = code.words th.local c n }) x is_x) (subst (λ m. P m (record { class = c; length = n; words = code.words th.local c n })) (sym own) (new r c n at wants)))
+        (λ other x is_x. old q x is_x) p (ap (λ (f : Objects). f q) (sym same) ∙ there)
+  ]
+
+  not_there : (r : ℕ) (p : Object) → new_place th.stage ≡ Some r → objects r ≡ Some p → ⊥
+  not_there r p at there =
+      let room = laid.room t r th stands at in
+      let some = room.some in
+      elim (room.objects_apart r p there) [
+        | inl high ↦ omega (arith, some, high)
+        | inr low ↦ omega (arith, low)
+      ]
+
+  -- an object stays
+  pub grows : (q : ℕ) (p : Object) → objects q ≡ Some p → objects_after q ≡ Some p
+  grows q p there = elim made [
+    | no_more same ↦ ap (λ (f : Objects). f q) same ∙ there
+    | one_more r c n at wants same ↦ elim (same_or_other q r) [
+      | inl own ↦ absurd (not_there r p at (ap objects (sym own) ∙ there))
+      | inr other ↦ ap (λ (f : Objects). f q) same ∙ set_at-other objects r (Some (record { class = c; length = n; words = code.words th.local c n })) q other ∙ there
+    ]
+  ]
+
+  there_after : (q : ℕ) → There objects q → There objects_after q
+  there_after q so = (so.0, grows q so.0 so.1)
+
+  placed_after : (at : ℕ) → IsPlaced objects at → IsPlaced objects_after at
+  placed_after at so = (so.0, so.1, (so.2.0, grows so.0 so.2.0 so.2.1, so.2.2), so.3)
+
+  apart_after : (r q : ℕ) (o p : Object) → objects_after r ≡ Some o → objects_after q ≡ Some p → r ≢ q → (end_of r o ≤ q) ⊎ (end_of q p ≤ r)
+  apart_after r q o p there also = with_objects (λ m x. m ≢ q → (end_of m x ≤ q) ⊎ (end_of q p ≤ m))
+      (λ m x old. with_objects (λ n z. m ≢ n → (end_of m x ≤ n) ⊎ (end_of n z ≤ m))
+      (λ n z old_too other. laid.apart m n x z old old_too other)
+      (λ n c k at wants other. elim ((laid.room t n th stands at).objects_apart m x old) [
+        | inl high ↦ inr (subst (λ e. e ≤ m) (same_end n c k wants) high)
+        | inr low ↦ inl low
+      ]) q p also)
+      (λ m c k at wants. with_objects (λ n z. m ≢ n → (end_of m (record { class = c; length = k; words = code.words th.local c k }) ≤ n) ⊎ (end_of n z ≤ m))
+      (λ n z old other. elim ((laid.room t m th stands at).objects_apart n z old) [
+        | inl high ↦ inl (subst (λ e. e ≤ n) (same_end m c k wants) high)
+        | inr low ↦ inr low
+      ])
+      (λ n d j at_too wants_too other. absurd (other (some_is m n (sym at ∙ at_too)))) q p also)
+      r o there
+
+  low_after : (r : ℕ) (o : Object) → objects_after r ≡ Some o → end_of r o ≤ b.first + after (Control 2)
+  low_after = with_objects (λ r o. end_of r o ≤ b.first + after (Control 2))
+      (λ r o old. let was = laid.low r o old in let up = taken in omega (arith, was, up))
+      (λ r c n at wants. let was = (laid.room t r th stands at).low in let up = taken in let ends = same_end r c n wants in omega (arith, was, up, ends))
+
+  from_after : (r : ℕ) (o : Object) → objects_after r ≡ Some o → (begun r ≡ Some o) ⊎ (b.first ≤ r)
+  from_after = with_objects (λ r o. (begun r ≡ Some o) ⊎ (b.first ≤ r)) (λ r o old. laid.from r o old) (λ r c n at wants. inr (laid.room t r th stands at).high)
+
+  held_own : (q : ℕ) → In q y.held → There objects_after q
+  held_own q there = elim (owned.monitors q there) [
+    | inl before ↦ there_after q (laid.held t q th stands before)
+    | inr names ↦ there_after q (monitor_there objects (code.next th.local) q names all)
+  ]
+
+  logged_own : (x : Noted) → In x y.log → IsPlaced objects_after x.at
+  logged_own x there = elim (owned.log x there) [
+    | inl before ↦ placed_after x.at (laid.logged t x th stands before)
+    | inr names ↦ placed_after x.at (write_there objects (code.next th.local) x.at names all)
+  ]
+
+  -- a step that takes words leaves the objects
+  takes_none : (n : ℕ) → step ≡ TakeWords n → objects_after ≡ objects
+  takes_none n takes = ap (λ m. objects_by code m th.local (code.next th.local) objects) takes
+
+  -- what is so where the own thread has words taken for a new object
+  record TakesRoom (r : ℕ) : Type 0 where
+    at : r ≡ b.first + w (Control 2)
+    ends : new_end code y r ≡ b.first + after (Control 2)
+    some : r + 2 ≤ new_end code y r
+    same : objects_after ≡ objects
+
+  takes_room : (r : ℕ) → new_place y.stage ≡ Some r → TakesRoom r
+  takes_room r new = elim owned.new [
+    | inl none ↦ none_some r (sym none ∙ new)
+    | inr takes ↦
+        let count : takes.taken ≡ w (Control 2) = found_is takes.taken (w (Control 2)) (sym takes.answered ∙ is ∙ ap (answer_of w) takes.step_is) in
+        let place : r ≡ takes.taken + b.first = some_is r (takes.taken + b.first) (sym new ∙ takes.new) in
+        let size : size_of code y.local (code.next y.local) ≡ words_asked code th.local takes.class takes.size =
+        ap (λ l. size_of code l (code.next l)) takes.local ∙ ap (λ next. size_of code th.local next) takes.wants in
+        let grown : after (Control 2) ≡ w (Control 2) + words_asked code th.local takes.class takes.size = ap (λ m. words_after m w (Control 2)) takes.step_is in
+        record {
+          at = omega (arith, count, place);
+          ends = omega (arith, count, place, size, grown);
+          some = omega (arith, size);
+          same = takes_none (words_asked code th.local takes.class takes.size) takes.step_is;
+        }
+  ]
+
+  abbrev threads_now : Threads S
+  threads_now = set_at threads t (Some y)
+
+  room_own : (r : ℕ) → new_place y.stage ≡ Some r → HasRoom code b.first after objects_after threads_now t r (new_end code y r)
+  room_own r new =
+      let takes = takes_room r new in
+      record {
+        low = let ends = takes.ends in omega (arith, ends);
+        high = let at = takes.at in omega (arith, at);
+        some = takes.some;
+        objects_apart = λ q p there.
+            let low = laid.low q p (ap (λ (f : Objects). f q) (sym takes.same) ∙ there) in
+            let at = takes.at in
+            inr (omega (arith, low, at));
+        others_apart = λ v q vh other there about. inr (each (λ (uh : ThreadState S). v ≢ t → new_place uh.stage ≡ Some q → new_end code uh q ≤ r) threads t y v
+            (λ own away new_too. absurd (away own))
+            (λ uh away at away_too new_too. let low = (laid.room v q uh at new_too).low in let here = takes.at in omega (arith, low, here)) vh there other about);
+      }
+
+  room_other : (u r : ℕ) (uh : ThreadState S) → u ≢ t → threads u ≡ Some uh → new_place uh.stage ≡ Some r → HasRoom code b.first after objects_after threads_now u r (new_end code uh r)
+  room_other u r uh other at new =
+      let room = laid.room u r uh at new in
+      record {
+        low = let was = room.low in let up = taken in omega (arith, was, up);
+        high = room.high;
+        some = room.some;
+        objects_apart = with_objects (λ q p. (new_end code uh r ≤ q) ⊎ (end_of q p ≤ r)) (λ q p old. room.objects_apart q p old)
+            (λ q c n about wants. elim (room.others_apart t q th (λ own. other (sym own)) stands about) [
+              | inl high ↦ inl high
+              | inr low ↦ inr (subst (λ e. e ≤ r) (same_end q c n wants) low)
+            ]);
+        others_apart = λ v q vh away there about. each (λ (xh : ThreadState S). new_place xh.stage ≡ Some q → (new_end code uh r ≤ q) ⊎ (new_end code xh q ≤ r)) threads t y v
+            (λ own new_too. let takes = takes_room q new_too in let low = room.low in let here = takes.at in inl (omega (arith, low, here)))
+            (λ xh away_too at_x new_too. room.others_apart v q xh away at_x new_too) vh there about;
+      }
+
+  pub step_laid : Laid code b.first begun after objects_after threads_now
+  step_laid = record {
+    apart = apart_after;
+    low = low_after;
+    from = from_after;
+    held = λ u q. each (λ (uh : ThreadState S). In q uh.held → There objects_after q) threads t y u (λ own there. held_own q there) (λ uh other at there. there_after q (laid.held u q uh at there));
+    logged = λ u x. each (λ (uh : ThreadState S). In x uh.log → IsPlaced objects_after x.at) threads t y u (λ own there. logged_own x there)
+        (λ uh other at there. placed_after x.at (laid.logged u x uh at there));
+    room = λ u r. each (λ (uh : ThreadState S). new_place uh.stage ≡ Some r → HasRoom code b.first after objects_after threads_now u r (new_end code uh r)) threads t y u
+        (λ own new. subst (λ v. HasRoom code b.first after objects_after threads_now v r (new_end code y r)) (sym own) (room_own r new))
+        (λ uh other at new. room_other u r uh other at new);
+  }
+
+module _ {S : Type 0} (code : Code S) (first : ℕ) (begun : Objects) (w : Words) (objects : Objects) where
+  -- a thread that holds and notes no more than before, and is about to make no object
+  calm_laid : (threads : Threads S) (t : ℕ) (y : ThreadState S) → Laid code first begun w objects threads → ((q : ℕ) → In q y.held → There objects q)
+      → ((x : Noted) → In x y.log → IsPlaced objects x.at) → new_place y.stage ≡ None → Laid code first begun w objects (set_at threads t (Some y))
+  calm_laid threads t y laid held logged none = record {
+    apart = laid.apart;
+    low = laid.low;
+    from = laid.from;
+    held = λ u q. each (λ (uh : ThreadState S). In q uh.held → There objects q) threads t y u (λ own. held q) (λ uh other at. laid.held u q uh at);
+    logged = λ u x. each (λ (uh : ThreadState S). In x uh.log → IsPlaced objects x.at) threads t y u (λ own. logged x) (λ uh other at. laid.logged u x uh at);
+    room = λ u r. each (λ (uh : ThreadState S). new_place uh.stage ≡ Some r → HasRoom code first w objects (set_at threads t (Some y)) u r (new_end code uh r)) threads t y u
+        (λ own new. none_some r (sym none ∙ new))
+        (λ uh other at new.
+        let room = laid.room u r uh at new in
+        record {
+          low = room.low;
+          high = room.high;
+          some = room.some;
+          objects_apart = room.objects_apart;
+          others_apart = λ v q vh away there about. each (λ (xh : ThreadState S). new_place xh.stage ≡ Some q → (new_end code uh r ≤ q) ⊎ (new_end code xh q ≤ r)) threads t y v
+              (λ own new_too. none_some q (sym none ∙ new_too)) (λ xh other_too at_x new_too. room.others_apart v q xh away at_x new_too) vh there about;
+        });
+  }
+
+  pub handed_laid : (step : Step) (l : S) (threads : Threads S) → Laid code first begun w objects threads → Laid code first begun w objects (threads_by code step l threads)
+  handed_laid (Split n r p) l threads laid = calm_laid threads n (first_state n p (code.child l r)) laid (λ q there. absurd there) (λ x there. absurd there) refl
+  handed_laid step l threads laid = laid
+
+  pub quiet_laid : (threads : Threads S) (t : ℕ) (th : ThreadState S) (l : S) → threads t ≡ Some th → Laid code first begun w objects threads → Laid code first begun w objects (set_at threads t (Some (after_quiet th l)))
+  quiet_laid threads t th l stands laid = calm_laid threads t (after_quiet th l) laid (λ q there. laid.held t q th stands there) (λ x there. laid.logged t x th stands there) refl
