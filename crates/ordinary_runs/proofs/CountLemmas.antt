@@ -1,10 +1,10 @@
 -- Counts of turns by thread number, and how many more can count.
-use Rattle.std.proofs.Common.{◌≡◌, ◌≢◌, ℕ, zero, suc, ◌+◌, ◌-◌, ◌<◌, ◌≤◌, ◌⊎◌, inl, inr, List, length, get_or, set, replicate, refl, sym, ◌∙◌, ap, subst, arith, get_or-set_same, get_or-set_other}
+use Rattle.std.proofs.Common.{◌≡◌, ℕ, zero, suc, ◌+◌, ◌-◌, ◌<◌, ◌≤◌, inl, inr, get_or, replicate, refl, sym, ap, subst, arith}
 use Rattle.std.proofs.Math.Path.{fun_ext}
 use Rattle.std.proofs.lemmas.Bool.{cases_lt}
 use Rattle.std.proofs.lemmas.List.{get_or-replicate, get_or_past, length-replicate}
 use Rattle.op_core.specs.OrdinaryState.{set_at}
-use Rattle.op_core.proofs.PointwiseLemmas.{same_or_other, set_at-hit, set_at-other, set_at-at}
+use Rattle.op_core.proofs.PointwiseLemmas.{same_or_other, set_at-hit, set_at-other}
 
 -- in a table of zeros each count is 0
 pub zero_everywhere : (n : ℕ) → ◌≡◌ {A = ℕ → ℕ} (λ t. get_or (replicate n 0) t 0) (λ t. 0)

@@ -1,12 +1,12 @@
 -- The threads for which a fact holds, listed one number after another, and how threads have ended.
-use Rattle.std.proofs.Common.{◌≡◌, ◌⊎◌, ◌↔◌, inl, inr, ℕ, zero, suc, ◌+◌, ◌<◌, ◌≤◌, Bool, true, false, List, [], ◌∷◌, ◌++◌, length, map, All, Option, Some, None, refl, sym, ◌∙◌, ap, subst, arith}
+use Rattle.std.proofs.Common.{◌≡◌, inl, inr, ℕ, suc, ◌+◌, ◌<◌, ◌≤◌, false, List, [], ◌∷◌, ◌++◌, map, All, None, refl, sym, ◌∙◌, ap, subst, arith}
 use Rattle.std.specs.List.{Contains}
 use Rattle.std.proofs.lemmas.Bool.{cases_lt}
 use Rattle.std.proofs.lemmas.List.{map-append}
 use Rattle.std.proofs.lemmas.List.Elements.{All-append, All-cons, All-nil}
 use Rattle.std.proofs.lemmas.List.Kept.{AllPairs-from_increasing}
 use Rattle.op_core.specs.declared.ThreadEnd.{ThreadEnd}
-use Rattle.op_core.specs.OrdinaryState.{Thread, unused, live, ended, OrdinaryState, HasEnded}
+use Rattle.op_core.specs.OrdinaryState.{Thread, unused, ended, OrdinaryState, HasEnded}
 use Rattle.schedules.specs.Run.{TurnSystem, AreThose}
 use Rattle.schedules.specs.Laws.{AreThoseBelow, ThreadsAreListed}
 use Rattle.schedules.proofs.ListLemmas.{head_there, tail_there, none_there, head_or_tail, Rises, Rises-head, Rises-tail, threads_listed}

@@ -1,31 +1,22 @@
 -- A scheduled run has one outcome, which is that of an execution.
-use Rattle.std.proofs.Common.{◌≡◌, ◌⊎◌, ◌↔◌, inl, inr, ℕ, ◌+◌, ◌<◌, ◌≤◌, Bool, true, false, List, [], ◌∷◌, ◌++◌, get_or, All, Option, Some, None, refl, sym, ◌∙◌, ap, subst, arith}
-use Rattle.op_core.specs.declared.Event.{Event}
+use Rattle.std.proofs.Common.{◌≡◌, ◌↔◌, inl, inr, ℕ, true, List, [], ◌∷◌, get_or, Option, refl, sym, ◌∙◌, ap, subst, arith}
 use Rattle.op_core.specs.declared.Limits.{Limits}
 use Rattle.op_core.specs.declared.Limit.TheVariants.{Turns}
-use Rattle.op_core.specs.declared.How.{How}
-use Rattle.op_core.specs.declared.How.TheVariants.{Stuck}
 use Rattle.op_core.specs.declared.ThreadEnd.{ThreadEnd}
-use Rattle.op_core.specs.declared.Outcome.{Outcome}
 use Rattle.op_core.specs.ThreadCode.{Code}
 use Rattle.op_core.specs.OrdinaryState.{Thread, unused, live, ended, OrdinaryState, HasEnded}
-use Rattle.op_core.specs.Execution.{printed, EndsStuck}
 use Rattle.schedules.specs.declared.order.TurnEnd.{TurnEnd}
-use Rattle.schedules.specs.declared.order.Schedule.{Schedule}
-use Rattle.schedules.specs.Run.{AreThose, Run, IsHeldUp, IsTurn, Follows, EndsBy}
+use Rattle.schedules.specs.Run.{Run, IsHeldUp, IsTurn, Follows, EndsBy}
 use Rattle.schedules.specs.Laws.{IsDeterminate}
 use Rattle.schedules.proofs.RunLemmas.{one_end}
-use Rattle.ordinary_machine.specs.declared.advance.Advance.{Advance}
 use Rattle.ordinary_machine.specs.Machine.{Machine, HasBegun}
-use Rattle.ordinary_machine.specs.Step.{IsLive}
-use Rattle.ordinary_machine.specs.Advance.{MayAdvance}
 use Rattle.ordinary_machine.specs.Laws.{Call, Runs, events_of, StandsFurther, IsFurther, IsStandstill}
 use Rattle.ordinary_machine.proofs.OutcomeLemmas.{one_answer}
 use Rattle.ordinary_machine.proofs.RunLemmas.{executed}
 use Rattle.ordinary_machine.proofs.StuckLemmas.{standstills_stuck}
-use Rattle.ordinary_runs.specs.Turns.{Progress, is_live, end_of, counted_after, IsOutOfTurns, MakesTurn, machine_turns}
-use Rattle.ordinary_runs.specs.ScheduledRun.{begun_with, AreEnds, IsOutcome}
-use Rattle.ordinary_runs.specs.Laws.{RunsHaveOneOutcome, IsExecuted, RunsAreExecutions, StuckRunsAreStuck}
+use Rattle.ordinary_runs.specs.Turns.{Progress, is_live, end_of, counted_after, MakesTurn, machine_turns}
+use Rattle.ordinary_runs.specs.ScheduledRun.{begun_with, AreEnds}
+use Rattle.ordinary_runs.specs.Laws.{RunsHaveOneOutcome, RunsAreExecutions, StuckRunsAreStuck}
 use Rattle.ordinary_runs.proofs.EndLemmas.{ends_one}
 
 -- a turn comes to one thing
@@ -106,8 +97,8 @@ ends_there code s m ends further those = record {
   threads = record {
     rising = those.threads.rising;
     each = λ t.
-      let same = further_over code (s.threads t) (m.now.threads t) (m.silents t) (further.threads t) in
-      (λ there. same.0 ((those.threads.each t).0 there), λ over. (those.threads.each t).1 (same.1 over));
+        let same = further_over code (s.threads t) (m.now.threads t) (m.silents t) (further.threads t) in
+        (λ there. same.0 ((those.threads.each t).0 there), λ over. (those.threads.each t).1 (same.1 over));
   };
   classes = λ k d within. there (get_or ends k d) (those.classes k d within);
 }

@@ -4,3 +4,4 @@ pub mod SilentLemmas
 pub mod TurnLemmas
 pub mod EndLemmas
 pub mod LawLemmas
+pub mod RunLemmas

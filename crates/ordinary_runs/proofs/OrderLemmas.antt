@@ -1,9 +1,8 @@
 -- What is left of an order: which item is due, and how many turns the items can still give.
-use Rattle.std.proofs.Common.{◌≡◌, ℕ, zero, suc, ◌+◌, ◌-◌, ◌<◌, ◌≤◌, Bool, true, false, cond, ◌&&◌, nat_lt, List, [], ◌∷◌, ◌++◌, Option, Some, None, slice_get, option_map, refl, sym, ◌∙◌, ap, subst, arith, lt-ltb}
+use Rattle.std.proofs.Common.{◌≡◌, ℕ, zero, suc, ◌+◌, ◌-◌, ◌<◌, ◌≤◌, Bool, true, false, cond, ◌&&◌, List, [], ◌∷◌, refl, ◌∙◌, ap, subst, arith, lt-ltb}
 use Rattle.std.proofs.lemmas.Bool.{and_parts, and_from}
 use Rattle.schedules.specs.declared.order.OrderItem.{OrderItem}
 use Rattle.schedules.specs.declared.order.OrderItem.TheVariants.{Turns, Until}
-use Rattle.schedules.specs.declared.order.TurnEnd.{TurnEnd}
 use Rattle.schedules.specs.declared.order.TurnEnd.TheVariants.{Other, Blocked}
 use Rattle.schedules.specs.Schedule.{thread_of, has_turns, due, order_after, Rest, rest_due}
 use Rattle.ordinary_runs.specs.ScheduledRun.{GivesTurns, order_behind}

@@ -1,7 +1,6 @@
 -- Silent steps of one thread: each is a turn of its own, and they let the same threads go on.
-use Rattle.std.proofs.Common.{◌≡◌, ◌≢◌, ◌⊎◌, ◌↔◌, inl, inr, ℕ, zero, suc, ◌+◌, ◌-◌, ◌<◌, ◌≤◌, List, [], ◌∷◌, ◌++◌, length, All, Option, Some, None, true, refl, sym, ◌∙◌, ap, subst, arith, length-append}
+use Rattle.std.proofs.Common.{◌≡◌, ◌↔◌, inl, inr, ℕ, Option, Some, None, refl, sym, ◌∙◌, ap, subst}
 use Rattle.std.specs.Option.{option_and_then}
-use Rattle.std.proofs.lemmas.List.Elements.{All-append, All-cons, All-nil}
 use Rattle.op_core.specs.declared.Op.{Op}
 use Rattle.op_core.specs.declared.Op.TheVariants.{New, Enter, Start, Join}
 use Rattle.op_core.specs.declared.Next.{Next}
@@ -10,8 +9,8 @@ use Rattle.op_core.specs.declared.Next.TheVariants as next
 use Rattle.op_core.specs.declared.Limits.{Limits}
 use Rattle.op_core.specs.declared.Limit.{Limit}
 use Rattle.op_core.specs.declared.Limit.TheVariants.{Heap, Threads, Depth}
-use Rattle.op_core.specs.ThreadCode.{Code, quiet_to, quiet_step, quiet_steps}
-use Rattle.op_core.specs.OrdinaryState.{set_at, Thread, unused, live, ended, OrdinaryState, HasEnded}
+use Rattle.op_core.specs.ThreadCode.{Code, quiet_to, quiet_step}
+use Rattle.op_core.specs.OrdinaryState.{set_at, Thread, unused, live, HasEnded}
 use Rattle.op_core.specs.OrdinaryStep.{IsFreeNumber, CanStep}
 use Rattle.op_core.proofs.PointwiseLemmas.{same_or_other, set_at-hit, set_at-other, set_at-same, set_at-twice}
 use Rattle.ordinary_machine.specs.Machine.{Machine, HasBegun, with_thread_at}
@@ -95,9 +94,9 @@ silent_may : {S : Type 0} (code : Code S) (m : Machine S) (t : ℕ) (l : S) → 
 silent_may code m t l begun silent = record {
   begun = subst HasBegun (sym begun) tt;
   goes_on = λ limits waits.
-    let place : live l ≡ live waits.place = sym begun ∙ waits.begun in
-    let same : l ≡ waits.place = cc in
-    let clash : next.Silent ≡ Want waits.op = sym silent ∙ ap code.next same ∙ waits.wanted in absurd (cc);
+      let place : live l ≡ live waits.place = sym begun ∙ waits.begun in
+      let same : l ≡ waits.place = cc in
+      let clash : next.Silent ≡ Want waits.op = sym silent ∙ ap code.next same ∙ waits.wanted in absurd (cc);
   more = λ over. elim over [
     | inl has_ended ↦ absurd (subst HasEnded begun has_ended)
     | inr halted ↦
@@ -120,8 +119,9 @@ pub enabled_same : {S : Type 0} (code : Code S) (m : Machine S) (t : ℕ) (from 
     → (u : ℕ) → MayAdvance code m u ↔ MayAdvance code (with_thread_at m t (live l) n) u
 enabled_same code m t from l n begun may silent u = elim (same_or_other u t) [
   | inl is ↦ (
-      λ _. subst (MayAdvance code (with_thread_at m t (live l) n)) (sym is) (silent_may code (with_thread_at m t (live l) n) t l (set_at-hit m.now.threads t (live l)) silent),
-      λ _. subst (MayAdvance code m) (sym is) may)
+    λ _. subst (MayAdvance code (with_thread_at m t (live l) n)) (sym is) (silent_may code (with_thread_at m t (live l) n) t l (set_at-hit m.now.threads t (live l)) silent),
+    λ _. subst (MayAdvance code m) (sym is) may,
+  )
   | inr other ↦
       let f = m.now.threads in
       let g = set_at m.now.threads t (live l) in

@@ -1,32 +1,30 @@
 -- Turns of the machine's threads along a run: silent ones at once, and that each uses up one of those that are left.
-use Rattle.std.proofs.Common.{◌≡◌, ◌⊎◌, ◌↔◌, inl, inr, ℕ, zero, suc, ◌+◌, ◌-◌, ◌<◌, ◌≤◌, Bool, true, List, [], ◌∷◌, ◌++◌, length, All, Option, Some, None, slice_get, option_map, refl, sym, ◌∙◌, ap, subst, arith, length-append}
-use Rattle.std.specs.List.{Contains}
+use Rattle.std.proofs.Common.{◌≡◌, inl, inr, ℕ, zero, suc, ◌+◌, ◌<◌, ◌≤◌, Bool, true, List, [], ◌∷◌, ◌++◌, length, All, Option, Some, None, refl, sym, ◌∙◌, ap, subst, arith, length-append}
 use Rattle.std.proofs.lemmas.List.Elements.{All-append, All-cons, All-nil}
 use Rattle.std.proofs.lemmas.Option.{slice_get_within, get_or_from_slice_get}
 use Rattle.op_core.specs.declared.Limits.{Limits}
-use Rattle.op_core.specs.declared.Limit.{Limit}
 use Rattle.op_core.specs.declared.Limit.TheVariants as limit
 use Rattle.op_core.specs.ThreadCode.{Code, quiet_step, quiet_steps}
 use Rattle.op_core.specs.OrdinaryState.{set_at, live}
 use Rattle.op_core.proofs.PointwiseLemmas.{set_at-hit, set_at-same, set_at-twice}
 use Rattle.schedules.specs.declared.order.OrderItem.{OrderItem}
 use Rattle.schedules.specs.declared.order.TurnEnd.{TurnEnd}
-use Rattle.schedules.specs.declared.order.TurnEnd.TheVariants.{Other, Blocked, Spent}
-use Rattle.schedules.specs.Schedule.{thread_of, drawn, place_of, due, order_after, number_after, Rest, rest_due, rest_after}
-use Rattle.schedules.specs.Run.{TurnSystem, AreThose, IsPicked, Run, due_of, GetsTurn, IsNext, IsTurn, Follows}
+use Rattle.schedules.specs.declared.order.TurnEnd.TheVariants.{Other, Blocked}
+use Rattle.schedules.specs.Schedule.{thread_of, drawn, place_of, due, order_after, number_after, Rest, rest_after}
+use Rattle.schedules.specs.Run.{IsPicked, Run, due_of, GetsTurn, IsNext, IsTurn, Follows}
 use Rattle.schedules.proofs.RunLemmas.{go_on}
 use Rattle.ordinary_machine.specs.declared.advance.Advance.{Advance}
 use Rattle.ordinary_machine.specs.declared.advance.Advance.TheVariants as advance
-use Rattle.ordinary_machine.specs.Machine.{Machine, with_thread_at, RunsTo}
+use Rattle.ordinary_machine.specs.Machine.{with_thread_at}
 use Rattle.ordinary_machine.specs.Advance.{Advances, MayAdvance}
 use Rattle.ordinary_runs.specs.Turns.{Progress, is_live, end_of, counted_after, IsSilentFor, machine_turns}
 use Rattle.ordinary_runs.specs.ScheduledRun.{GivesTurns, order_behind, GoesOn}
 use Rattle.ordinary_runs.proofs.CountLemmas.{counted_left, left_less}
-use Rattle.ordinary_runs.proofs.OrderLemmas.{IsDue, due_first, due_stays, order_turns, due_no_more, other_no_more, blocked_less, item_behind, all_behind, behind_turns, behind_thread}
+use Rattle.ordinary_runs.proofs.OrderLemmas.{due_first, due_stays, order_turns, due_no_more, other_no_more, blocked_less, item_behind, all_behind, behind_turns, behind_thread}
 use Rattle.ordinary_runs.proofs.SilentLemmas.{enabled_same, step_silent, put_twice, put_back, and_then_some}
 
 -- thread t stands at l, k silent steps later
-abbrev later : {S : Type 0} → Progress S → ℕ → S → ℕ → Progress S
+abbrev pub later : {S : Type 0} → Progress S → ℕ → S → ℕ → Progress S
 later r t l k = record { machine = with_thread_at r.machine t (live l) (r.machine.silents t + k); counted = set_at r.counted t (r.counted t + k) }
 
 not_later : {S : Type 0} (r : Progress S) (t : ℕ) (from : S) → r.machine.now.threads t ≡ live from → later r t from 0 ≡ r
@@ -59,7 +57,7 @@ silent_turn code limits r t l behind k quiet left =
     })
 
 -- so many turns of one thread
-abbrev turns_of : ℕ → ℕ → List ℕ
+abbrev pub turns_of : ℕ → ℕ → List ℕ
 turns_of t zero = []
 turns_of t (suc n) = turns_of t n ++ t ∷ []
 
@@ -72,11 +70,11 @@ turns_of-all t zero below = All-nil (λ u. u < 256)
 turns_of-all t (suc n) below = All-append (λ u. u < 256) (turns_of t n) (t ∷ []) (turns_of-all t n below) (All-cons (λ u. u < 256) t [] below (All-nil (λ u. u < 256)))
 
 -- the run where thread t stands at l, k silent steps later
-abbrev run_later : {S : Type 0} → Progress S → (ℕ → Rest) → ℕ → S → ℕ → Run (Progress S)
+abbrev pub run_later : {S : Type 0} → Progress S → (ℕ → Rest) → ℕ → S → ℕ → Run (Progress S)
 run_later r rests t l k = record { state = later r t l k; rest = rests k }
 
 -- behind each of its first n silent steps the thread gets the next turn, and what is left then is as told
-record KeepsTurn {S : Type 0} (code : Code S) (limits : Limits) (r : Progress S) (rests : ℕ → Rest) (t : ℕ) (from : S) (n : ℕ) : Type 0 where
+pub record KeepsTurn {S : Type 0} (code : Code S) (limits : Limits) (r : Progress S) (rests : ℕ → Rest) (t : ℕ) (from : S) (n : ℕ) : Type 0 where
   gets : (k : ℕ) (l behind : S) → k < n → quiet_step code l ≡ Some behind → IsNext (machine_turns code limits) (run_later r rests t l k) t
   leaves : (k : ℕ) (l : S) → k < n → rests (suc k) ≡ rest_after (due_of (machine_turns code limits) (run_later r rests t l k)) Other
   left : r.counted t + n ≤ limits.turns
@@ -100,7 +98,7 @@ silent_turns {S} code limits r rests t from n keeps (suc k) l within quiet =
     (silent_turns code limits r rests t from n keeps k middle (omega (arith, within)) before) (Other, run_later r rests t l (suc k), turn, refl)
 
 -- so a silent run of a thread that keeps its turn goes on
-goes_silently : {S : Type 0} (code : Code S) (limits : Limits) (r new : Progress S) (rests : ℕ → Rest) (t n : ℕ) (ran : IsSilentFor code limits r t (suc n) new) → t < 256
+pub goes_silently : {S : Type 0} (code : Code S) (limits : Limits) (r new : Progress S) (rests : ℕ → Rest) (t n : ℕ) (ran : IsSilentFor code limits r t (suc n) new) → t < 256
     → KeepsTurn code limits r rests t ran.runs.from (suc n) → GoesOn code limits (record { state = r; rest = rests 0 }) (record { state = new; rest = rests (suc n) })
 goes_silently {S} code limits r new rests t n ran below keeps =
     let from = ran.runs.from in
@@ -119,7 +117,7 @@ goes_silently {S} code limits r new rests t n ran below keeps =
     }
 
 -- The thread of a due item keeps its turn while the item has turns to give.
-ordered_keeps : {S : Type 0} (code : Code S) (limits : Limits) (r : Progress S) (rest : Rest) (t : ℕ) (from : S) (n : ℕ) (item : OrderItem) (others : List OrderItem)
+pub ordered_keeps : {S : Type 0} (code : Code S) (limits : Limits) (r : Progress S) (rest : Rest) (t : ℕ) (from : S) (n : ℕ) (item : OrderItem) (others : List OrderItem)
     → rest.order ≡ item ∷ others → t ≡ thread_of item → GivesTurns n item → r.counted t + n ≤ limits.turns
     → KeepsTurn code limits r (λ k. record rest { order = order_behind k rest.order }) t from n
 ordered_keeps {S} code limits r rest t from n item others is mine gives left =
@@ -130,33 +128,33 @@ ordered_keeps {S} code limits r rest t from n item others is mine gives left =
     let dues : (k : ℕ) (l : S) → k < n → (due_of (machine_turns code limits) (run_later r rests t l k)).order ≡ item_behind k item ∷ others = λ k l below.
     ap (due (λ u. is_live ((later r t l k).machine.now.threads u))) (shown k)
     ∙ due_stays (λ u. is_live ((later r t l k).machine.now.threads u)) (item_behind k item) others
-      (record { turns = behind_turns n k item gives below; lives = subst (λ u. is_live ((later r t l k).machine.now.threads u) ≡ true) (owner k) (lives k l) }) in
+    (record { turns = behind_turns n k item gives below; lives = subst (λ u. is_live ((later r t l k).machine.now.threads u) ≡ true) (owner k) (lives k l) }) in
     record {
       gets = λ k l behind below step. subst (λ order. GetsTurn (machine_turns code limits) (later r t l k) order rest.number t) (sym (dues k l below)) (owner k);
       leaves = λ k l below.
-        let same : order_behind k rest.order ≡ due (λ u. is_live ((later r t l k).machine.now.threads u)) (order_behind k rest.order) = shown k ∙ sym (dues k l below) in
-        let kept : (order : List OrderItem) → order ≡ item_behind k item ∷ others → rest.number ≡ number_after order rest.number = λ order eq. sym (ap (λ x. number_after x rest.number) eq) in
-        let order = ap (λ x. order_after x Other) same in
-        let number = kept (due_of (machine_turns code limits) (run_later r rests t l k)).order (dues k l below) in
-        λ i. record { order = order i; number = number i };
+          let same : order_behind k rest.order ≡ due (λ u. is_live ((later r t l k).machine.now.threads u)) (order_behind k rest.order) = shown k ∙ sym (dues k l below) in
+          let kept : (order : List OrderItem) → order ≡ item_behind k item ∷ others → rest.number ≡ number_after order rest.number = λ order eq. sym (ap (λ x. number_after x rest.number) eq) in
+          let order = ap (λ x. order_after x Other) same in
+          let number = kept (due_of (machine_turns code limits) (run_later r rests t l k)).order (dues k l below) in
+          λ i. record { order = order i; number = number i };
       left = left;
     }
 
 -- The lowest enabled thread keeps its turn while it is silent.
-lowest_keeps : {S : Type 0} (code : Code S) (limits : Limits) (r : Progress S) (t : ℕ) (from : S) (n : ℕ) (picked : IsPicked (MayAdvance code r.machine) None t)
+pub lowest_keeps : {S : Type 0} (code : Code S) (limits : Limits) (r : Progress S) (t : ℕ) (from : S) (n : ℕ) (picked : IsPicked (MayAdvance code r.machine) None t)
     → r.machine.now.threads t ≡ live from → MayAdvance code r.machine t → r.counted t + n ≤ limits.turns
     → KeepsTurn code limits r (λ k. record { order = []; number = None }) t from n
 lowest_keeps {S} code limits r t from n picked begun may left = record {
   gets = λ k l behind below step.
-    let same = enabled_same code r.machine t from l (r.machine.silents t + k) begun may (step_silent code l behind step) in
-    record {
-      threads = picked.threads;
-      those = record {
-        rising = picked.those.rising;
-        each = λ u. (λ there. (same u).0 ((picked.those.each u).0 there), λ does. (picked.those.each u).1 ((same u).1 does));
+      let same = enabled_same code r.machine t from l (r.machine.silents t + k) begun may (step_silent code l behind step) in
+      record {
+        threads = picked.threads;
+        those = record {
+          rising = picked.those.rising;
+          each = λ u. (λ there. (same u).0 ((picked.those.each u).0 there), λ does. (picked.those.each u).1 ((same u).1 does));
+        };
+        at_place = picked.at_place;
       };
-      at_place = picked.at_place;
-    };
   leaves = λ k l below. refl;
   left = left;
 }

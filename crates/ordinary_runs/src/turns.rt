@@ -1,4 +1,4 @@
-ghost use Rattle.std.specs.Prelude.{◌≡◌, ◌-◌, ◌<◌, ◌≤◌, ℕ, true, false, [], IfOk, OnOk, Some, None};
+ghost use Rattle.std.specs.Prelude.{◌≡◌, ◌+◌, ◌<◌, ◌≤◌, ◌^◌, ℕ, true, false, [], ◌∷◌, ◌++◌, IfOk, OnOk, Some, None};
 ghost use Rattle.op_core.specs.OrdinaryState.{ended};
 ghost use Rattle.ordinary_machine.specs.Machine.{machine_of};
 ghost use Rattle.ordinary_machine.specs.Advance.{MayAdvance};
@@ -29,6 +29,15 @@ impl<C: ThreadCode + Drop> LiveThreads for CountedMachine<C> {
     }
 }
 
+fn add(threads: &mut Vec<u8>, thread: u8) -> Result<(), NoMemory>
+    ensures { OnOk result (threads.new.items ≡ threads.old.items ++ thread ∷ []) }
+{
+    match threads.push(thread) {
+        Ok(()) => Ok(()),
+        Err(_) => Err(NoMemory),
+    }
+}
+
 // What a turn comes to for a schedule.
 fn end_of(answer: Advance) -> TurnEnd
     ensures { result ≡ end_of answer }
@@ -53,15 +62,9 @@ impl<C: ThreadCode + Drop> CountedMachine<C> {
         }
     }
 
-    fn turns_left(&self, thread: u8) -> u64
-        ensures { result ≡ self.now.limits.turns - count_in self.now.counts thread }
-    {
-        self.limits.turns.saturating_sub(self.counts.of(thread))
-    }
-
     // Counts the turn that was answered this.
     fn count(&mut self, thread: u8, answer: Advance)
-        requires { count_in self.old.counts thread < self.old.limits.turns }
+        requires { count_in self.old.counts thread + 1 < 2 ^ 64 }
         ensures machine { self.new.machine ≡ self.old.machine }
         ensures limits { self.new.limits ≡ self.old.limits }
         ensures counts { count_in self.new.counts ≡ counted_after thread answer (count_in self.old.counts) }
@@ -78,7 +81,8 @@ impl<C: ThreadCode + Drop> CountedMachine<C> {
         ensures limits { self.new.limits ≡ self.old.limits }
         ensures gives { IfOk result (λ end. (machine_turns C.code self.old.limits).gives (progress_of C.state self.old) thread end (progress_of C.state self.new)) }
     {
-        if self.turns_left(thread) == 0 {
+        let most = self.limits.turns;
+        if self.counts.of(thread) >= most {
             return Ok(TurnEnd::Spent(Limit::Turns));
         }
         let answer = self.machine.advance(thread, &self.limits)?;
@@ -92,8 +96,9 @@ impl<C: ThreadCode + Drop> CountedMachine<C> {
         ensures most { result ≤ most }
         ensures silent { IsSilentFor C.code self.old.limits (progress_of C.state self.old) thread result (progress_of C.state self.new) }
     {
-        let most = most.min(self.turns_left(thread));
-        let made = self.machine.run_silent(thread, most);
+        let turns = self.limits.turns;
+        let left = turns.saturating_sub(self.counts.of(thread));
+        let made = self.machine.run_silent(thread, most.min(left));
         self.counts.add(thread, made);
         made
     }
@@ -105,8 +110,8 @@ impl<C: ThreadCode + Drop> CountedMachine<C> {
         threads.clear();
         for number in 0..self.machine.highest() as u16 + 1 {
             let thread = number as u8;
-            if self.machine.is_enabled(thread) && threads.push(thread).is_err() {
-                return Err(NoMemory);
+            if self.machine.is_enabled(thread) {
+                add(threads, thread)?;
             }
         }
         Ok(())

@@ -1,4 +1,3 @@
-use Rattle.ordinary_runs.proofs.TurnLemmas.{goes_less}
 use Rattle.ordinary_runs.proofs.LawLemmas.{one_outcome}
 use Rattle.ordinary_runs.proofs.laws.runs_have_one_outcome.Goals as goal
 
