@@ -24,33 +24,36 @@ use Rattle.ordinary_machine.specs.declared.advance.Advance.{Advance}
 use Rattle.ordinary_machine.specs.declared.advance.Advance.TheVariants as advance
 use Rattle.ordinary_machine.specs.Machine.{Machine, HasBegun}
 use Rattle.ordinary_machine.specs.Advance.{Advances, MayAdvance}
-use Rattle.ordinary_runs.specs.Turns.{Progress, is_live, end_of, counted_after, IsSilentFor, machine_turns}
+use Rattle.ordinary_runs.specs.Turns.{Progress, is_live, end_of, counted_after, events_after, IsSilentFor, machine_turns}
 use Rattle.ordinary_runs.specs.ScheduledRun.{begun_with, AreEnds, IsOutcome, GivesTurns, order_behind, GoesOn, GoesOnOrEnds}
 use Rattle.ordinary_runs.proofs.OrderLemmas.{due_first, due_twice}
-use Rattle.ordinary_runs.proofs.TurnLemmas.{ordered_keeps, lowest_keeps, goes_silently, picked_enabled}
+use Rattle.ordinary_runs.proofs.TurnLemmas.{ordered_keeps, lowest_keeps, goes_silently, picked_enabled, none_more}
 
 -- no silent steps leave all as it was
 pub silent_none : {S : Type 0} (code : Code S) (limits : Limits) (r new : Progress S) (t n : ℕ) → n ≤ 0 → IsSilentFor code limits r t n new → new ≡ r
 silent_none code limits r new t zero none ran =
     let machine = ran.runs in
     let counted = ran.counts ∙ set_at-same r.counted t (r.counted t + 0) (omega arith) in
-    λ i. record { machine = machine i; counted = counted i }
+    let kept = ran.kept in
+    λ i. record { machine = machine i; counted = counted i; events = kept i }
 silent_none code limits r new t (suc n) none ran = absurd (omega (arith, none))
 
 -- a spent turn leaves all as it was
 spent_advance : {S : Type 0} (code : Code S) (limits : Limits) (r new : Progress S) (t : ℕ) (limit : Limit) (answer : Advance) → Advances code r.machine t limits answer new.machine → Spent limit ≡ end_of answer
-    → new.counted ≡ counted_after t answer r.counted → new ≡ r
-spent_advance code limits r new t limit advance.Silent advances comes counts = absurd (cc)
-spent_advance code limits r new t limit (advance.Step e) advances comes counts = absurd (cc)
-spent_advance code limits r new t limit advance.Waits advances comes counts = absurd (cc)
-spent_advance code limits r new t limit advance.Halts advances comes counts = absurd (cc)
-spent_advance code limits r new t limit advance.Ended advances comes counts = absurd (cc)
-spent_advance code limits r new t limit (advance.Spent met) advances comes counts =
-    let machine = advances.1 in λ i. record { machine = machine i; counted = counts i }
+    → new.counted ≡ counted_after t answer r.counted → new.events ≡ events_after answer r.events → new ≡ r
+spent_advance code limits r new t limit advance.Silent advances comes counts kept = absurd (cc)
+spent_advance code limits r new t limit (advance.Step e) advances comes counts kept = absurd (cc)
+spent_advance code limits r new t limit advance.Waits advances comes counts kept = absurd (cc)
+spent_advance code limits r new t limit advance.Halts advances comes counts kept = absurd (cc)
+spent_advance code limits r new t limit advance.Ended advances comes counts kept = absurd (cc)
+spent_advance code limits r new t limit (advance.Spent met) advances comes counts kept =
+    let machine = advances.1 in
+    let events = kept ∙ none_more r.events in
+    λ i. record { machine = machine i; counted = counts i; events = events i }
 
 spent_same : {S : Type 0} (code : Code S) (limits : Limits) (r new : Progress S) (t : ℕ) (limit : Limit) → (machine_turns code limits).gives r t (Spent limit) new → new ≡ r
 spent_same code limits r new t limit (inl out) = out.same
-spent_same code limits r new t limit (inr made) = spent_advance code limits r new t limit made.answer made.advances made.comes made.counts
+spent_same code limits r new t limit (inr made) = spent_advance code limits r new t limit made.answer made.advances made.comes made.counts made.kept
 
 -- The next turn is thread t's, and it is spent: the run ends.
 spent_ends : {S : Type 0} (code : Code S) (limits : Limits) (r middle new : Progress S) (rest left : Rest) (t n : ℕ) (limit : Limit) (end : TurnEnd) → n ≤ 0 → IsSilentFor code limits r t n middle
@@ -280,12 +283,12 @@ begun_within threads highest t above begun = elim (cases_lt t (highest + 1)) [
 ]
 
 -- what a run that has ended comes to
-pub outcome_of : {S : Type 0} (code : Code S) (m : Machine S) (schedule : Schedule) (limits : Limits) (run next : Run (Progress S)) (end : How) (result : Result Outcome NoMemory)
-    → ((ts : List ℕ) × Follows (machine_turns code limits) (begun_with m schedule) ts run) → EndsBy (machine_turns code limits) run end → next.state ≡ run.state
+pub outcome_of : {S : Type 0} (code : Code S) (m : Machine S) (schedule : Schedule) (limits : Limits) (keeps : Bool) (run next : Run (Progress S)) (end : How) (result : Result Outcome NoMemory)
+    → ((ts : List ℕ) × Follows (machine_turns code limits) (begun_with m schedule keeps) ts run) → EndsBy (machine_turns code limits) run end → next.state ≡ run.state
     → IfOk result (λ o. o.how ≡ end) → IfOk result (λ o. o.lines ≡ next.state.machine.now.lines) → IfOk result (λ o. AreEnds next.state.machine.now o.ends)
-    → IfOk result (λ o. o.opened ≡ 0) → IfOk result (λ o. o.undone ≡ 0) → IfOk result (λ o. o.events ≡ None) → IfOk result (IsOutcome code m schedule limits)
-outcome_of code m schedule limits run next end (Err e) (ts, follows) ends same how lines all opened undone events = tt
-outcome_of {S} code m schedule limits run next end (Ok o) (ts, follows) ends same how lines all opened undone events = record {
+    → IfOk result (λ o. o.opened ≡ 0) → IfOk result (λ o. o.undone ≡ 0) → IfOk result (λ o. o.events ≡ next.state.events) → IfOk result (IsOutcome code m schedule limits keeps)
+outcome_of code m schedule limits keeps run next end (Err e) (ts, follows) ends same how lines all opened undone events = tt
+outcome_of {S} code m schedule limits keeps run next end (Ok o) (ts, follows) ends same how lines all opened undone events = record {
   threads = ts;
   last = run;
   goes = (follows, subst (EndsBy (machine_turns code limits) run) (sym how) ends);
@@ -293,7 +296,7 @@ outcome_of {S} code m schedule limits run next end (Ok o) (ts, follows) ends sam
   ends = subst (λ (r : Progress S). AreEnds r.machine.now o.ends) same all;
   opened = opened;
   undone = undone;
-  events = events;
+  events = events ∙ ap (λ (r : Progress S). r.events) same;
 }
 
 -- some turns behind others

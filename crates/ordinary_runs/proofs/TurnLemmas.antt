@@ -1,5 +1,6 @@
 -- Turns of the machine's threads along a run: silent ones at once, and that each uses up one of those that are left.
-use Rattle.std.proofs.Common.{◌≡◌, inl, inr, ℕ, zero, suc, ◌+◌, ◌<◌, ◌≤◌, Bool, true, List, [], ◌∷◌, ◌++◌, length, All, Option, Some, None, refl, sym, ◌∙◌, ap, subst, arith, length-append}
+use Rattle.std.proofs.Common.{◌≡◌, inl, inr, ℕ, zero, suc, ◌+◌, ◌<◌, ◌≤◌, Bool, true, List, [], ◌∷◌, ◌++◌, length, All, Option, Some, None, refl, sym, ◌∙◌, ap, subst, arith, length-append, append-nil, option_map}
+use Rattle.op_core.specs.declared.Event.{Event}
 use Rattle.std.proofs.lemmas.List.Elements.{All-append, All-cons, All-nil}
 use Rattle.std.proofs.lemmas.Option.{slice_get_within, get_or_from_slice_get}
 use Rattle.op_core.specs.declared.Limits.{Limits}
@@ -25,13 +26,18 @@ use Rattle.ordinary_runs.proofs.SilentLemmas.{enabled_same, step_silent, put_twi
 
 -- thread t stands at l, k silent steps later
 abbrev pub later : {S : Type 0} → Progress S → ℕ → S → ℕ → Progress S
-later r t l k = record { machine = with_thread_at r.machine t (live l) (r.machine.silents t + k); counted = set_at r.counted t (r.counted t + k) }
+later r t l k = record { machine = with_thread_at r.machine t (live l) (r.machine.silents t + k); counted = set_at r.counted t (r.counted t + k); events = r.events }
 
 not_later : {S : Type 0} (r : Progress S) (t : ℕ) (from : S) → r.machine.now.threads t ≡ live from → later r t from 0 ≡ r
 not_later r t from begun =
     let machine = put_back r.machine t (live from) (r.machine.silents t + 0) begun (omega arith) in
     let counted = set_at-same r.counted t (r.counted t + 0) (omega arith) in
-    λ i. record { machine = machine i; counted = counted i }
+    λ i. record { machine = machine i; counted = counted i; events = r.events }
+
+-- no event more
+pub none_more : (events : Option (List Event)) → option_map (λ es. es ++ []) events ≡ events
+none_more None = refl
+none_more (Some es) = ap Some (append-nil es)
 
 -- one silent step more is a turn
 silent_turn : {S : Type 0} (code : Code S) (limits : Limits) (r : Progress S) (t : ℕ) (l behind : S) (k : ℕ) → quiet_step code l ≡ Some behind → r.counted t + k < limits.turns
@@ -54,6 +60,7 @@ silent_turn code limits r t l behind k quiet left =
       };
       comes = refl;
       counts = sym (set_at-twice r.counted t (r.counted t + k) (m.counted t + 1) ∙ ap (set_at r.counted t) counts);
+      kept = sym (none_more r.events);
     })
 
 -- so many turns of one thread
@@ -106,7 +113,8 @@ goes_silently {S} code limits r new rests t n ran below keeps =
     let first : later r t from 0 ≡ r = not_later r t from ran.runs.begun in
     let machine = ran.runs.leads in
     let counts = ran.counts in
-    let last : new ≡ later r t behind (suc n) = λ i. record { machine = machine i; counted = counts i } in
+    let kept = ran.kept in
+    let last : new ≡ later r t behind (suc n) = λ i. record { machine = machine i; counted = counts i; events = kept i } in
     let follows = silent_turns code limits r rests t from (suc n) keeps (suc n) behind (omega arith) ran.runs.quiet in
     record {
       threads = turns_of t (suc n);

@@ -1,5 +1,5 @@
 -- What is proved of all scheduled runs, for all thread codes.
-use Rattle.std.specs.Prelude.{◌≡◌, ℕ, List, ◌++◌}
+use Rattle.std.specs.Prelude.{◌≡◌, ℕ, Bool, IfSome, List, ◌++◌}
 use Rattle.op_core.specs.declared.Event.{Event}
 use Rattle.op_core.specs.declared.Limits.{Limits}
 use Rattle.op_core.specs.declared.How.TheVariants.{Stuck}
@@ -14,25 +14,26 @@ use Rattle.ordinary_runs.specs.ScheduledRun.{AreEnds, IsOutcome}
 
 -- a machine that follows a schedule under limits has one outcome
 abbrev pub RunsHaveOneOutcome : {S : Type 0} → Code S → Type 0
-RunsHaveOneOutcome {S} code = (m : Machine S) (schedule : Schedule) (limits : Limits) (outcome other : Outcome)
-    → IsOutcome code m schedule limits outcome → IsOutcome code m schedule limits other → other ≡ outcome
+RunsHaveOneOutcome {S} code = (m : Machine S) (schedule : Schedule) (limits : Limits) (keeps : Bool) (outcome other : Outcome)
+    → IsOutcome code m schedule limits keeps outcome → IsOutcome code m schedule limits keeps other → other ≡ outcome
 
--- Some events are an execution from the machine's state. The machine's lines and those that they print are the
--- outcome's, and the threads have ended in their last state as the outcome says.
+-- Some events, those that were kept if any were, are an execution from the machine's state. The machine's lines and
+-- those that they print are the outcome's, and the threads have ended in their last state as the outcome says.
 pub record IsExecuted {S : Type 0} (code : Code S) (m : Machine S) (outcome : Outcome) : Type 0 where
   pub events : List Event
   pub last : OrdinaryState S
+  pub kept : IfSome outcome.events (λ es. es ≡ events)
   pub leads : Leads code m.now events last
   pub lines : outcome.lines ≡ m.now.lines ++ printed events
   pub ends : AreEnds last outcome.ends
 
 abbrev pub RunsAreExecutions : {S : Type 0} → Code S → Type 0
-RunsAreExecutions {S} code = (m : Machine S) (schedule : Schedule) (limits : Limits) (outcome : Outcome)
-    → m.silents ≡ (λ _. 0) → IsOutcome code m schedule limits outcome → IsExecuted code m outcome
+RunsAreExecutions {S} code = (m : Machine S) (schedule : Schedule) (limits : Limits) (keeps : Bool) (outcome : Outcome)
+    → m.silents ≡ (λ _. 0) → IsOutcome code m schedule limits keeps outcome → IsExecuted code m outcome
 
 -- Where a run is stuck and no thread is at its code's end without having ended, some events are an execution that ends
 -- stuck, and print the outcome's lines.
 abbrev pub StuckRunsAreStuck : {S : Type 0} → Code S → Type 0
-StuckRunsAreStuck {S} code = (m : Machine S) (schedule : Schedule) (limits : Limits) (outcome : Outcome) (ran : IsOutcome code m schedule limits outcome)
+StuckRunsAreStuck {S} code = (m : Machine S) (schedule : Schedule) (limits : Limits) (keeps : Bool) (outcome : Outcome) (ran : IsOutcome code m schedule limits keeps outcome)
     → m.silents ≡ (λ _. 0) → outcome.how ≡ Stuck → ((t : ℕ) → HasHalted code ran.last.state.machine t → ⊥)
     → (events : List Event) × EndsStuck code m.now events × (outcome.lines ≡ m.now.lines ++ printed events)

@@ -1,5 +1,5 @@
 -- A run of the ordinary machine that follows a schedule, and its outcome.
-use Rattle.std.specs.Prelude.{◌≡◌, ℕ, zero, suc, ◌<◌, ◌≤◌, None, Some, Option, List, map, length, All}
+use Rattle.std.specs.Prelude.{◌≡◌, ℕ, zero, suc, ◌<◌, ◌≤◌, Bool, None, Some, Option, List, [], map, length, All, if◌then◌else◌}
 use Rattle.op_core.specs.declared.Limits.{Limits}
 use Rattle.op_core.specs.declared.How.{How}
 use Rattle.op_core.specs.declared.ThreadEnd.{ThreadEnd}
@@ -16,10 +16,10 @@ use Rattle.ordinary_machine.specs.Machine.{Machine}
 use Rattle.ordinary_runs.specs.declared.run.ScheduledRun.{ScheduledRun}
 use Rattle.ordinary_runs.specs.Turns.{Progress, machine_turns, progress_of}
 
--- at the beginning of a schedule no turn has counted
-abbrev pub begun_with : {S : Type 0} → Machine S → Schedule → Run (Progress S)
-begun_with m schedule = record {
-  state = record { machine = m; counted = λ _. 0 };
+-- at the beginning of a schedule no turn has counted, and no step was made; `keeps` tells whether steps are kept
+abbrev pub begun_with : {S : Type 0} → Machine S → Schedule → Bool → Run (Progress S)
+begun_with m schedule keeps = record {
+  state = record { machine = m; counted = λ _. 0; events = if keeps then Some [] else None };
   rest = record { order = schedule.order; number = schedule.seed };
 }
 
@@ -29,16 +29,16 @@ pub record AreEnds {S : Type 0} (s : OrdinaryState S) (ends : List ThreadEnd) : 
   pub classes : All (λ end. s.threads end.thread ≡ ended end.class) ends
 
 -- What comes of a machine that follows a schedule under limits: the turns of some threads lead to the run's last state,
--- where it ends as the outcome says. No section is opened on this machine, and no events are kept.
-pub record IsOutcome {S : Type 0} (code : Code S) (m : Machine S) (schedule : Schedule) (limits : Limits) (outcome : Outcome) : Type 0 where
+-- where it ends as the outcome says. No section is opened on this machine.
+pub record IsOutcome {S : Type 0} (code : Code S) (m : Machine S) (schedule : Schedule) (limits : Limits) (keeps : Bool) (outcome : Outcome) : Type 0 where
   pub threads : List ℕ
   pub last : Run (Progress S)
-  pub goes : Goes (machine_turns code limits) (begun_with m schedule) threads outcome.how last
+  pub goes : Goes (machine_turns code limits) (begun_with m schedule keeps) threads outcome.how last
   pub lines : outcome.lines ≡ last.state.machine.now.lines
   pub ends : AreEnds last.state.machine.now outcome.ends
   pub opened : outcome.opened ≡ 0
   pub undone : outcome.undone ≡ 0
-  pub events : outcome.events ≡ None
+  pub events : outcome.events ≡ last.state.events
 
 -- where a run stands
 abbrev pub run_of : {C S : Type 0} → (C → S) → ScheduledRun C → Run (Progress S)

@@ -1,5 +1,7 @@
 -- What gives turns here: the ordinary machine. A turn of a thread is one call of `advance`.
-use Rattle.std.specs.Prelude.{◌≡◌, ℕ, ◌+◌, ◌-◌, ◌<◌, ◌≤◌, ◌⊎◌, Bool, true, false, None, slice_index}
+use Rattle.std.specs.Prelude.{◌≡◌, ℕ, ◌+◌, ◌-◌, ◌<◌, ◌≤◌, ◌⊎◌, Bool, true, false, Option, None, List, ◌++◌, slice_index}
+use Rattle.std.specs.Option.{option_map}
+use Rattle.op_core.specs.declared.Event.{Event}
 use Rattle.op_core.specs.declared.Limits.{Limits}
 use Rattle.op_core.specs.declared.Limit.TheVariants.{Turns}
 use Rattle.op_core.specs.ThreadCode.{Code}
@@ -12,13 +14,17 @@ use Rattle.ordinary_machine.specs.declared.advance.Advance.TheVariants.{Silent, 
 use Rattle.ordinary_machine.specs.declared.advance.Advance.TheVariants as advance
 use Rattle.ordinary_machine.specs.Machine.{Machine, machine_of, RunsSilently}
 use Rattle.ordinary_machine.specs.Advance.{Advances, MayAdvance}
+use Rattle.ordinary_machine.specs.Laws.{event_of}
 use Rattle.ordinary_runs.specs.declared.counts.TurnCounts.{TurnCounts}
 use Rattle.ordinary_runs.specs.declared.turns.CountedMachine.{CountedMachine}
 
--- how far a run has come: the machine, and by thread number how many turns counted
+-- how far a run has come
 pub record Progress (S : Type 0) : Type 0 where
   pub machine : Machine S
+  -- by thread number: how many of its turns counted
   pub counted : ℕ → ℕ
+  -- the steps so far, where they are kept
+  pub events : Option (List Event)
 
 -- the thread has begun and hasn't ended
 abbrev pub is_live : {S : Type 0} → Thread S → Bool
@@ -44,6 +50,10 @@ counted_after t Halts counted = counted
 counted_after t Ended counted = counted
 counted_after t (advance.Spent limit) counted = counted
 
+-- the steps behind a turn that was answered this
+abbrev pub events_after : Advance → Option (List Event) → Option (List Event)
+events_after answer events = option_map (λ es. es ++ event_of answer) events
+
 -- thread t has made its number of counted turns, so a turn is spent before all else
 pub record IsOutOfTurns {S : Type 0} (limits : Limits) (r : Progress S) (t : ℕ) (end : TurnEnd) (new : Progress S) : Type 0 where
   pub many : limits.turns ≤ r.counted t
@@ -57,6 +67,7 @@ pub record MakesTurn {S : Type 0} (code : Code S) (limits : Limits) (r : Progres
   pub advances : Advances code r.machine t limits answer new.machine
   pub comes : end ≡ end_of answer
   pub counts : new.counted ≡ counted_after t answer r.counted
+  pub kept : new.events ≡ events_after answer r.events
 
 -- The turns of the machine's threads under these limits. A thread that will meet a limit is enabled, and no turn that
 -- is made meets one.
@@ -74,10 +85,11 @@ pub record IsSilentFor {S : Type 0} (code : Code S) (limits : Limits) (r : Progr
   pub left : n ≤ limits.turns - r.counted t
   pub runs : RunsSilently code r.machine t n new.machine
   pub counts : new.counted ≡ set_at r.counted t (r.counted t + n)
+  pub kept : new.events ≡ r.events
 
 -- the count that the table has of a thread
 abbrev pub count_in : TurnCounts → ℕ → ℕ
 count_in counts t = slice_index counts.counts t
 
 abbrev pub progress_of : {C S : Type 0} → (C → S) → CountedMachine C → Progress S
-progress_of state m = record { machine = machine_of state m.machine; counted = count_in m.counts }
+progress_of state m = record { machine = machine_of state m.machine; counted = count_in m.counts; events = m.events }

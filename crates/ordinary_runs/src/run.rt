@@ -1,4 +1,4 @@
-ghost use Rattle.std.specs.Prelude.{◌≡◌, IfOk, IfSome, Some, [], slice_get};
+ghost use Rattle.std.specs.Prelude.{◌≡◌, IfOk, IfSome, Some, None, [], slice_get, if◌then◌else◌};
 ghost use Rattle.std.specs.Option.{option_map};
 ghost use Rattle.schedules.specs.Schedule.{thread_of};
 ghost use Rattle.schedules.specs.Run.{due_of};
@@ -7,7 +7,7 @@ ghost use Rattle.ordinary_runs.specs.Turns.{machine_turns};
 ghost use Rattle.ordinary_runs.specs.ScheduledRun.{begun_with, IsOutcome, run_of, GivesTurns, order_behind, GoesOnOrEnds};
 
 use crate::turns::CountedMachine;
-use op_core::{How, Limits, NoMemory, Outcome, ThreadCode};
+use op_core::{Event, How, Limits, NoMemory, Outcome, Rows, ThreadCode};
 use ordinary_machine::Ordinary;
 use schedules::{OrderItem, Remaining, Schedule, TurnEnd, pick};
 use std::alloc::Global;
@@ -19,6 +19,13 @@ pub(crate) struct ScheduledRun<'a, C> {
     rest: Remaining<'a>,
     // room to list the enabled threads
     enabled: Vec<u8>,
+}
+
+// No events yet, if they are to be kept.
+fn no_events(alloc: Global, keeps: bool) -> Option<Rows<Event>>
+    ensures { result ≡ (if keeps then Some [] else None) }
+{
+    if keeps { Some(Rows::new(alloc)) } else { None }
 }
 
 // How many turns an item gives at most.
@@ -52,12 +59,18 @@ fn end_turns(rest: &mut Remaining<'_>, turns: u64)
 }
 
 impl<'a, C: ThreadCode + Drop> ScheduledRun<'a, C> {
-    fn new(alloc: Global, machine: Ordinary<C>, schedule: &'a Schedule, limits: &Limits) -> Self
+    fn new(
+        alloc: Global,
+        machine: Ordinary<C>,
+        schedule: &'a Schedule,
+        limits: &Limits,
+        events: bool,
+    ) -> Self
         ensures limits { result.turns.limits ≡ limits.now }
-        ensures run { run_of C.state result ≡ begun_with (machine_of C.state machine) schedule.now }
+        ensures run { run_of C.state result ≡ begun_with (machine_of C.state machine) schedule.now events }
     {
         ScheduledRun {
-            turns: CountedMachine::new(machine, limits),
+            turns: CountedMachine::new(machine, limits, no_events(alloc, events)),
             rest: Remaining::new(schedule),
             enabled: Vec::new(alloc),
         }
@@ -119,16 +132,17 @@ impl<'a, C: ThreadCode + Drop> ScheduledRun<'a, C> {
 
 /// Gives the machine's threads turns as the schedule says, under limits, until the run ends, and says what came of it.
 /// An item `Until` gives turns until its thread has to wait or comes to its end, since no step of this machine has a
-/// kind. `limits.sections` says nothing here. The outcome has no events.
+/// kind. `limits.sections` says nothing here. The outcome has the events where they are asked for.
 pub fn run_picks<C: ThreadCode + Drop>(
     alloc: Global,
     machine: Ordinary<C>,
     schedule: &Schedule,
     limits: &Limits,
+    events: bool,
 ) -> Result<Outcome, NoMemory>
-    ensures { IfOk result (λ outcome. IsOutcome C.code (machine_of C.state machine) schedule.now limits.now outcome) }
+    ensures { IfOk result (λ outcome. IsOutcome C.code (machine_of C.state machine) schedule.now limits.now events outcome) }
 {
-    let mut run = ScheduledRun::new(alloc, machine, schedule, limits);
+    let mut run = ScheduledRun::new(alloc, machine, schedule, limits, events);
     loop {
         if let Some(how) = run.go_on()? {
             let ScheduledRun { turns, .. } = run;

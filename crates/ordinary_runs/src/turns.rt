@@ -4,11 +4,11 @@ ghost use Rattle.ordinary_machine.specs.Machine.{machine_of};
 ghost use Rattle.ordinary_machine.specs.Advance.{MayAdvance};
 ghost use Rattle.schedules.specs.Schedule.{Rest};
 ghost use Rattle.schedules.specs.Run.{AreThose, EndsBy};
-ghost use Rattle.ordinary_runs.specs.Turns.{count_in, progress_of, is_live, end_of, counted_after, machine_turns, IsSilentFor};
+ghost use Rattle.ordinary_runs.specs.Turns.{count_in, progress_of, is_live, end_of, counted_after, events_after, machine_turns, IsSilentFor};
 ghost use Rattle.ordinary_runs.specs.ScheduledRun.{AreEnds};
 
 use crate::counts::TurnCounts;
-use op_core::{How, Limit, Limits, NoMemory, Outcome, Rows, ThreadCode, ThreadEnd};
+use op_core::{Event, How, Limit, Limits, NoMemory, Outcome, Rows, ThreadCode, ThreadEnd};
 use ordinary_machine::{Advance, Ordinary};
 use schedules::{LiveThreads, TurnEnd};
 use std::alloc::Global;
@@ -18,6 +18,7 @@ use std::alloc::Global;
 pub(crate) struct CountedMachine<C> {
     machine: Ordinary<C>,
     counts: TurnCounts,
+    events: Option<Rows<Event>>,
     pub(crate) limits: Limits,
 }
 
@@ -50,14 +51,15 @@ fn end_of(answer: Advance) -> TurnEnd
 }
 
 impl<C: ThreadCode + Drop> CountedMachine<C> {
-    /// No turn has counted.
-    pub(crate) fn new(machine: Ordinary<C>, limits: &Limits) -> Self
+    /// No turn has counted. Steps go to the events, if there are any.
+    pub(crate) fn new(machine: Ordinary<C>, limits: &Limits, events: Option<Rows<Event>>) -> Self
         ensures limits { result.limits ≡ limits.now }
-        ensures progress { progress_of C.state result ≡ record { machine = machine_of C.state machine; counted = λ _. 0 } }
+        ensures progress { progress_of C.state result ≡ record { machine = machine_of C.state machine; counted = λ _. 0; events = events } }
     {
         CountedMachine {
             machine,
             counts: TurnCounts::new(),
+            events,
             limits: *limits,
         }
     }
@@ -66,6 +68,7 @@ impl<C: ThreadCode + Drop> CountedMachine<C> {
     fn count(&mut self, thread: u8, answer: Advance)
         requires { count_in self.old.counts thread + 1 < 2 ^ 64 }
         ensures machine { self.new.machine ≡ self.old.machine }
+        ensures events { self.new.events ≡ self.old.events }
         ensures limits { self.new.limits ≡ self.old.limits }
         ensures counts { count_in self.new.counts ≡ counted_after thread answer (count_in self.old.counts) }
     {
@@ -75,7 +78,20 @@ impl<C: ThreadCode + Drop> CountedMachine<C> {
         }
     }
 
-    /// Gives a live thread a turn, and says what it came to.
+    // Keeps the step of the turn that was answered this, where steps are kept.
+    fn keep(&mut self, answer: Advance) -> Result<(), NoMemory>
+        ensures machine { self.new.machine ≡ self.old.machine }
+        ensures counts { self.new.counts ≡ self.old.counts }
+        ensures limits { self.new.limits ≡ self.old.limits }
+        ensures kept { OnOk result (self.new.events ≡ events_after answer self.old.events) }
+    {
+        if let (Some(events), Advance::Step(event)) = (&mut self.events, answer) {
+            events.push(event)?;
+        }
+        Ok(())
+    }
+
+    /// Gives a live thread a turn, and says what it came to. After an error the run can't go on.
     pub(crate) fn turn(&mut self, thread: u8) -> Result<TurnEnd, NoMemory>
         requires { is_live ((progress_of C.state self.old).machine.now.threads thread) ≡ true }
         ensures limits { self.new.limits ≡ self.old.limits }
@@ -86,6 +102,7 @@ impl<C: ThreadCode + Drop> CountedMachine<C> {
             return Ok(TurnEnd::Spent(Limit::Turns));
         }
         let answer = self.machine.advance(thread, &self.limits)?;
+        self.keep(answer)?;
         self.count(thread, answer);
         Ok(end_of(answer))
     }
@@ -188,17 +205,21 @@ impl<C: ThreadCode + Drop> CountedMachine<C> {
         ensures ends { IfOk result (λ outcome. AreEnds (progress_of C.state self).machine.now outcome.ends) }
         ensures opened { IfOk result (λ outcome. outcome.opened ≡ 0) }
         ensures undone { IfOk result (λ outcome. outcome.undone ≡ 0) }
-        ensures events { IfOk result (λ outcome. outcome.events ≡ None) }
+        ensures events { IfOk result (λ outcome. outcome.events ≡ (progress_of C.state self).events) }
     {
         let ends = self.ends(alloc)?;
-        let CountedMachine { machine, .. } = self;
+        let CountedMachine {
+            machine,
+            events,
+            ..
+        } = self;
         Ok(Outcome {
             lines: machine.into_lines(),
             ends,
             how,
             opened: 0,
             undone: 0,
-            events: None,
+            events,
         })
     }
 }

@@ -14,7 +14,7 @@ fn how_main_ends(
 ) -> Result<(&'static str, u8), Fail> {
     let scripts = [ToyScript { object: 1, steps }];
     let main = Toy::new(alloc, &scripts, 1);
-    let outcome = run(alloc, &[3], main, &[], None, limits)?;
+    let outcome = run(alloc, &[3], main, &[], None, limits, false)?;
     if !printed(&outcome, &[1]) {
         return Err(Fail::from("1 was not printed"));
     }
@@ -66,7 +66,7 @@ fn starts(alloc: Global, count: u32) -> Result<((&'static str, u8), usize), Fail
         steps: steps.as_slice(),
     }];
     let main = Toy::new(alloc, &scripts, 1);
-    let outcome = run(alloc, objects.as_slice(), main, &[], None, &AMPLE)?;
+    let outcome = run(alloc, objects.as_slice(), main, &[], None, &AMPLE, false)?;
     Ok((shown(outcome.how), outcome.ends.len()))
 }
 

@@ -56,6 +56,7 @@ pub fn run<C: ThreadCode + Drop>(
     order: &[OrderItem],
     seed: Option<u64>,
     limits: &Limits,
+    events: bool,
 ) -> Result<Outcome, Fail> {
     let opening = opening(alloc, objects)?;
     if !opening.lies_below_first() {
@@ -66,7 +67,7 @@ pub fn run<C: ThreadCode + Drop>(
         order: Rows::from_vec(Vec::from_slice(alloc, order)?),
         seed,
     };
-    ample(run_picks(alloc, machine, &schedule, limits))
+    ample(run_picks(alloc, machine, &schedule, limits, events))
 }
 
 /// How a run ended as a word, and the thread that met the limit, or 0.

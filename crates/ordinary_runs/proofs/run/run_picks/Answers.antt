@@ -19,7 +19,7 @@ returns-in-Some g c =
     let goes = subst (λ (l : Limits). GoesOnOrEnds code l run c.in_ok-how.field-0 next) c.loop-run.invariant.limits c.in_ok-how.ensures.goes in
     let ends = subst (λ how. GoesOnOrEnds code limits run how next) c.in-Some.is goes in
     let made = c.into_outcome.ensures in
-    outcome_of code (machine_of state c.args.machine) c.args.schedule.now limits run next c.in-Some.how c.into_outcome.result c.loop-run.invariant.follows ends.0 ends.1
+    outcome_of code (machine_of state c.args.machine) c.args.schedule.now limits c.args.events run next c.in-Some.how c.into_outcome.result c.loop-run.invariant.follows ends.0 ends.1
     made.how made.lines made.ends made.opened made.undone made.events
 
 pub loop-run-smaller : goal.loop-run-smaller
@@ -44,5 +44,5 @@ loop-run-preserved g c =
     let on : GoesOn code limits run next = subst (λ how. GoesOnOrEnds code limits run how next) c.in_default.is goes in
     record {
       limits = c.in_ok-how.ensures.limits ∙ c.loop-run.invariant.limits;
-      follows = goes_further code limits (begun_with (machine_of state c.args.machine) c.args.schedule.now) run next c.loop-run.invariant.follows on;
+      follows = goes_further code limits (begun_with (machine_of state c.args.machine) c.args.schedule.now c.args.events) run next c.loop-run.invariant.follows on;
     }

@@ -9,7 +9,7 @@ use Rattle.ordinary_runs.proofs.run.run_picks.Given as goal
 abbrev pub invariant-loop-run : goal.invariant-loop-run
 invariant-loop-run g l = record {
   limits : l.run.turns.limits ≡ l.limits;
-  follows : (ts : List ℕ) × Follows (machine_turns g.C.ThreadCode.code l.limits) (begun_with (machine_of g.C.ThreadCode.state l.fn.machine) l.schedule) ts (run_of g.C.ThreadCode.state l.run);
+  follows : (ts : List ℕ) × Follows (machine_turns g.C.ThreadCode.code l.limits) (begun_with (machine_of g.C.ThreadCode.state l.fn.machine) l.schedule l.events) ts (run_of g.C.ThreadCode.state l.run);
 }
 
 abbrev pub decreases-loop-run : goal.decreases-loop-run
