@@ -292,7 +292,15 @@ fn a_run_follows_its_schedule(rt: HostRuntime) -> Result<(), Fail> {
     let alloc = rt.alloc();
     for case in RUNS {
         let main = Toy::new(alloc, case.scripts, 1);
-        let outcome = run(alloc, &OBJECTS, main, case.order, case.seed, &case.limits, false)?;
+        let outcome = run(
+            alloc,
+            &OBJECTS,
+            main,
+            case.order,
+            case.seed,
+            &case.limits,
+            false,
+        )?;
         assert!(rt; printed(&outcome, case.lines));
         assert!(rt; ended(&outcome, case.ends));
         assert!(rt; shown(outcome.how) == case.how);
@@ -305,7 +313,15 @@ fn a_run_follows_its_schedule(rt: HostRuntime) -> Result<(), Fail> {
 fn a_thread_at_the_end_of_its_code_is_stuck(rt: HostRuntime) -> Result<(), Fail> {
     let alloc = rt.alloc();
     let main = Script::new(alloc, &[]);
-    let outcome = run(alloc, &[], main, &[OrderItem::Turns(1, 3)], Some(1), &AMPLE, true)?;
+    let outcome = run(
+        alloc,
+        &[],
+        main,
+        &[OrderItem::Turns(1, 3)],
+        Some(1),
+        &AMPLE,
+        true,
+    )?;
     assert!(rt; shown(outcome.how) == ("stuck", 0));
     assert!(rt; ended(&outcome, &[]));
     Ok(())
@@ -318,9 +334,22 @@ const STEPS: [(u8, u64); 6] = [(1, 0), (2, 0), (2, 0), (1, 1), (1, 0), (1, 0)];
 fn events_are_kept_where_they_are_asked_for(rt: HostRuntime) -> Result<(), Fail> {
     let alloc = rt.alloc();
     let main = Toy::new(alloc, &MAIN_JOINS, 1);
-    let outcome = run(alloc, &OBJECTS, main, WAITS_IN_AN_ITEM.order, None, &AMPLE, true)?;
+    let outcome = run(
+        alloc,
+        &OBJECTS,
+        main,
+        WAITS_IN_AN_ITEM.order,
+        None,
+        &AMPLE,
+        true,
+    )?;
     let events = outcome.events.ok_or("there are events")?;
     assert!(rt; events.len() == STEPS.len());
-    assert!(rt; events.iter().zip(&STEPS).all(|(event, step)| (event.thread, event.silent) == *step));
+    assert!(rt;
+        events
+            .iter()
+            .zip(&STEPS)
+            .all(|(event, step)| (event.thread, event.silent) == *step)
+    );
     Ok(())
 }

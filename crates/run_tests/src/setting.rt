@@ -97,8 +97,6 @@ pub fn printed(outcome: &Outcome, lines: &[i32]) -> bool {
 /// Whether these threads ended, each with the class of its exception.
 pub fn ended(outcome: &Outcome, ends: &[(u8, Option<u32>)]) -> bool {
     outcome.ends.len() == ends.len()
-        && outcome.ends.iter().zip(ends).all(|(end, (
-            thread,
-            class,
-        ))| end.thread == *thread && end.class == *class)
+        && outcome.ends.iter().zip(ends).all(|(end, (thread, class))| end.thread == *thread
+            && end.class == *class)
 }
