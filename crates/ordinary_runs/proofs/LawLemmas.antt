@@ -1,5 +1,5 @@
 -- A scheduled run has one outcome, which is that of an execution.
-use Rattle.std.proofs.Common.{◌≡◌, ◌↔◌, inl, inr, ℕ, Bool, true, false, List, [], ◌∷◌, ◌++◌, get_or, Option, Some, None, IfSome, if◌then◌else◌, option_map, append_assoc, refl, sym, ◌∙◌, ap, subst, arith}
+use Rattle.std.proofs.Common.{◌≡◌, ◌↔◌, inl, inr, ℕ, Bool, true, false, List, [], ◌∷◌, ◌++◌, get_or, Option, Some, None, if◌then◌else◌, option_map, append_assoc, refl, sym, ◌∙◌, ap, subst, arith}
 use Rattle.op_core.specs.declared.Event.{Event}
 use Rattle.op_core.specs.declared.Limits.{Limits}
 use Rattle.op_core.specs.declared.Limit.TheVariants.{Turns}
@@ -10,7 +10,7 @@ use Rattle.schedules.specs.declared.order.TurnEnd.{TurnEnd}
 use Rattle.schedules.specs.Run.{Run, IsHeldUp, IsTurn, Follows, EndsBy}
 use Rattle.schedules.specs.Laws.{IsDeterminate}
 use Rattle.schedules.proofs.RunLemmas.{one_end}
-use Rattle.ordinary_machine.specs.Machine.{Machine, HasBegun}
+use Rattle.ordinary_machine.specs.Machine.{Machine}
 use Rattle.ordinary_machine.specs.Laws.{Call, Runs, event_of, events_of, StandsFurther, IsFurther, IsStandstill}
 use Rattle.ordinary_machine.proofs.OutcomeLemmas.{one_answer}
 use Rattle.ordinary_machine.proofs.RunLemmas.{executed}
@@ -19,6 +19,7 @@ use Rattle.ordinary_runs.specs.Turns.{Progress, is_live, end_of, counted_after, 
 use Rattle.ordinary_runs.specs.ScheduledRun.{begun_with, AreEnds}
 use Rattle.ordinary_runs.specs.Laws.{RunsHaveOneOutcome, RunsAreExecutions, StuckRunsAreStuck}
 use Rattle.ordinary_runs.proofs.TurnLemmas.{none_more}
+use Rattle.ordinary_runs.proofs.RunLemmas.{enabled_live}
 use Rattle.ordinary_runs.proofs.EndLemmas.{ends_one}
 
 -- a turn comes to one thing
@@ -32,15 +33,10 @@ same_turn code limits r new last t a b (inr x) (inr y) =
     let events = y.kept ∙ ap (λ z. events_after z r.events) answer ∙ sym x.kept in
     (y.comes ∙ ap end_of answer ∙ sym x.comes, λ i. record { machine = machine i; counted = counted i; events = events i })
 
-begun_lives : {S : Type 0} (thread : Thread S) → HasBegun thread → (HasEnded thread → ⊥) → is_live thread ≡ true
-begun_lives unused begun never = absurd begun
-begun_lives (live l) begun never = refl
-begun_lives (ended x) begun never = absurd (never tt)
-
 determinate : {S : Type 0} (code : Code S) (limits : Limits) → IsDeterminate (machine_turns code limits)
 determinate code limits = record {
   one_turn = same_turn code limits;
-  enabled_live = λ r t may. begun_lives (r.machine.now.threads t) may.begun (λ over. may.more (inl over));
+  enabled_live = λ r t may. enabled_live code r.machine t may;
 }
 
 pub one_outcome : {S : Type 0} (code : Code S) → RunsHaveOneOutcome code
@@ -63,9 +59,9 @@ kept_on : (events middle last : Option (List Event)) (one more : List Event) →
 kept_on None middle last one more first later = later ∙ ap (option_map (λ es. es ++ more)) first
 kept_on (Some es) middle last one more first later = later ∙ ap (option_map (λ es. es ++ more)) first ∙ ap Some (append_assoc es one more)
 
-all_kept : (keeps : Bool) (events last : Option (List Event)) (made : List Event) → last ≡ option_map (λ es. es ++ made) (if keeps then Some [] else None) → events ≡ last → IfSome events (λ es. es ≡ made)
-all_kept true events last made kept is = subst (λ o. IfSome o (λ es. es ≡ made)) (sym (is ∙ kept)) refl
-all_kept false events last made kept is = subst (λ o. IfSome o (λ es. es ≡ made)) (sym (is ∙ kept)) tt
+all_kept : (keeps : Bool) (events last : Option (List Event)) (made : List Event) → last ≡ option_map (λ es. es ++ made) (if keeps then Some [] else None) → events ≡ last → events ≡ (if keeps then Some made else None)
+all_kept true events last made kept is = is ∙ kept
+all_kept false events last made kept is = is ∙ kept
 
 one_call : {S : Type 0} (code : Code S) (limits : Limits) (run next : Run (Progress S)) (t : ℕ) (end : TurnEnd) → IsTurn (machine_turns code limits) run t end next
     → MakesTurn code limits run.state t end next.state

@@ -5,7 +5,7 @@ use Rattle.schedules.specs.declared.order.OrderItem.{OrderItem}
 use Rattle.schedules.specs.declared.order.OrderItem.TheVariants.{Turns, Until}
 use Rattle.schedules.specs.declared.order.TurnEnd.TheVariants.{Other, Blocked}
 use Rattle.schedules.specs.Schedule.{thread_of, has_turns, due, order_after, Rest, rest_due}
-use Rattle.ordinary_runs.specs.ScheduledRun.{GivesTurns, order_behind}
+use Rattle.ordinary_runs.specs.ScheduledRun.{CanGive, order_behind}
 
 -- an item that is due has turns and a live thread
 pub record IsDue (live : ℕ → Bool) (item : OrderItem) : Type 0 where
@@ -80,7 +80,7 @@ all_behind zero (Turns t n) others = let same : n ≡ n - 0 = omega arith in ap 
 all_behind zero (Until t kind) others = refl
 all_behind (suc k) item others = ap (λ order. order_after order Other) (all_behind k item others) ∙ one_behind k item others
 
-pub behind_turns : (n k : ℕ) (item : OrderItem) → GivesTurns n item → k < n → has_turns (item_behind k item) ≡ true
+pub behind_turns : (n k : ℕ) (item : OrderItem) → CanGive n item → k < n → has_turns (item_behind k item) ≡ true
 behind_turns n k (Turns t m) gives below = lt-ltb 0 (m - k) (omega (arith, gives, below))
 behind_turns n k (Until t kind) gives below = refl
 

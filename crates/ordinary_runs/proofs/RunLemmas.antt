@@ -25,7 +25,7 @@ use Rattle.ordinary_machine.specs.declared.advance.Advance.TheVariants as advanc
 use Rattle.ordinary_machine.specs.Machine.{Machine, HasBegun}
 use Rattle.ordinary_machine.specs.Advance.{Advances, MayAdvance}
 use Rattle.ordinary_runs.specs.Turns.{Progress, is_live, end_of, counted_after, events_after, IsSilentFor, machine_turns}
-use Rattle.ordinary_runs.specs.ScheduledRun.{begun_with, AreEnds, IsOutcome, GivesTurns, order_behind, GoesOn, GoesOnOrEnds}
+use Rattle.ordinary_runs.specs.ScheduledRun.{begun_with, AreEnds, IsOutcome, CanGive, order_behind, GoesOn, GoesOnOrEnds}
 use Rattle.ordinary_runs.proofs.OrderLemmas.{due_first, due_twice}
 use Rattle.ordinary_runs.proofs.TurnLemmas.{ordered_keeps, lowest_keeps, goes_silently, picked_enabled, none_more}
 
@@ -120,7 +120,7 @@ ordered_live {S} code limits r middle rest t n kept first none ran =
     subst (λ (x : Progress S). is_live (x.machine.now.threads t) ≡ true) (sym (silent_none code limits r middle t n none ran))
     (subst (λ u. is_live (r.machine.now.threads u) ≡ true) (sym h.mine) lives)
 
-fewer_turns : (n most : ℕ) (item : OrderItem) → n ≤ most → GivesTurns most item → GivesTurns n item
+fewer_turns : (n most : ℕ) (item : OrderItem) → n ≤ most → CanGive most item → CanGive n item
 fewer_turns n most (Turns t m) fewer gives = omega (arith, fewer, gives)
 fewer_turns n most (Until t kind) fewer gives = tt
 
@@ -129,13 +129,13 @@ room_for turns counted n some left = omega (arith, some, left)
 
 -- silent turns of an item's thread
 pub ordered_silent : {S : Type 0} (code : Code S) (limits : Limits) (r new : Progress S) (rest left : Rest) (t n most : ℕ) (first : Option OrderItem) → due_of (machine_turns code limits) (record { state = r; rest = rest }) ≡ rest
-    → Some t ≡ option_map thread_of (slice_get rest.order 0) → t < 256 → first ≡ slice_get rest.order 0 → IfSome first (GivesTurns most) → n ≤ most → 0 < n → IsSilentFor code limits r t n new
+    → Some t ≡ option_map thread_of (slice_get rest.order 0) → t < 256 → first ≡ slice_get rest.order 0 → IfSome first (CanGive most) → n ≤ most → 0 < n → IsSilentFor code limits r t n new
     → left ≡ record rest { order = order_behind n rest.order } → GoesOn code limits (record { state = r; rest = rest }) (record { state = new; rest = left })
 ordered_silent code limits r new rest left t zero most first kept gets below shows gives within some ran leaves = absurd (omega (arith, some))
 ordered_silent {S} code limits r new rest left t (suc n) most first kept gets below shows gives within some ran leaves =
     let h = first_item code limits r rest t kept gets in
     let shown : first ≡ Some h.item = shows ∙ ap (λ order. slice_get order 0) h.is in
-    let has = fewer_turns (suc n) most h.item within (subst (λ x. IfSome x (GivesTurns most)) shown gives) in
+    let has = fewer_turns (suc n) most h.item within (subst (λ x. IfSome x (CanGive most)) shown gives) in
     subst (λ x. GoesOn code limits (record { state = r; rest = rest }) (record { state = new; rest = x })) (sym leaves)
     (goes_silently code limits r new (λ k. record rest { order = order_behind k rest.order }) t n ran below
     (ordered_keeps code limits r rest t ran.runs.from (suc n) h.item h.others h.is h.mine has (room_for limits.turns (r.counted t) (suc n) some ran.left)))

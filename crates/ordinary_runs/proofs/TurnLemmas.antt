@@ -19,7 +19,7 @@ use Rattle.ordinary_machine.specs.declared.advance.Advance.TheVariants as advanc
 use Rattle.ordinary_machine.specs.Machine.{with_thread_at}
 use Rattle.ordinary_machine.specs.Advance.{Advances, MayAdvance}
 use Rattle.ordinary_runs.specs.Turns.{Progress, is_live, end_of, counted_after, IsSilentFor, machine_turns}
-use Rattle.ordinary_runs.specs.ScheduledRun.{GivesTurns, order_behind, GoesOn}
+use Rattle.ordinary_runs.specs.ScheduledRun.{CanGive, order_behind, GoesOn}
 use Rattle.ordinary_runs.proofs.CountLemmas.{counted_left, left_less}
 use Rattle.ordinary_runs.proofs.OrderLemmas.{due_first, due_stays, order_turns, due_no_more, other_no_more, blocked_less, item_behind, all_behind, behind_turns, behind_thread}
 use Rattle.ordinary_runs.proofs.SilentLemmas.{enabled_same, step_silent, put_twice, put_back, and_then_some}
@@ -126,7 +126,7 @@ goes_silently {S} code limits r new rests t n ran below keeps =
 
 -- The thread of a due item keeps its turn while the item has turns to give.
 pub ordered_keeps : {S : Type 0} (code : Code S) (limits : Limits) (r : Progress S) (rest : Rest) (t : ℕ) (from : S) (n : ℕ) (item : OrderItem) (others : List OrderItem)
-    → rest.order ≡ item ∷ others → t ≡ thread_of item → GivesTurns n item → r.counted t + n ≤ limits.turns
+    → rest.order ≡ item ∷ others → t ≡ thread_of item → CanGive n item → r.counted t + n ≤ limits.turns
     → KeepsTurn code limits r (λ k. record rest { order = order_behind k rest.order }) t from n
 ordered_keeps {S} code limits r rest t from n item others is mine gives left =
     let rests : ℕ → Rest = λ k. record rest { order = order_behind k rest.order } in

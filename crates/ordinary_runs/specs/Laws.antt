@@ -1,5 +1,5 @@
 -- What is proved of all scheduled runs, for all thread codes.
-use Rattle.std.specs.Prelude.{◌≡◌, ℕ, Bool, IfSome, List, ◌++◌}
+use Rattle.std.specs.Prelude.{◌≡◌, ℕ, Bool, Some, None, List, ◌++◌, if◌then◌else◌}
 use Rattle.op_core.specs.declared.Event.{Event}
 use Rattle.op_core.specs.declared.Limits.{Limits}
 use Rattle.op_core.specs.declared.How.TheVariants.{Stuck}
@@ -17,19 +17,19 @@ abbrev pub RunsHaveOneOutcome : {S : Type 0} → Code S → Type 0
 RunsHaveOneOutcome {S} code = (m : Machine S) (schedule : Schedule) (limits : Limits) (keeps : Bool) (outcome other : Outcome)
     → IsOutcome code m schedule limits keeps outcome → IsOutcome code m schedule limits keeps other → other ≡ outcome
 
--- Some events, those that were kept if any were, are an execution from the machine's state. The machine's lines and
--- those that they print are the outcome's, and the threads have ended in their last state as the outcome says.
-pub record IsExecuted {S : Type 0} (code : Code S) (m : Machine S) (outcome : Outcome) : Type 0 where
+-- Some events are an execution from the machine's state: those of the outcome, where they were kept. The machine's lines
+-- and those that they print are the outcome's, and in their last state the threads have ended as the outcome says.
+pub record IsExecuted {S : Type 0} (code : Code S) (m : Machine S) (keeps : Bool) (outcome : Outcome) : Type 0 where
   pub events : List Event
   pub last : OrdinaryState S
-  pub kept : IfSome outcome.events (λ es. es ≡ events)
+  pub kept : outcome.events ≡ (if keeps then Some events else None)
   pub leads : Leads code m.now events last
   pub lines : outcome.lines ≡ m.now.lines ++ printed events
   pub ends : AreEnds last outcome.ends
 
 abbrev pub RunsAreExecutions : {S : Type 0} → Code S → Type 0
 RunsAreExecutions {S} code = (m : Machine S) (schedule : Schedule) (limits : Limits) (keeps : Bool) (outcome : Outcome)
-    → m.silents ≡ (λ _. 0) → IsOutcome code m schedule limits keeps outcome → IsExecuted code m outcome
+    → m.silents ≡ (λ _. 0) → IsOutcome code m schedule limits keeps outcome → IsExecuted code m keeps outcome
 
 -- Where a run is stuck and no thread is at its code's end without having ended, some events are an execution that ends
 -- stuck, and print the outcome's lines.

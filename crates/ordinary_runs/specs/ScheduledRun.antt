@@ -45,9 +45,9 @@ abbrev pub run_of : {C S : Type 0} → (C → S) → ScheduledRun C → Run (Pro
 run_of state run = record { state = progress_of state run.turns; rest = run.rest }
 
 -- the item has at least so many turns to give
-abbrev pub GivesTurns : ℕ → OrderItem → Type 0
-GivesTurns k (Turns t n) = k ≤ n
-GivesTurns k (Until t kind) = Unit {0}
+abbrev pub CanGive : ℕ → OrderItem → Type 0
+CanGive k (Turns t n) = k ≤ n
+CanGive k (Until t kind) = Unit {0}
 
 -- what is left of an order behind so many turns of its first item that came to nothing it asks for
 abbrev pub order_behind : ℕ → List OrderItem → List OrderItem

@@ -69,8 +69,8 @@ pub record MakesTurn {S : Type 0} (code : Code S) (limits : Limits) (r : Progres
   pub counts : new.counted ≡ counted_after t answer r.counted
   pub kept : new.events ≡ events_after answer r.events
 
--- The turns of the machine's threads under these limits. A thread that will meet a limit is enabled, and no turn that
--- is made meets one.
+-- The turns of the machine's threads under these limits. Which threads are enabled doesn't depend on the limits: one that
+-- will meet a limit is. No turn that is made meets one.
 abbrev pub machine_turns : {S : Type 0} → Code S → Limits → TurnSystem (Progress S)
 machine_turns code limits = record {
   live = λ r t. is_live (r.machine.now.threads t);

@@ -4,7 +4,7 @@ ghost use Rattle.schedules.specs.Schedule.{thread_of};
 ghost use Rattle.schedules.specs.Run.{due_of};
 ghost use Rattle.ordinary_machine.specs.Machine.{machine_of};
 ghost use Rattle.ordinary_runs.specs.Turns.{machine_turns};
-ghost use Rattle.ordinary_runs.specs.ScheduledRun.{begun_with, IsOutcome, run_of, GivesTurns, order_behind, GoesOnOrEnds};
+ghost use Rattle.ordinary_runs.specs.ScheduledRun.{begun_with, IsOutcome, run_of, CanGive, order_behind, GoesOnOrEnds};
 
 use crate::turns::CountedMachine;
 use op_core::{Event, How, Limits, NoMemory, Outcome, Rows, ThreadCode};
@@ -30,7 +30,7 @@ fn no_events(alloc: Global, keeps: bool) -> Option<Rows<Event>>
 
 // How many turns an item gives at most.
 fn most_turns(item: Option<OrderItem>) -> u64
-    ensures { IfSome item (GivesTurns result) }
+    ensures { IfSome item (CanGive result) }
 {
     match item {
         Some(OrderItem::Turns(_, count)) => count as u64,
