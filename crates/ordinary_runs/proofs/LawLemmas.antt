@@ -1,0 +1,146 @@
+-- A scheduled run has one outcome, which is that of an execution.
+use Rattle.std.proofs.Common.{◌≡◌, ◌↔◌, inl, inr, ℕ, Bool, true, false, List, [], ◌∷◌, ◌++◌, get_or, Option, Some, None, if◌then◌else◌, option_map, append_assoc, refl, sym, ◌∙◌, ap, subst, arith}
+use Rattle.op_core.specs.declared.Event.{Event}
+use Rattle.op_core.specs.declared.Limits.{Limits}
+use Rattle.op_core.specs.declared.Limit.TheVariants.{Turns}
+use Rattle.op_core.specs.declared.ThreadEnd.{ThreadEnd}
+use Rattle.op_core.specs.ThreadCode.{Code}
+use Rattle.op_core.specs.OrdinaryState.{Thread, unused, live, ended, OrdinaryState, HasEnded}
+use Rattle.schedules.specs.declared.order.TurnEnd.{TurnEnd}
+use Rattle.schedules.specs.Run.{Run, IsHeldUp, IsTurn, Follows, EndsBy}
+use Rattle.schedules.specs.Laws.{IsDeterminate}
+use Rattle.schedules.proofs.RunLemmas.{one_end}
+use Rattle.ordinary_machine.specs.Machine.{Machine}
+use Rattle.ordinary_machine.specs.Laws.{Call, Runs, event_of, events_of, StandsFurther, IsFurther, IsStandstill}
+use Rattle.ordinary_machine.proofs.OutcomeLemmas.{one_answer}
+use Rattle.ordinary_machine.proofs.RunLemmas.{executed}
+use Rattle.ordinary_machine.proofs.StuckLemmas.{standstills_stuck}
+use Rattle.ordinary_runs.specs.Turns.{Progress, is_live, end_of, counted_after, events_after, MakesTurn, machine_turns}
+use Rattle.ordinary_runs.specs.ScheduledRun.{begun_with, AreEnds}
+use Rattle.ordinary_runs.specs.Laws.{RunsHaveOneOutcome, RunsAreExecutions, StuckRunsAreStuck}
+use Rattle.ordinary_runs.proofs.TurnLemmas.{none_more}
+use Rattle.ordinary_runs.proofs.RunLemmas.{enabled_live}
+use Rattle.ordinary_runs.proofs.EndLemmas.{ends_one}
+
+-- a turn comes to one thing
+same_turn : {S : Type 0} (code : Code S) (limits : Limits) (r new last : Progress S) (t : ℕ) (a b : TurnEnd) → (machine_turns code limits).gives r t a new → (machine_turns code limits).gives r t b last → (b ≡ a) × (last ≡ new)
+same_turn code limits r new last t a b (inl x) (inl y) = (y.spent ∙ sym x.spent, y.same ∙ sym x.same)
+same_turn code limits r new last t a b (inl x) (inr y) = let many = x.many in let left = y.left in absurd (omega (arith, many, left))
+same_turn code limits r new last t a b (inr x) (inl y) = let many = y.many in let left = x.left in absurd (omega (arith, many, left))
+same_turn code limits r new last t a b (inr x) (inr y) =
+    let (answer, machine) = one_answer code r.machine new.machine last.machine t limits x.answer y.answer x.advances y.advances in
+    let counted = y.counts ∙ ap (λ z. counted_after t z r.counted) answer ∙ sym x.counts in
+    let events = y.kept ∙ ap (λ z. events_after z r.events) answer ∙ sym x.kept in
+    (y.comes ∙ ap end_of answer ∙ sym x.comes, λ i. record { machine = machine i; counted = counted i; events = events i })
+
+determinate : {S : Type 0} (code : Code S) (limits : Limits) → IsDeterminate (machine_turns code limits)
+determinate code limits = record {
+  one_turn = same_turn code limits;
+  enabled_live = λ r t may. enabled_live code r.machine t may;
+}
+
+pub one_outcome : {S : Type 0} (code : Code S) → RunsHaveOneOutcome code
+one_outcome {S} code m schedule limits keeps outcome other one two =
+    let (threads, how, last) = one_end (Progress S) (machine_turns code limits) (begun_with m schedule keeps) one.last two.last one.threads two.threads outcome.how other.how (determinate code limits) one.goes two.goes in
+    let lines = two.lines ∙ ap (λ (run : Run (Progress S)). run.state.machine.now.lines) last ∙ sym one.lines in
+    let ends = ends_one one.last.state.machine.now outcome.ends other.ends one.ends (subst (λ (run : Run (Progress S)). AreEnds run.state.machine.now other.ends) last two.ends) in
+    let opened = two.opened ∙ sym one.opened in
+    let undone = two.undone ∙ sym one.undone in
+    let events = two.events ∙ ap (λ (run : Run (Progress S)). run.state.events) last ∙ sym one.events in
+    λ i. record { lines = lines i; ends = ends i; how = how i; opened = opened i; undone = undone i; events = events i }
+
+-- the turns of a run are calls of `advance`
+record AreCalls {S : Type 0} (code : Code S) (r last : Progress S) : Type 0 where
+  calls : List Call
+  runs : Runs code r.machine calls last.machine
+  kept : last.events ≡ option_map (λ es. es ++ events_of calls) r.events
+
+kept_on : (events middle last : Option (List Event)) (one more : List Event) → middle ≡ option_map (λ es. es ++ one) events → last ≡ option_map (λ es. es ++ more) middle → last ≡ option_map (λ es. es ++ (one ++ more)) events
+kept_on None middle last one more first later = later ∙ ap (option_map (λ es. es ++ more)) first
+kept_on (Some es) middle last one more first later = later ∙ ap (option_map (λ es. es ++ more)) first ∙ ap Some (append_assoc es one more)
+
+all_kept : (keeps : Bool) (events last : Option (List Event)) (made : List Event) → last ≡ option_map (λ es. es ++ made) (if keeps then Some [] else None) → events ≡ last → events ≡ (if keeps then Some made else None)
+all_kept true events last made kept is = is ∙ kept
+all_kept false events last made kept is = is ∙ kept
+
+one_call : {S : Type 0} (code : Code S) (limits : Limits) (run next : Run (Progress S)) (t : ℕ) (end : TurnEnd) → IsTurn (machine_turns code limits) run t end next
+    → MakesTurn code limits run.state t end next.state
+one_call code limits run next t end turn = elim turn.given [
+  | inl out ↦ absurd (turn.unspent Turns out.spent)
+  | inr made ↦ made
+]
+
+calls_of : {S : Type 0} (code : Code S) (limits : Limits) (run last : Run (Progress S)) (ts : List ℕ) → Follows (machine_turns code limits) run ts last → AreCalls code run.state last.state
+calls_of {S} code limits run last [] same = record { calls = []; runs = ap (λ (r : Run (Progress S)). r.state.machine) same; kept = ap (λ (r : Run (Progress S)). r.state.events) same ∙ sym (none_more run.state.events) }
+calls_of code limits run last (t ∷ ts) (end, next, turn, later) =
+    let made = one_call code limits run next t end turn in
+    let rest = calls_of code limits next last ts later in
+    record { calls = record { thread = t; limits = limits; answer = made.answer } ∷ rest.calls; runs = (next.state.machine, made.advances, rest.runs); kept = kept_on run.state.events next.state.events last.state.events (event_of made.answer) (events_of rest.calls) made.kept rest.kept }
+
+-- a thread has ended in the same way in a state and in a machine that stands further
+further_end : {S : Type 0} (code : Code S) (thread now : Thread S) (n : ℕ) (x : Option ℕ) → StandsFurther code thread n now → now ≡ ended x → thread ≡ ended x
+further_end code unused unused n x stands is = is
+further_end code unused (live l) n x stands is = absurd stands
+further_end code unused (ended y) n x stands is = absurd stands
+further_end code (live from) unused n x stands is = absurd stands
+further_end code (live from) (live l) n x stands is = absurd (cc)
+further_end code (live from) (ended y) n x stands is = absurd stands
+further_end code (ended z) unused n x stands is = absurd stands
+further_end code (ended z) (live l) n x stands is = absurd stands
+further_end code (ended z) (ended y) n x stands is = ap ended (sym stands) ∙ is
+
+further_over : {S : Type 0} (code : Code S) (thread now : Thread S) (n : ℕ) → StandsFurther code thread n now → HasEnded now ↔ HasEnded thread
+further_over code unused unused n stands = (λ h. h, λ h. h)
+further_over code unused (live l) n stands = absurd stands
+further_over code unused (ended y) n stands = absurd stands
+further_over code (live from) unused n stands = absurd stands
+further_over code (live from) (live l) n stands = (λ h. h, λ h. h)
+further_over code (live from) (ended y) n stands = absurd stands
+further_over code (ended z) unused n stands = absurd stands
+further_over code (ended z) (live l) n stands = absurd stands
+further_over code (ended z) (ended y) n stands = (λ h. h, λ h. h)
+
+ends_there : {S : Type 0} (code : Code S) (s : OrdinaryState S) (m : Machine S) (ends : List ThreadEnd) → IsFurther code s m → AreEnds m.now ends → AreEnds s ends
+ends_there code s m ends further those = record {
+  threads = record {
+    rising = those.threads.rising;
+    each = λ t.
+        let same = further_over code (s.threads t) (m.now.threads t) (m.silents t) (further.threads t) in
+        (λ there. same.0 ((those.threads.each t).0 there), λ over. (those.threads.each t).1 (same.1 over));
+  };
+  classes = λ k d within. there (get_or ends k d) (those.classes k d within);
+}
+  where
+    there : (end : ThreadEnd) → m.now.threads end.thread ≡ ended end.class → s.threads end.thread ≡ ended end.class
+    there end is = further_end code (s.threads end.thread) (m.now.threads end.thread) (m.silents end.thread) end.class (further.threads end.thread) is
+
+pub executions : {S : Type 0} (code : Code S) → RunsAreExecutions code
+executions code m schedule limits keeps outcome none ran =
+    let made = calls_of code limits (begun_with m schedule keeps) ran.last ran.threads ran.goes.0 in
+    let last = ran.last.state.machine in
+    let done = executed code m last made.calls none made.runs in
+    record {
+      events = events_of made.calls;
+      last = done.state;
+      kept = all_kept keeps outcome.events ran.last.state.events (events_of made.calls) made.kept ran.events;
+      leads = done.leads;
+      lines = ran.lines ∙ done.lines;
+      ends = ends_there code done.state last outcome.ends done.further ran.ends;
+    }
+
+live_at : {S : Type 0} (thread : Thread S) → is_live thread ≡ true → (l : S) × (thread ≡ live l)
+live_at unused lives = absurd (cc)
+live_at (live l) lives = (l, refl)
+live_at (ended x) lives = absurd (cc)
+
+pub stuck : {S : Type 0} (code : Code S) → StuckRunsAreStuck code
+stuck code m schedule limits keeps outcome ran none is never =
+    let made = calls_of code limits (begun_with m schedule keeps) ran.last ran.threads ran.goes.0 in
+    let last = ran.last.state.machine in
+    let held : IsHeldUp (machine_turns code limits) ran.last = subst (EndsBy (machine_turns code limits) ran.last) is ran.goes.1 in
+    let still : IsStandstill code last = record {
+      some_live = (held.some_live.0, live_at (last.now.threads held.some_live.0) held.some_live.1);
+      none_advances = held.none_enabled;
+      none_halts = never;
+    } in
+    (events_of made.calls, standstills_stuck code m last made.calls none made.runs still, ran.lines ∙ (executed code m last made.calls none made.runs).lines)

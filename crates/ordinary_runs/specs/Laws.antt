@@ -1,0 +1,39 @@
+-- What is proved of all scheduled runs, for all thread codes.
+use Rattle.std.specs.Prelude.{◌≡◌, ℕ, Bool, Some, None, List, ◌++◌, if◌then◌else◌}
+use Rattle.op_core.specs.declared.Event.{Event}
+use Rattle.op_core.specs.declared.Limits.{Limits}
+use Rattle.op_core.specs.declared.How.TheVariants.{Stuck}
+use Rattle.op_core.specs.declared.Outcome.{Outcome}
+use Rattle.op_core.specs.ThreadCode.{Code}
+use Rattle.op_core.specs.OrdinaryState.{OrdinaryState}
+use Rattle.op_core.specs.Execution.{Leads, printed, EndsStuck}
+use Rattle.schedules.specs.declared.order.Schedule.{Schedule}
+use Rattle.ordinary_machine.specs.Machine.{Machine}
+use Rattle.ordinary_machine.specs.Advance.{HasHalted}
+use Rattle.ordinary_runs.specs.ScheduledRun.{AreEnds, IsOutcome}
+
+-- a machine that follows a schedule under limits has one outcome
+abbrev pub RunsHaveOneOutcome : {S : Type 0} → Code S → Type 0
+RunsHaveOneOutcome {S} code = (m : Machine S) (schedule : Schedule) (limits : Limits) (keeps : Bool) (outcome other : Outcome)
+    → IsOutcome code m schedule limits keeps outcome → IsOutcome code m schedule limits keeps other → other ≡ outcome
+
+-- Some events are an execution from the machine's state: those of the outcome, where they were kept. The machine's lines
+-- and those that they print are the outcome's, and in their last state the threads have ended as the outcome says.
+pub record IsExecuted {S : Type 0} (code : Code S) (m : Machine S) (keeps : Bool) (outcome : Outcome) : Type 0 where
+  pub events : List Event
+  pub last : OrdinaryState S
+  pub kept : outcome.events ≡ (if keeps then Some events else None)
+  pub leads : Leads code m.now events last
+  pub lines : outcome.lines ≡ m.now.lines ++ printed events
+  pub ends : AreEnds last outcome.ends
+
+abbrev pub RunsAreExecutions : {S : Type 0} → Code S → Type 0
+RunsAreExecutions {S} code = (m : Machine S) (schedule : Schedule) (limits : Limits) (keeps : Bool) (outcome : Outcome)
+    → m.silents ≡ (λ _. 0) → IsOutcome code m schedule limits keeps outcome → IsExecuted code m keeps outcome
+
+-- Where a run is stuck and no thread is at its code's end without having ended, some events are an execution that ends
+-- stuck, and print the outcome's lines.
+abbrev pub StuckRunsAreStuck : {S : Type 0} → Code S → Type 0
+StuckRunsAreStuck {S} code = (m : Machine S) (schedule : Schedule) (limits : Limits) (keeps : Bool) (outcome : Outcome) (ran : IsOutcome code m schedule limits keeps outcome)
+    → m.silents ≡ (λ _. 0) → outcome.how ≡ Stuck → ((t : ℕ) → HasHalted code ran.last.state.machine t → ⊥)
+    → (events : List Event) × EndsStuck code m.now events × (outcome.lines ≡ m.now.lines ++ printed events)

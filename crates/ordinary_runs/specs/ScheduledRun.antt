@@ -1,0 +1,67 @@
+-- A run of the ordinary machine that follows a schedule, and its outcome.
+use Rattle.std.specs.Prelude.{◌≡◌, ℕ, zero, suc, ◌<◌, ◌≤◌, Bool, None, Some, Option, List, [], map, length, All, if◌then◌else◌}
+use Rattle.op_core.specs.declared.Limits.{Limits}
+use Rattle.op_core.specs.declared.How.{How}
+use Rattle.op_core.specs.declared.ThreadEnd.{ThreadEnd}
+use Rattle.op_core.specs.declared.Outcome.{Outcome}
+use Rattle.op_core.specs.ThreadCode.{Code}
+use Rattle.op_core.specs.OrdinaryState.{OrdinaryState, ended, HasEnded}
+use Rattle.schedules.specs.declared.order.OrderItem.{OrderItem}
+use Rattle.schedules.specs.declared.order.OrderItem.TheVariants.{Turns, Until}
+use Rattle.schedules.specs.declared.order.TurnEnd.TheVariants.{Other}
+use Rattle.schedules.specs.declared.order.Schedule.{Schedule}
+use Rattle.schedules.specs.Schedule.{order_after}
+use Rattle.schedules.specs.Run.{AreThose, Run, Follows, EndsBy, Goes}
+use Rattle.ordinary_machine.specs.Machine.{Machine}
+use Rattle.ordinary_runs.specs.declared.run.ScheduledRun.{ScheduledRun}
+use Rattle.ordinary_runs.specs.Turns.{Progress, machine_turns, progress_of}
+
+-- at the beginning of a schedule no turn has counted, and no step was made; `keeps` tells whether steps are kept
+abbrev pub begun_with : {S : Type 0} → Machine S → Schedule → Bool → Run (Progress S)
+begun_with m schedule keeps = record {
+  state = record { machine = m; counted = λ _. 0; events = if keeps then Some [] else None };
+  rest = record { order = schedule.order; number = schedule.seed };
+}
+
+-- how the threads ended that have ended, by rising number
+pub record AreEnds {S : Type 0} (s : OrdinaryState S) (ends : List ThreadEnd) : Type 0 where
+  pub threads : AreThose (λ t. HasEnded (s.threads t)) (map (λ end. end.thread) ends)
+  pub classes : All (λ end. s.threads end.thread ≡ ended end.class) ends
+
+-- What comes of a machine that follows a schedule under limits: the turns of some threads lead to the run's last state,
+-- where it ends as the outcome says. No section is opened on this machine.
+pub record IsOutcome {S : Type 0} (code : Code S) (m : Machine S) (schedule : Schedule) (limits : Limits) (keeps : Bool) (outcome : Outcome) : Type 0 where
+  pub threads : List ℕ
+  pub last : Run (Progress S)
+  pub goes : Goes (machine_turns code limits) (begun_with m schedule keeps) threads outcome.how last
+  pub lines : outcome.lines ≡ last.state.machine.now.lines
+  pub ends : AreEnds last.state.machine.now outcome.ends
+  pub opened : outcome.opened ≡ 0
+  pub undone : outcome.undone ≡ 0
+  pub events : outcome.events ≡ last.state.events
+
+-- where a run stands
+abbrev pub run_of : {C S : Type 0} → (C → S) → ScheduledRun C → Run (Progress S)
+run_of state run = record { state = progress_of state run.turns; rest = run.rest }
+
+-- the item has at least so many turns to give
+abbrev pub CanGive : ℕ → OrderItem → Type 0
+CanGive k (Turns t n) = k ≤ n
+CanGive k (Until t kind) = Unit {0}
+
+-- what is left of an order behind so many turns of its first item that came to nothing it asks for
+abbrev pub order_behind : ℕ → List OrderItem → List OrderItem
+order_behind zero order = order
+order_behind (suc n) order = order_after (order_behind n order) Other
+
+-- one or more turns of threads whose numbers are below 256 lead from one run to the other
+pub record GoesOn {S : Type 0} (code : Code S) (limits : Limits) (run next : Run (Progress S)) : Type 0 where
+  pub threads : List ℕ
+  pub some : 0 < length threads
+  pub numbers : All (λ t. t < 256) threads
+  pub follows : Follows (machine_turns code limits) run threads next
+
+-- a run goes on; or it ends in this way, and its state stays
+abbrev pub GoesOnOrEnds : {S : Type 0} → Code S → Limits → Run (Progress S) → Option How → Run (Progress S) → Type 0
+GoesOnOrEnds code limits run None next = GoesOn code limits run next
+GoesOnOrEnds code limits run (Some how) next = EndsBy (machine_turns code limits) run how × (next.state ≡ run.state)

@@ -1,0 +1,21 @@
+//! Laws of scheduled runs for all thread codes, each as the contract of a function with no parameters and an empty
+//! body, for the crates above to cite.
+
+ghost use Rattle.ordinary_runs.specs.Laws.{RunsHaveOneOutcome, RunsAreExecutions, StuckRunsAreStuck};
+
+use op_core::ThreadCode;
+
+/// A machine that follows a schedule under limits has one outcome.
+pub fn runs_have_one_outcome<C: ThreadCode>()
+    ensures { RunsHaveOneOutcome C.code }
+{}
+
+/// The outcome of a run is that of an execution.
+pub fn runs_are_executions<C: ThreadCode>()
+    ensures { RunsAreExecutions C.code }
+{}
+
+/// A stuck run is a stuck execution, but for threads that are at their code's end and haven't ended.
+pub fn stuck_runs_are_stuck<C: ThreadCode>()
+    ensures { StuckRunsAreStuck C.code }
+{}

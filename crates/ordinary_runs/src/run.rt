@@ -1,0 +1,152 @@
+ghost use Rattle.std.specs.Prelude.{◌≡◌, IfOk, IfSome, Some, None, [], slice_get, if◌then◌else◌};
+ghost use Rattle.std.specs.Option.{option_map};
+ghost use Rattle.schedules.specs.Schedule.{thread_of};
+ghost use Rattle.schedules.specs.Run.{due_of};
+ghost use Rattle.ordinary_machine.specs.Machine.{machine_of};
+ghost use Rattle.ordinary_runs.specs.Turns.{machine_turns};
+ghost use Rattle.ordinary_runs.specs.ScheduledRun.{begun_with, IsOutcome, run_of, CanGive, order_behind, GoesOnOrEnds};
+
+use crate::turns::CountedMachine;
+use op_core::{Event, How, Limits, NoMemory, Outcome, Rows, ThreadCode};
+use ordinary_machine::Ordinary;
+use schedules::{OrderItem, Remaining, Schedule, TurnEnd, pick};
+use std::alloc::Global;
+
+/// A machine that follows a schedule. Contracts see where the run stands, by `run_of`.
+#[derive(Drop)]
+pub(crate) struct ScheduledRun<'a, C> {
+    turns: CountedMachine<C>,
+    rest: Remaining<'a>,
+    // room to list the enabled threads
+    enabled: Vec<u8>,
+}
+
+// No events yet, if they are to be kept.
+fn no_events(alloc: Global, keeps: bool) -> Option<Rows<Event>>
+    ensures { result ≡ (if keeps then Some [] else None) }
+{
+    if keeps { Some(Rows::new(alloc)) } else { None }
+}
+
+// How many turns an item gives at most.
+fn most_turns(item: Option<OrderItem>) -> u64
+    ensures { IfSome item (CanGive result) }
+{
+    match item {
+        Some(OrderItem::Turns(_, count)) => count as u64,
+        Some(OrderItem::Until(_, _)) => u64::MAX,
+        None => 0,
+    }
+}
+
+// How many silent turns at most a picked thread gets at once: none where a number is drawn for each turn.
+fn most_picked(drawn: Option<u64>) -> u64
+    ensures { IfSome drawn (λ _. result ≡ 0) }
+{
+    match drawn {
+        Some(_) => 0,
+        None => u64::MAX,
+    }
+}
+
+// Takes off the order what so many turns of its first item use up that came to nothing it asks for.
+fn end_turns(rest: &mut Remaining<'_>, turns: u64)
+    ensures { rest.new ≡ record rest.old { order = order_behind turns rest.old.order } }
+{
+    for _turn in 0..turns {
+        rest.end_turn(TurnEnd::Other);
+    }
+}
+
+impl<'a, C: ThreadCode + Drop> ScheduledRun<'a, C> {
+    fn new(
+        alloc: Global,
+        machine: Ordinary<C>,
+        schedule: &'a Schedule,
+        limits: &Limits,
+        events: bool,
+    ) -> Self
+        ensures limits { result.turns.limits ≡ limits.now }
+        ensures run { run_of C.state result ≡ begun_with (machine_of C.state machine) schedule.now events }
+    {
+        ScheduledRun {
+            turns: CountedMachine::new(machine, limits, no_events(alloc, events)),
+            rest: Remaining::new(schedule),
+            enabled: Vec::new(alloc),
+        }
+    }
+
+    // Gives the thread of the first item, which is due, its next turn, or silent ones at once.
+    fn give_ordered(&mut self, thread: u8) -> Result<Option<How>, NoMemory>
+        requires due { due_of (machine_turns C.code self.old.turns.limits) (run_of C.state self.old) ≡ self.old.rest }
+        requires thread { Some thread ≡ option_map thread_of (slice_get self.old.rest.order 0) }
+        ensures limits { self.new.turns.limits ≡ self.old.turns.limits }
+        ensures goes { IfOk result (λ how. GoesOnOrEnds C.code self.old.turns.limits (run_of C.state self.old) how (run_of C.state self.new)) }
+    {
+        let made = self.turns.run_silent(thread, most_turns(self.rest.first()));
+        if made > 0 {
+            end_turns(&mut self.rest, made);
+            return Ok(None);
+        }
+        match self.turns.turn(thread)? {
+            TurnEnd::Spent(limit) => Ok(Some(How::Limit(thread, limit))),
+            end => {
+                self.rest.end_turn(end);
+                Ok(None)
+            }
+        }
+    }
+
+    // Where the order is through, gives the thread that is picked its next turn, or silent ones at once where no
+    // number is drawn for each.
+    fn give_picked(&mut self) -> Result<Option<How>, NoMemory>
+        requires { self.old.rest.order ≡ [] }
+        ensures limits { self.new.turns.limits ≡ self.old.turns.limits }
+        ensures goes { IfOk result (λ how. GoesOnOrEnds C.code self.old.turns.limits (run_of C.state self.old) how (run_of C.state self.new)) }
+    {
+        let drawn = self.rest.draw();
+        self.turns.list_enabled(&mut self.enabled)?;
+        let Some(thread) = pick(self.enabled.as_slice(), drawn) else {
+            return Ok(Some(self.turns.end()));
+        };
+        if self.turns.run_silent(thread, most_picked(drawn)) > 0 {
+            return Ok(None);
+        }
+        match self.turns.turn(thread)? {
+            TurnEnd::Spent(limit) => Ok(Some(How::Limit(thread, limit))),
+            _ => Ok(None),
+        }
+    }
+
+    // Goes on by one turn or more, or says how the run ends.
+    fn go_on(&mut self) -> Result<Option<How>, NoMemory>
+        ensures limits { self.new.turns.limits ≡ self.old.turns.limits }
+        ensures goes { IfOk result (λ how. GoesOnOrEnds C.code self.old.turns.limits (run_of C.state self.old) how (run_of C.state self.new)) }
+    {
+        match self.rest.due(&self.turns) {
+            Some(thread) => self.give_ordered(thread),
+            None => self.give_picked(),
+        }
+    }
+}
+
+/// Gives the machine's threads turns as the schedule says, under limits, until the run ends, and says what came of it.
+/// An item `Until` gives turns until its thread has to wait or comes to its end, since no step of this machine has a
+/// kind. `limits.sections` says nothing here. The outcome has the events where they are asked for.
+pub fn run_picks<C: ThreadCode + Drop>(
+    alloc: Global,
+    machine: Ordinary<C>,
+    schedule: &Schedule,
+    limits: &Limits,
+    events: bool,
+) -> Result<Outcome, NoMemory>
+    ensures { IfOk result (λ outcome. IsOutcome C.code (machine_of C.state machine) schedule.now limits.now events outcome) }
+{
+    let mut run = ScheduledRun::new(alloc, machine, schedule, limits, events);
+    loop {
+        if let Some(how) = run.go_on()? {
+            let ScheduledRun { turns, .. } = run;
+            return turns.into_outcome(alloc, how);
+        }
+    }
+}
