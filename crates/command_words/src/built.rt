@@ -1,21 +1,37 @@
 //! What is built of the grammar.
 
 ghost use Rattle.std.specs.Prelude.{◌≡◌, None, Some, IfOk, true, map, string_bytes};
+ghost use Rattle.std.specs.List.{list_all};
 ghost use Rattle.command_words.specs.Built as built;
 
 use crate::request::Request;
 use crate::words::{WordsRefusal, request_of};
+use schedules::OrderItem;
 use std::alloc::Global;
+
+fn gives_turns(item: &OrderItem) -> bool
+    ensures { result ≡ built.gives_turns item.now }
+{
+    match item {
+        OrderItem::Turns(..) => true,
+        OrderItem::Until(..) => false,
+    }
+}
+
+fn is_order_built(order: &[OrderItem]) -> bool
+    ensures { result ≡ list_all built.gives_turns order.now }
+{
+    order.iter().all(|item| gives_turns(item))
+}
 
 fn is_built(request: &Request) -> bool
     ensures { result ≡ built.is_built request.now }
 {
     match request {
-        Request::Pick { .. }
-        | Request::Load { .. }
-        | Request::Make
-        | Request::Help
-        | Request::Version => true,
+        Request::Pick {
+            schedule, counts, ..
+        } => !*counts && is_order_built(schedule.order.as_slice()),
+        Request::Load { .. } | Request::Make | Request::Help | Request::Version => true,
         Request::Trace { .. }
         | Request::Run { .. }
         | Request::Check { .. }
@@ -23,26 +39,17 @@ fn is_built(request: &Request) -> bool
     }
 }
 
-fn has_options(words: &[String]) -> bool
-    ensures { result ≡ built.has_options (map string_bytes words.now) }
-{
-    words.len() > 3
-}
-
-/// What the words of the command line, without the program's name, ask for, where it is carried out: `pick`, `load`, both
-/// without options, `make`, `--help` and `--version`.
+/// What the words of the command line, without the program's name, ask for, where it is carried out: `pick` without
+/// `--counts` and without items `T@K` in its order, `load`, `make`, `--help` and `--version`.
 ///
 /// # Errors
-/// `Usage` exactly where the words are none of a command, or of one that isn't carried out yet, or have an option.
+/// `Usage` exactly where the words are none of a command, or ask for what isn't carried out yet.
 /// `NoMemory` may come anywhere.
 pub fn words_of(alloc: Global, words: &[String]) -> Result<Request, WordsRefusal>
     ensures found { IfOk result (λ request. built.built_request (map string_bytes words.now) ≡ Some request) }
     ensures built { IfOk result (λ request. built.is_built request ≡ true) }
     ensures usage { result ≡ Err WordsRefusal.Usage → built.built_request (map string_bytes words.now) ≡ None }
 {
-    if has_options(words) {
-        return Err(WordsRefusal::Usage);
-    }
     let request = request_of(alloc, words)?;
     if is_built(&request) {
         Ok(request)

@@ -1,0 +1,52 @@
+-- What a program's execution answers.
+use Rattle.std.specs.Prelude.{◌≡◌, ℕ, false, List, [], ◌∷◌, ◌++◌, map, filter_map, codes}
+use Rattle.code_decode.specs.declared.code.ClassUnit.{ClassUnit}
+use Rattle.op_core.specs.declared.How.{How}
+use Rattle.op_core.specs.declared.How.TheVariants as how
+use Rattle.op_core.specs.declared.Limits.{Limits}
+use Rattle.op_core.specs.declared.Outcome.{Outcome}
+use Rattle.schedules.specs.declared.order.Schedule.{Schedule}
+use Rattle.ordinary_machine.specs.Machine.{Machine}
+use Rattle.ordinary_machine.specs.Start.{start_of}
+use Rattle.ordinary_runs.specs.ScheduledRun.{IsOutcome}
+use Rattle.ordinary_runs.specs.Laws.{IsExecuted}
+use Rattle.program_accept.specs.Accepted.{Accepted}
+use Rattle.program_answers.specs.declared.status.Status.{Status}
+use Rattle.program_answers.specs.declared.status.Status.TheVariants as statuses
+use Rattle.program_answers.specs.declared.answer.Answer.{Answer}
+use Rattle.program_answers.specs.Written.{line}
+use Rattle.java_rows.specs.Start.{opening_of}
+use Rattle.java_rows.specs.Thread.{Local, first_state, java_code}
+use Rattle.java_machine.specs.Texts.{line_bytes_of, died_line_of, limit_line_of}
+
+abbrev pub status_of : How → Status
+status_of how.Done = statuses.Done
+status_of how.Died = statuses.Died
+status_of how.Stuck = statuses.Stuck
+status_of (how.Limit t limit) = statuses.Limit
+
+-- why it didn't end of itself
+abbrev pub how_lines : How → List (List ℕ)
+how_lines how.Stuck = line (codes "stuck") ∷ []
+how_lines (how.Limit t limit) = limit_line_of t limit ∷ []
+how_lines _ = []
+
+-- the printed lines; on the standard error the threads that died, by number, and then why it didn't end of itself
+abbrev pub answer_of : List ClassUnit → Outcome → Answer
+answer_of us outcome = record {
+  status = status_of outcome.how;
+  out = map (line_bytes_of us) outcome.lines;
+  err = filter_map (died_line_of us) outcome.ends ++ how_lines outcome.how;
+}
+
+-- the machine at the program's start
+abbrev pub machine_at_start : Accepted → Machine Local
+machine_at_start program = start_of (opening_of program.units) (first_state program.units program.main)
+
+-- The answer is that of a run of the program which follows a schedule under limits. The run is an execution of the
+-- program: some events lead from its start, print the lines, and leave the threads ended as the answer says.
+pub record IsRunOf (program : Accepted) (schedule : Schedule) (limits : Limits) (answer : Answer) : Type 0 where
+  pub outcome : Outcome
+  pub ran : IsOutcome java_code (machine_at_start program) schedule limits false outcome
+  pub executed : IsExecuted java_code (machine_at_start program) false outcome
+  pub answered : answer ≡ answer_of program.units outcome

@@ -1,0 +1,73 @@
+//! The answer of a run.
+
+ghost use Rattle.std.specs.Prelude.{◌≡◌, ◌++◌, IfOk, OnOk, OnErr, map, filter_map};
+ghost use Rattle.java_machine.specs.Texts.{line_bytes_of, died_line_of};
+ghost use Rattle.java_run.specs.Run as spec;
+
+use java_machine::{died_line, limit_line, line_bytes};
+use linker::World;
+use op_core::{How, Line, NoMemory, Outcome, ThreadEnd};
+use program_answers::{Answer, Status};
+use rows::{Bytes, Rows};
+use std::alloc::Global;
+
+fn status_of(how: How) -> Status
+    ensures { result ≡ spec.status_of how }
+{
+    match how {
+        How::Done => Status::Done,
+        How::Died => Status::Died,
+        How::Stuck => Status::Stuck,
+        How::Limit(..) => Status::Limit,
+    }
+}
+
+// The bytes of the printed lines.
+fn printed(alloc: Global, world: &World, lines: &[Line]) -> Result<Rows<Bytes>, NoMemory>
+    ensures { IfOk result (λ out. out ≡ map (line_bytes_of world.now) lines.now) }
+{
+    let mut out = Rows::new(alloc);
+    for line in lines {
+        out.push(line_bytes(alloc, world, *line)?)?;
+    }
+    Ok(out)
+}
+
+// The lines of the threads that died.
+fn died(alloc: Global, world: &World, ends: &[ThreadEnd]) -> Result<Rows<Bytes>, NoMemory>
+    ensures { IfOk result (λ err. err ≡ filter_map (died_line_of world.now) ends.now) }
+{
+    let mut err = Rows::new(alloc);
+    for end in ends {
+        if let Some(line) = died_line(alloc, world, *end)? {
+            err.push(line)?;
+        }
+    }
+    Ok(err)
+}
+
+// Why the run didn't end of itself.
+fn push_how(alloc: Global, err: &mut Rows<Bytes>, how: How) -> Result<(), NoMemory>
+    ensures { OnOk result (err.new ≡ err.old ++ spec.how_lines how) }
+{
+    match how {
+        How::Stuck => err.push(Bytes::from_slice(alloc, b"stuck\n")?)?,
+        How::Limit(thread, limit) => err.push(limit_line(alloc, thread, limit)?)?,
+        How::Done | How::Died => {}
+    }
+    Ok(())
+}
+
+/// The answer of a run that came to this.
+pub fn answer_of(alloc: Global, world: &World, outcome: &Outcome) -> Result<Answer, NoMemory>
+    ensures { IfOk result (λ answer. answer ≡ spec.answer_of world.now outcome.now) }
+{
+    let out = printed(alloc, world, outcome.lines.as_slice())?;
+    let mut err = died(alloc, world, outcome.ends.as_slice())?;
+    push_how(alloc, &mut err, outcome.how)?;
+    Ok(Answer {
+        status: status_of(outcome.how),
+        out,
+        err,
+    })
+}
