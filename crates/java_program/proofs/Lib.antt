@@ -1,0 +1,5 @@
+pub mod OperandLaws
+pub mod ClassLaws
+pub mod FieldLaws
+pub mod LiteralLaws
+pub mod ChainLaws
