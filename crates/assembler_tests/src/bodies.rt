@@ -1,7 +1,7 @@
-use assembly_lines::Room;
-use assembly_text::{Numbered, lines_of};
-use method_make::{Body, BodyRefusal, Entry, Labels, Mark, index_of};
-use pool_make::PoolMaker;
+use assembler_bodies::{Body, BodyRefusal, Entry, Labels, Mark, index_of};
+use assembler_lines::Room;
+use assembler_pool::PoolMaker;
+use assembler_text::{Numbered, lines_of};
 use rows::Rows;
 use std::alloc::Global;
 

@@ -1,4 +1,4 @@
-use assembly_lines::{FieldValue, Line, LineRefusal, Operands, Operation, line_of};
+use assembler_lines::{FieldValue, Line, LineRefusal, Operands, Operation, line_of};
 
 #[test]
 fn a_field_says_its_value(rt: HostRuntime) {

@@ -1,5 +1,5 @@
+use assembler_pool::{PoolMaker, PoolRefusal};
 use class_walk::Constant;
-use pool_make::{PoolMaker, PoolRefusal};
 
 /// The kind of an entry, its text, and the indices that it names.
 type Entry<'a> = (char, &'a [u8], u16, u16);

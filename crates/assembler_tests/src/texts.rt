@@ -1,4 +1,4 @@
-use assembly_text::{Numbered, lines_of};
+use assembler_text::{Numbered, lines_of};
 use std::alloc::Global;
 
 /// A text, its lines by their numbers with whether they say something, and the number behind the last.

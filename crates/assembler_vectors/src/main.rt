@@ -2,7 +2,7 @@
 //! is refused, and of a list of lines, whose name ends in `.lines`, how many say something.
 #![tactic(auto)]
 
-use assembly_text::lines_of;
+use assembler_text::lines_of;
 use class_make::{MakeRefusal, assemble};
 use std::env;
 use std::fs::File;

@@ -3,10 +3,10 @@ use Rattle.std.proofs.Common.{◌≡◌, ℕ, List, [], ◌∷◌, Some, Result,
 use Rattle.class_walk.specs.declared.class.Constant.{Constant}
 use Rattle.class_walk.specs.declared.class.RawClass.{RawClass}
 use Rattle.class_walk.specs.Layout.{spelling}
-use Rattle.assembly_text.specs.declared.lines.Numbered.{Numbered}
-use Rattle.method_make.specs.declared.refusal.BodyRefusal.{BodyRefusal}
-use Rattle.method_make.specs.declared.refusal.BodyRefusal.TheVariants.{Refused, NoMemory}
-use Rattle.method_make.specs.Making.{Fails}
+use Rattle.assembler_text.specs.declared.lines.Numbered.{Numbered}
+use Rattle.assembler_bodies.specs.declared.refusal.BodyRefusal.{BodyRefusal}
+use Rattle.assembler_bodies.specs.declared.refusal.BodyRefusal.TheVariants.{Refused, NoMemory}
+use Rattle.assembler_bodies.specs.Making.{Fails}
 use Rattle.class_make.specs.Class.{State, step}
 use Rattle.class_make.specs.Assembly.{assembled_from, finished, refusal_at, Answers}
 

@@ -1,8 +1,8 @@
 -- What a text is assembled to is one thing.
 use Rattle.std.proofs.Common.{◌≡◌, ℕ, List, Result, sym, ap, ◌∙◌, subst}
-use Rattle.assembly_text.specs.declared.lines.TextLines.{TextLines}
-use Rattle.assembly_text.specs.TextLines.{AreLinesOf}
-use Rattle.assembly_text.proofs.OneLaws.{one_text}
+use Rattle.assembler_text.specs.declared.lines.TextLines.{TextLines}
+use Rattle.assembler_text.specs.TextLines.{AreLinesOf}
+use Rattle.assembler_text.proofs.OneLaws.{one_text}
 use Rattle.class_make.specs.declared.refusal.MakeRefusal.{MakeRefusal}
 use Rattle.class_make.specs.Assembly.{Answers, assembled}
 use Rattle.class_make.specs.Texts.{IsAssembled, front}

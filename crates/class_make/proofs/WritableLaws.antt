@@ -7,9 +7,9 @@ use Rattle.class_walk.specs.declared.class.RawClass.{RawClass}
 use Rattle.class_walk.specs.Layout.{IsCounted}
 use Rattle.class_write.specs.Writable.{IsWritable, IsWritableConstant, IsWritableAttribute}
 use Rattle.class_write.proofs.TableLaws.{class_writable}
-use Rattle.pool_make.specs.Indexed.{IsMade}
-use Rattle.method_make.specs.Body.{MadeBody, content}
-use Rattle.method_make.proofs.ContentLaws.{content_is}
+use Rattle.assembler_pool.specs.Indexed.{IsMade}
+use Rattle.assembler_bodies.specs.Body.{MadeBody, content}
+use Rattle.assembler_bodies.proofs.ContentLaws.{content_is}
 use Rattle.class_make.specs.Class.{attribute}
 
 -- a class with nothing but its pool

@@ -4,10 +4,10 @@ use Rattle.class_walk.specs.declared.class.Constant.{Constant}
 use Rattle.class_walk.specs.declared.class.Constant.TheVariants.{Gap}
 use Rattle.class_walk.specs.declared.class.RawClass.{RawClass}
 use Rattle.class_walk.specs.Layout.{spelling}
-use Rattle.assembly_text.specs.declared.lines.Numbered.{Numbered}
-use Rattle.method_make.specs.declared.refusal.BodyRefusal.{BodyRefusal}
-use Rattle.method_make.specs.declared.refusal.BodyRefusal.TheVariants as full
-use Rattle.method_make.specs.declared.refusal.BodyRefusal.TheVariants.{Refused}
+use Rattle.assembler_text.specs.declared.lines.Numbered.{Numbered}
+use Rattle.assembler_bodies.specs.declared.refusal.BodyRefusal.{BodyRefusal}
+use Rattle.assembler_bodies.specs.declared.refusal.BodyRefusal.TheVariants as full
+use Rattle.assembler_bodies.specs.declared.refusal.BodyRefusal.TheVariants.{Refused}
 use Rattle.class_make.specs.declared.refusal.MakeRefusal.{MakeRefusal}
 use Rattle.class_make.specs.declared.refusal.MakeRefusal.TheVariants.{Line, NoMemory}
 use Rattle.class_make.specs.Class.{MadeClass, State, before_class, outside, superclass, step}

@@ -3,17 +3,17 @@ use Rattle.std.specs.Prelude.{ℕ, Bool, true, false, ◌&&◌, nat_lt, if◌the
 use Rattle.class_walk.specs.declared.class.RawAttribute.{RawAttribute}
 use Rattle.class_walk.specs.declared.class.RawMember.{RawMember}
 use Rattle.class_walk.specs.Layout.{u2}
-use Rattle.assembly_lines.specs.declared.line.FieldValue.{FieldValue}
-use Rattle.assembly_lines.specs.declared.line.FieldValue.TheVariants as values
-use Rattle.assembly_lines.specs.declared.line.Room.{Room}
-use Rattle.assembly_lines.specs.declared.line.Line.{Line}
-use Rattle.assembly_lines.specs.declared.line.Line.TheVariants.{Class, Super, Implements, Field, Method}
-use Rattle.pool_make.specs.Items.{Item, text, integer, long, class_named, string}
-use Rattle.assembly_text.specs.declared.lines.Numbered.{Numbered}
-use Rattle.method_make.specs.Making.{Making, ◌>>=◌, only, used}
-use Rattle.method_make.specs.Labels.{Marks, marks_in, is_end}
-use Rattle.method_make.specs.Body as bodies
-use Rattle.method_make.specs.Body.{MadeBody, begun, content}
+use Rattle.assembler_lines.specs.declared.line.FieldValue.{FieldValue}
+use Rattle.assembler_lines.specs.declared.line.FieldValue.TheVariants as values
+use Rattle.assembler_lines.specs.declared.line.Room.{Room}
+use Rattle.assembler_lines.specs.declared.line.Line.{Line}
+use Rattle.assembler_lines.specs.declared.line.Line.TheVariants.{Class, Super, Implements, Field, Method}
+use Rattle.assembler_pool.specs.Items.{Item, text, integer, long, class_named, string}
+use Rattle.assembler_text.specs.declared.lines.Numbered.{Numbered}
+use Rattle.assembler_bodies.specs.Making.{Making, ◌>>=◌, only, used}
+use Rattle.assembler_bodies.specs.Labels.{Marks, marks_in, is_end}
+use Rattle.assembler_bodies.specs.Body as bodies
+use Rattle.assembler_bodies.specs.Body.{MadeBody, begun, content}
 
 -- what a class is made to so far
 pub record MadeClass : Type 0 where

@@ -1,5 +1,5 @@
 -- What the states of the code stand for.
-use Rattle.method_make.specs.Marks.{marks_of}
+use Rattle.assembler_bodies.specs.Marks.{marks_of}
 use Rattle.class_make.specs.declared.state.OpenMethod as method
 use Rattle.class_make.specs.declared.state.State as between
 use Rattle.class_make.specs.declared.state.State.TheVariants as states

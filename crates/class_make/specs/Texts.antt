@@ -1,7 +1,7 @@
 -- What a text is assembled to.
 use Rattle.std.specs.Prelude.{◌≡◌, ℕ, ◌+◌, List, take, Result}
-use Rattle.assembly_text.specs.declared.lines.TextLines.{TextLines}
-use Rattle.assembly_text.specs.TextLines.{most_bytes, AreLinesOf}
+use Rattle.assembler_text.specs.declared.lines.TextLines.{TextLines}
+use Rattle.assembler_text.specs.TextLines.{most_bytes, AreLinesOf}
 use Rattle.class_make.specs.Assembly.{assembled}
 
 -- What stands behind the first byte that a text may not have is not looked at: the line of that one says nothing.

@@ -4,13 +4,13 @@ ghost use Rattle.std.specs.Prelude.{◌≡◌, [], ◌∷◌, IfOk};
 ghost use Rattle.std.specs.Option.{option_copied};
 ghost use Rattle.class_walk.specs.Layout.{IsCounted};
 ghost use Rattle.class_write.specs.Writable.{IsWritableAttribute};
-ghost use Rattle.method_make.specs.Making.{Gives, used};
+ghost use Rattle.assembler_bodies.specs.Making.{Gives, used};
 ghost use Rattle.class_make.specs.Class.{value_item, attribute, constant_value, class_line, super_line, superclass};
 
-use assembly_lines::FieldValue;
+use assembler_bodies::{BodyRefusal, Entry, index_of};
+use assembler_lines::FieldValue;
+use assembler_pool::PoolMaker;
 use class_walk::{RawAttribute, RawMember};
-use method_make::{BodyRefusal, Entry, index_of};
-use pool_make::PoolMaker;
 use rows::{Bytes, Rows};
 use std::alloc::{AllocError, Global};
 use std::marker::Model;
@@ -123,7 +123,7 @@ pub fn superclass(pool: &mut PoolMaker, known: Option<u16>) -> Result<u16, BodyR
 impl ClassParts {
     ghost use Rattle.std.specs.Prelude.{◌<◌, ◌^◌, length};
     ghost use Rattle.class_write.specs.Writable.{IsWritableMember};
-    ghost use Rattle.method_make.specs.Making.{Finds};
+    ghost use Rattle.assembler_bodies.specs.Making.{Finds};
     ghost use Rattle.class_make.specs.Class.{put_interface, put_field, put_method, interface_line, field_line, method_line, has_place};
 
     /// The class of a class line.

@@ -2,8 +2,8 @@
 
 ghost use Rattle.std.specs.Prelude.{◌≡◌, ◌≤◌, ◌+◌, ℕ, List, Result, Ok, Err, IfOk, length};
 ghost use Rattle.class_write.specs.Writable.{IsWritable};
-ghost use Rattle.assembly_text.specs.TextLines.{most_bytes};
-ghost use Rattle.method_make.specs.Making.{Finds};
+ghost use Rattle.assembler_text.specs.TextLines.{most_bytes};
+ghost use Rattle.assembler_bodies.specs.Making.{Finds};
 ghost use Rattle.class_make.specs.Assembly.{Answers, assembled, finished, refusal_at, spelled};
 ghost use Rattle.class_make.specs.States.{state_of};
 ghost use Rattle.class_make.specs.Texts.{IsAssembled, front};
@@ -12,11 +12,11 @@ ghost use Rattle.class_make.specs.declared.refusal.MakeRefusal.TheVariants as re
 use crate::class::superclass;
 use crate::refusal::MakeRefusal;
 use crate::state::{State, step};
-use assembly_text::{MOST_BYTES, Numbered, lines_of};
+use assembler_bodies::BodyRefusal;
+use assembler_pool::PoolMaker;
+use assembler_text::{MOST_BYTES, Numbered, lines_of};
 use class_walk::RawClass;
 use class_write::write_class;
-use method_make::BodyRefusal;
-use pool_make::PoolMaker;
 use rows::Rows;
 use std::alloc::Global;
 

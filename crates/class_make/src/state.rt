@@ -1,18 +1,18 @@
 //! The lines of a text, one behind the other.
 
 ghost use Rattle.std.specs.Prelude.{◌≡◌};
-ghost use Rattle.method_make.specs.Making.{Gives};
-ghost use Rattle.method_make.specs.Marks.{marks_of};
-ghost use Rattle.method_make.specs.Labels.{marks_in};
+ghost use Rattle.assembler_bodies.specs.Making.{Gives};
+ghost use Rattle.assembler_bodies.specs.Marks.{marks_of};
+ghost use Rattle.assembler_bodies.specs.Labels.{marks_in};
 ghost use Rattle.class_make.specs.Class.{body_line, closed, inside_line, part_line, outside_line, step};
 ghost use Rattle.class_make.specs.States.{method_of, state_of};
 
 use crate::class::{ClassParts, one_attribute, super_line, superclass};
-use assembly_lines::{Line, Room};
-use assembly_text::Numbered;
+use assembler_bodies::{Body, BodyRefusal, Entry, Labels, index_of};
+use assembler_lines::{Line, Room};
+use assembler_pool::PoolMaker;
+use assembler_text::Numbered;
 use class_walk::RawMember;
-use method_make::{Body, BodyRefusal, Entry, Labels, index_of};
-use pool_make::PoolMaker;
 use rows::Bytes;
 use std::alloc::Global;
 

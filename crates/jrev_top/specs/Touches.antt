@@ -1,7 +1,7 @@
 -- What a request touches outside, and how it may end.
 use Rattle.std.specs.Prelude.{ℕ, ◌+◌, List, Bool, true, false, Option, None, Some}
 use Rattle.std.specs.Option.{option_and_then}
-use Rattle.assembly_text.specs.TextLines.{most_bytes}
+use Rattle.assembler_text.specs.TextLines.{most_bytes}
 use Rattle.command_words.specs.declared.request.Request.{Request}
 use Rattle.command_words.specs.declared.request.Request.TheVariants.{Pick, Trace, Run, Check, Load, Make, Stress, Help, Version}
 use Rattle.program_answers.specs.declared.status.Status.{Status}

@@ -1,14 +1,14 @@
 //! `make`.
 
 ghost use Rattle.std.specs.Prelude.{◌≡◌, ◌+◌, ◌<◌, List, ℕ, IfOk, true};
-ghost use Rattle.assembly_text.specs.TextLines.{most_bytes};
+ghost use Rattle.assembler_text.specs.TextLines.{most_bytes};
 ghost use Rattle.program_input.specs.Input.{TakesAtMost, TakesUpTo};
 ghost use Rattle.jrev_top.specs.Answers.{IsMade};
 ghost use Rattle.jrev_top.specs.Headline.{IsText};
 
 use crate::answers::{given, not_made};
 use crate::failure::Failure;
-use assembly_text::MOST_BYTES;
+use assembler_text::MOST_BYTES;
 use class_make::{MakeRefusal, assemble};
 use jr_ports::Source;
 use program_answers::Answer;

@@ -1,0 +1,3 @@
+pub mod WrittenCode
+pub mod BodyMeaning
+pub mod ClassMeaning

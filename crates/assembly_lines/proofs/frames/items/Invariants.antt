@@ -1,8 +1,0 @@
-use Rattle.std.proofs.Common.{◌≡◌, drop}
-use Rattle.assembly_lines.specs.Front.{each}
-use Rattle.assembly_lines.specs.ReadingFrames.{item_of}
-use Rattle.assembly_lines.proofs.EachLaws.{with_front}
-use Rattle.assembly_lines.proofs.frames.items.Given as goal
-
-abbrev pub invariant-loop-said : goal.invariant-loop-said
-invariant-loop-said l = with_front l.items (each item_of (drop l.said-index l.words)) ≡ each item_of l.words

@@ -1,5 +1,0 @@
-use Rattle.assembly_lines.proofs.RowLaws.{no_text_no_row}
-use Rattle.assembly_lines.proofs.operands.row_of.Goals as goal
-
-pub returns-in-Err : goal.returns-in-Err
-returns-in-Err c = no_text_no_row c.args.mnemonic.now c.in-Err.ensures.cases.0

@@ -1,5 +1,0 @@
-use Rattle.assembly_text.proofs.OneLaws.{one_line}
-use Rattle.assembly_text.proofs.laws.bytes_are_one_line.Goals as goal
-
-pub returns : goal.returns
-returns c = one_line

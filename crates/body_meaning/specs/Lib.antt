@@ -1,4 +1,0 @@
-pub mod Parts
-pub mod Instructions
-pub mod Tables
-pub mod Body

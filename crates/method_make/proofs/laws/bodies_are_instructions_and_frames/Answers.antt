@@ -1,5 +1,0 @@
-use Rattle.method_make.proofs.MadeOfLaws.{body_made}
-use Rattle.method_make.proofs.laws.bodies_are_instructions_and_frames.Goals as goal
-
-pub returns : goal.returns
-returns c = λ marks room lines body pool after e. body_made marks room lines pool (after, body) e

@@ -1,5 +1,0 @@
-use Rattle.pool_make.proofs.ItemLaws.{item_kept}
-use Rattle.pool_make.proofs.laws.entries_are_different.Goals as goal
-
-pub returns : goal.returns
-returns c = λ item. (item_kept item).different

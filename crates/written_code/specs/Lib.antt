@@ -1,2 +1,0 @@
-pub mod Suits
-pub mod Frames
