@@ -29,7 +29,9 @@ fn is_built(request: &Request) -> bool
 {
     match request {
         Request::Pick {
-            schedule, counts, ..
+            schedule,
+            counts,
+            ..
         } => !*counts && is_order_built(schedule.order.as_slice()),
         Request::Load { .. } | Request::Make | Request::Help | Request::Version => true,
         Request::Trace { .. }

@@ -17,7 +17,8 @@ use Rattle.program_answers.specs.declared.answer.Answer.{Answer}
 use Rattle.program_answers.specs.Written.{line}
 use Rattle.java_rows.specs.Start.{opening_of}
 use Rattle.java_rows.specs.Thread.{Local, first_state, java_code}
-use Rattle.java_machine.specs.Texts.{line_bytes_of, died_line_of, limit_line_of}
+use Rattle.java_machine.specs.Ends.{died_line, limit_line}
+use Rattle.java_machine.specs.Lines.{line_bytes}
 
 abbrev pub status_of : How → Status
 status_of how.Done = statuses.Done
@@ -28,15 +29,15 @@ status_of (how.Limit t limit) = statuses.Limit
 -- why it didn't end of itself
 abbrev pub how_lines : How → List (List ℕ)
 how_lines how.Stuck = line (codes "stuck") ∷ []
-how_lines (how.Limit t limit) = limit_line_of t limit ∷ []
+how_lines (how.Limit t limit) = limit_line limit t ∷ []
 how_lines _ = []
 
 -- the printed lines; on the standard error the threads that died, by number, and then why it didn't end of itself
 abbrev pub answer_of : List ClassUnit → Outcome → Answer
 answer_of us outcome = record {
   status = status_of outcome.how;
-  out = map (line_bytes_of us) outcome.lines;
-  err = filter_map (died_line_of us) outcome.ends ++ how_lines outcome.how;
+  out = map (line_bytes us) outcome.lines;
+  err = filter_map (died_line us) outcome.ends ++ how_lines outcome.how;
 }
 
 -- the machine at the program's start

@@ -1,7 +1,8 @@
 //! The answer of a run.
 
-ghost use Rattle.std.specs.Prelude.{◌≡◌, ◌++◌, IfOk, OnOk, OnErr, map, filter_map};
-ghost use Rattle.java_machine.specs.Texts.{line_bytes_of, died_line_of};
+ghost use Rattle.std.specs.Prelude.{◌≡◌, ◌∷◌, [], ◌++◌, IfOk, OnOk, map, filter_map};
+ghost use Rattle.java_machine.specs.Ends as ends;
+ghost use Rattle.java_machine.specs.Lines as lines;
 ghost use Rattle.java_run.specs.Run as spec;
 
 use java_machine::{died_line, limit_line, line_bytes};
@@ -23,25 +24,42 @@ fn status_of(how: How) -> Status
 }
 
 // The bytes of the printed lines.
-fn printed(alloc: Global, world: &World, lines: &[Line]) -> Result<Rows<Bytes>, NoMemory>
-    ensures { IfOk result (λ out. out ≡ map (line_bytes_of world.now) lines.now) }
+fn printed(alloc: Global, world: &World, printed: &[Line]) -> Result<Rows<Bytes>, NoMemory>
+    ensures { IfOk result (λ out. out ≡ map (lines.line_bytes world.now) printed.now) }
 {
     let mut out = Rows::new(alloc);
-    for line in lines {
+    for line in printed {
         out.push(line_bytes(alloc, world, *line)?)?;
     }
     Ok(out)
 }
 
+// The line of a thread, if it died.
+fn push_died(
+    alloc: Global,
+    world: &World,
+    err: &mut Rows<Bytes>,
+    end: ThreadEnd,
+) -> Result<(), NoMemory>
+    ensures { OnOk result (err.new ≡ err.old ++ filter_map (ends.died_line world.now) (end ∷ [])) }
+{
+    match died_line(alloc, world, end)? {
+        Some(line) => {
+            err.push(line)?;
+            Ok(())
+        }
+        None => Ok(()),
+    }
+}
+
 // The lines of the threads that died.
-fn died(alloc: Global, world: &World, ends: &[ThreadEnd]) -> Result<Rows<Bytes>, NoMemory>
-    ensures { IfOk result (λ err. err ≡ filter_map (died_line_of world.now) ends.now) }
+#[tactic(auto, using(crate::proofs::AnswerLemmas::item_more))]
+fn died(alloc: Global, world: &World, ended: &[ThreadEnd]) -> Result<Rows<Bytes>, NoMemory>
+    ensures { IfOk result (λ err. err ≡ filter_map (ends.died_line world.now) ended.now) }
 {
     let mut err = Rows::new(alloc);
-    for end in ends {
-        if let Some(line) = died_line(alloc, world, *end)? {
-            err.push(line)?;
-        }
+    for end in ended {
+        push_died(alloc, world, &mut err, *end)?;
     }
     Ok(err)
 }
@@ -52,7 +70,7 @@ fn push_how(alloc: Global, err: &mut Rows<Bytes>, how: How) -> Result<(), NoMemo
 {
     match how {
         How::Stuck => err.push(Bytes::from_slice(alloc, b"stuck\n")?)?,
-        How::Limit(thread, limit) => err.push(limit_line(alloc, thread, limit)?)?,
+        How::Limit(thread, limit) => err.push(limit_line(alloc, limit, thread)?)?,
         How::Done | How::Died => {}
     }
     Ok(())

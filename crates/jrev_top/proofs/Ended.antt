@@ -1,14 +1,20 @@
 -- How a run may end.
-use Rattle.std.proofs.Common.{◌≡◌, inl, inr, ℕ, List, [], ◌∷◌, Bool, true, Option, None, Some, refl, sym, ◌∙◌, ap, subst, codes}
+use Rattle.std.proofs.Common.{◌≡◌, inl, inr, ℕ, List, [], ◌∷◌, ◌||◌, length, Bool, true, false, Option, None, Some, refl, sym, ◌∙◌, ap, subst, codes}
 use Rattle.std.specs.Prelude.{◌⊎◌}
+use Rattle.op_core.specs.declared.How.{How}
+use Rattle.op_core.specs.declared.How.TheVariants as how
+use Rattle.op_core.specs.declared.Limits.{Limits}
+use Rattle.schedules.specs.declared.order.Schedule.{Schedule}
+use Rattle.java_run.specs.Run.{status_of}
+use Rattle.program_accept.specs.Accepted.{Accepted}
 use Rattle.command_words.specs.declared.request.Request.{Request}
 use Rattle.command_words.specs.declared.request.Request.TheVariants.{Pick, Trace, Run, Check, Load, Make, Stress, Help, Version}
 use Rattle.program_answers.specs.declared.status.Status.{Status}
 use Rattle.program_answers.specs.declared.status.Status.TheVariants as statuses
 use Rattle.program_answers.specs.declared.answer.Answer.{Answer}
 use Rattle.program_answers.specs.Written.{line, SinkRun, Streams, Said, Comes}
-use Rattle.jrev_top.specs.Answers.{IsExecuted, IsPicked, IsJudged, IsMade}
-use Rattle.jrev_top.specs.Touches.{may_end, is_of_program, is_of_text, is_done}
+use Rattle.jrev_top.specs.Answers.{IsJudged, Counts, Runs, IsMade}
+use Rattle.jrev_top.specs.Touches.{may_end, is_of_program, is_of_run, is_of_text, is_done}
 use Rattle.jrev_top.specs.Headline.{Outside, IsAnswerTo, IsAnswer, Ends}
 
 -- what holds of the status that is meant, and of those of failures, holds of the one that comes
@@ -28,28 +34,40 @@ comes P answer streams status is out err memory (inr (inr none)) = said P (line 
 ends-as : (test : Status → Bool) (answer known : Answer) → answer ≡ known → test known.status ≡ true → test answer.status ≡ true
 ends-as test answer known same is = ap (λ (a : Answer). test a.status) same ∙ is
 
-executed : (main file bytes : List ℕ) (answer : Answer) → IsExecuted main file bytes answer → is_of_program answer.status ≡ true
-executed main file bytes answer (inl prints) = ends-as is_of_program answer _ prints.2 refl
-executed main file bytes answer (inr (inl other)) = ends-as is_of_program answer _ other.1 refl
-executed main file bytes answer (inr (inr not)) = ends-as is_of_program answer _ not.1 refl
+of_how : (how : How) → is_of_run (status_of how) ≡ true
+of_how how.Done = refl
+of_how how.Died = refl
+of_how how.Stuck = refl
+of_how (how.Limit t limit) = refl
 
-picked : (main : List ℕ) (outside : Outside) (names : List (List ℕ)) (answer : Answer) → IsPicked main outside.files names answer → is_of_program answer.status ≡ true
-picked main outside [] answer is = ends-as is_of_program answer _ is refl
-picked main outside (only ∷ []) answer is = executed main only is.0 answer is.2
-picked main outside (first ∷ second ∷ names) answer is = ends-as is_of_program answer _ is refl
+or_right : (a b : Bool) → b ≡ true → a || b ≡ true
+or_right true b is = refl
+or_right false b is = is
 
-judged : (main : List ℕ) (names files : List (List ℕ)) (answer : Answer) → IsJudged main names files answer → is_of_program answer.status ≡ true
-judged main names files answer (inl program) = ends-as is_of_program answer _ program.3 refl
-judged main names files answer (inr (inl none)) = ends-as is_of_program answer _ none.1 refl
-judged main names files answer (inr (inr refusal)) = ends-as is_of_program answer _ refusal.2 refl
+or_left : (a b : Bool) → a ≡ true → a || b ≡ true
+or_left a b is = ap (λ x. x || b) is
+
+ran : (schedule : Schedule) (limits : Limits) (count : ℕ) (program : Accepted) (answer : Answer) → Runs schedule limits count program answer → is_of_run answer.status ≡ true
+ran schedule limits count program answer is = ap (λ (a : Answer). is_of_run a.status) is.answered ∙ of_how is.outcome.how
+
+counted : (main : List ℕ) (names files : List (List ℕ)) (answer : Answer) → IsJudged Counts main names files answer → is_of_program answer.status ≡ true
+counted main names files answer (inl program) = ends-as is_of_program answer _ program.3 refl
+counted main names files answer (inr (inl none)) = ends-as is_of_program answer _ none.1 refl
+counted main names files answer (inr (inr refusal)) = ends-as is_of_program answer _ refusal.2 refl
+
+picked : (schedule : Schedule) (limits : Limits) (main : List ℕ) (names files : List (List ℕ)) (answer : Answer) → IsJudged (Runs schedule limits) main names files answer
+    → is_of_run answer.status || is_of_program answer.status ≡ true
+picked schedule limits main names files answer (inl program) = or_left _ _ (ran schedule limits (length files) program.0 answer program.3)
+picked schedule limits main names files answer (inr (inl none)) = or_right _ _ (ends-as is_of_program answer _ none.1 refl)
+picked schedule limits main names files answer (inr (inr refusal)) = or_right _ _ (ends-as is_of_program answer _ refusal.2 refl)
 
 made : (text : List ℕ) (answer : Answer) → IsMade text answer → is_of_text answer.status ≡ true
 made text answer (inl bytes) = ends-as is_of_text answer _ bytes.2 refl
 made text answer (inr number) = ends-as is_of_text answer _ number.2 refl
 
 request-ends : (request : Request) (outside : Outside) (answer : Answer) → IsAnswerTo request outside answer → may_end request answer.status ≡ true
-request-ends (Pick dir main limits schedule counts) outside answer is = picked main outside is.0 answer is.3
-request-ends (Load dir main) outside answer is = judged main _ is.3.0 answer is.3.2
+request-ends (Pick dir main limits schedule counts) outside answer is = picked schedule limits main _ is.3.0 answer is.3.2
+request-ends (Load dir main) outside answer is = counted main _ is.3.0 answer is.3.2
 request-ends Make outside answer is = made is.0 answer is.2
 request-ends Help outside answer is = ends-as is_done answer _ is refl
 request-ends Version outside answer is = ends-as is_done answer _ is refl

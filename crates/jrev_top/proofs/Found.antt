@@ -1,6 +1,5 @@
 -- What a folder gave, and what was read of it.
-use Rattle.std.proofs.Common.{◌≡◌, inl, inr, ℕ, List, [], ◌∷◌, length, map, take, get_or, String, string_bytes, arith, refl, sym, ◌∙◌, ap, subst, Option, None, Some, IfSome, append-nil}
-use Rattle.std.specs.List.{All}
+use Rattle.std.proofs.Common.{◌≡◌, inl, inr, ℕ, List, [], map, take, String, string_bytes, refl, sym, ◌∙◌, ap, subst, Option, None, Some, IfSome, append-nil}
 use Rattle.std.specs.declared.alloc.Global.{Global}
 use Rattle.std.specs.List.Sorted.{IsPermutation}
 use Rattle.std.proofs.lemmas.List.{take-map}
@@ -42,18 +41,6 @@ order-first most asked files dir sorted before after told front = (
   front.3,
 )
 
--- the only one was read
-pub order-only : (asked : Option Asked) (files : Option (List File)) (dir : List ℕ) (sorted : List (String Global)) (only : String Global) (before after : Option (List (List ℕ)))
-    → Told asked files dir (map string_bytes sorted) → length sorted ≡ 1 → only ≡ get_or sorted 0 only → Gains before after (string_bytes only ∷ []) → ReadsInOrder 1 asked before after
-order-only asked files dir [] only before after told one at gains = absurd (let h = one in omega arith)
-order-only asked files dir (x ∷ []) only before after told one at gains =
-    order-first 1 asked files dir (x ∷ []) before after told (string_bytes x ∷ [], [], refl, let P : String Global → Type 0 = λ s. Gains before after (string_bytes s ∷ []) in subst P at gains)
-order-only asked files dir (x ∷ y ∷ sorted) only before after told one at gains = absurd (let h = one in omega arith)
-
--- what holds of each holds of the only one
-pub of-one : (P : String Global → Type 0) (names : List (String Global)) (only : String Global) → All P names → length names ≡ 1 → only ≡ get_or names 0 only → P only
-of-one P names only all one at = subst P (sym at) (all 0 only (omega (arith, one)))
-
 -- the first 1,025 were read, or the first of these
 pub order-loaded : (asked now : Option Asked) (files : Option (List File)) (dir : List ℕ) (sorted read : List (String Global)) (first before after : Option (List (List ℕ)))
     → Told asked files dir (map string_bytes sorted) → now ≡ asked → before ≡ first → read ≡ take 1025 sorted → ReadsFront (map string_bytes read) before after
@@ -63,13 +50,3 @@ order-loaded asked now files dir sorted read first before after told same none a
     let Read : List (String Global) → Type 0 = λ r. ReadsFront (map string_bytes r) first after in
     let Of : Option Asked → Type 0 = λ a. ReadsInOrder 1025 a first after in
     subst Of (sym same) (order-first 1025 asked files dir sorted first after told (subst Read all (subst From none front)))
-
--- the only one was read
-pub order-read : (asked now : Option Asked) (files : Option (List File)) (dir : List ℕ) (sorted : List (String Global)) (only : String Global) (name : List ℕ) (first before after : Option (List (List ℕ)))
-    → Told asked files dir (map string_bytes sorted) → now ≡ asked → before ≡ first → length sorted ≡ 1 → only ≡ get_or sorted 0 only → name ≡ string_bytes only → Gains before after (name ∷ [])
-    → ReadsInOrder 1 now first after
-order-read asked now files dir sorted only name first before after told same none one at named gains =
-    let From : Option (List (List ℕ)) → Type 0 = λ b. Gains b after (name ∷ []) in
-    let Named : List ℕ → Type 0 = λ n. Gains first after (n ∷ []) in
-    let Of : Option Asked → Type 0 = λ a. ReadsInOrder 1 a first after in
-    subst Of (sym same) (order-only asked files dir sorted only first after told one at (subst Named named (subst From none gains)))

@@ -5,11 +5,12 @@ use Rattle.jr_ports.specs.Stream.{Gains}
 use Rattle.class_make.specs.Texts.{front}
 use Rattle.command_words.specs.declared.request.Request.{Request}
 use Rattle.command_words.specs.declared.request.Request.TheVariants.{Pick, Load, Make, Help, Version}
+use Rattle.program_accept.specs.Accepted.{Accepted}
 use Rattle.program_answers.specs.declared.status.Status.{Status}
 use Rattle.program_answers.specs.declared.status.Status.TheVariants as statuses
 use Rattle.program_answers.specs.declared.answer.Answer.{Answer}
 use Rattle.program_answers.specs.Written.{Streams, Comes, IsReadFault, IsNoMemory}
-use Rattle.jrev_top.specs.Answers.{usage, given, help_text, version_text, executed_files, IsPicked, IsLoaded, IsMade}
+use Rattle.jrev_top.specs.Answers.{usage, given, help_text, version_text, IsDecided, Counts, Runs, IsMade}
 use Rattle.jrev_top.specs.Touches.{folder_named, input_wanted, may_end}
 use Rattle.jrev_top.specs.Folder.{AreListed}
 
@@ -26,14 +27,16 @@ pub record Outside : Type 0 where
 abbrev pub IsText : Option (List ℕ) → List ℕ → Type 0
 IsText input text = IfSome input (λ left. text ≡ front left)
 
--- The answer to a request. All files that it is of were read before it.
+-- The answer of a command over the program of a folder. All files that it is of were read before it.
+abbrev pub IsOfProgram : (ℕ → Accepted → Answer → Type 0) → List ℕ → List ℕ → Outside → Answer → Type 0
+IsOfProgram answers dir main outside answer =
+    (names : List (List ℕ)) × AreListed outside.asked outside.files dir names
+    × Gains outside.before outside.after (take 1025 names) × IsDecided answers main outside.files (take 1025 names) answer
+
+-- The answer to a request.
 abbrev pub IsAnswerTo : Request → Outside → Answer → Type 0
-IsAnswerTo (Pick dir main limits schedule counts) outside answer =
-    (names : List (List ℕ)) × AreListed outside.asked outside.files dir names
-    × Gains outside.before outside.after (executed_files names) × IsPicked main outside.files names answer
-IsAnswerTo (Load dir main) outside answer =
-    (names : List (List ℕ)) × AreListed outside.asked outside.files dir names
-    × Gains outside.before outside.after (take 1025 names) × IsLoaded main outside.files (take 1025 names) answer
+IsAnswerTo (Pick dir main limits schedule counts) outside answer = IsOfProgram (Runs schedule limits) dir main outside answer
+IsAnswerTo (Load dir main) outside answer = IsOfProgram Counts dir main outside answer
 IsAnswerTo Make outside answer = (text : List ℕ) × IsText outside.input text × IsMade text answer
 IsAnswerTo Help outside answer = answer ≡ given help_text
 IsAnswerTo Version outside answer = answer ≡ given version_text

@@ -1,5 +1,5 @@
 -- What a request touches outside, and how it may end.
-use Rattle.std.specs.Prelude.{ℕ, ◌+◌, List, Bool, true, false, Option, None, Some}
+use Rattle.std.specs.Prelude.{ℕ, ◌+◌, ◌||◌, List, Bool, true, false, Option, None, Some}
 use Rattle.std.specs.Option.{option_and_then}
 use Rattle.assembler_text.specs.TextLines.{most_bytes}
 use Rattle.command_words.specs.declared.request.Request.{Request}
@@ -21,7 +21,7 @@ folder_of Version = None
 
 -- How many of its class files are read at most. What isn't carried out yet is said to read none, and nothing of the input.
 abbrev pub files_of : Request → ℕ
-files_of (Pick dir main limits schedule counts) = 1
+files_of (Pick dir main limits schedule counts) = 1025
 files_of (Load dir main) = 1025
 files_of _ = 0
 
@@ -36,6 +36,14 @@ is_of_program statuses.Refused = true
 is_of_program statuses.NoMain = true
 is_of_program _ = false
 
+-- a program that was executed
+abbrev pub is_of_run : Status → Bool
+is_of_run statuses.Done = true
+is_of_run statuses.Died = true
+is_of_run statuses.Stuck = true
+is_of_run statuses.Limit = true
+is_of_run _ = false
+
 abbrev pub is_of_text : Status → Bool
 is_of_text statuses.Done = true
 is_of_text (statuses.MakeRefused line) = true
@@ -47,7 +55,7 @@ is_done _ = false
 
 -- with which statuses its answer ends
 abbrev pub may_end : Request → Status → Bool
-may_end (Pick dir main limits schedule counts) status = is_of_program status
+may_end (Pick dir main limits schedule counts) status = is_of_run status || is_of_program status
 may_end (Load dir main) status = is_of_program status
 may_end Make status = is_of_text status
 may_end Help status = is_done status

@@ -1,7 +1,7 @@
 //! Answers: a status, and lines or bytes.
 
 ghost use Rattle.std.specs.Prelude.{◌≡◌, [], ◌∷◌, List, ℕ, IfOk, OnOk, map, string_bytes, slice_index_or};
-ghost use Rattle.std.specs.Fmt.{decimal, signed_decimal};
+ghost use Rattle.std.specs.Fmt.{decimal};
 ghost use Rattle.program_answers.specs.Written.{line};
 ghost use Rattle.jrev_top.specs.Answers as answers;
 
@@ -94,14 +94,6 @@ fn refusal_words(
     Ok(text)
 }
 
-/// The file isn't executed yet.
-pub(crate) fn not_yet(alloc: Global, file: &[u8]) -> Result<Answer, AllocError>
-    ensures { IfOk result (λ answer. answer ≡ answers.not_yet file.now) }
-{
-    let text = refusal_words(alloc, b"stage", file, 99, 0, 0)?;
-    told(alloc, Status::Refused, text)
-}
-
 fn stage_word(stage: Stage) -> &'static [u8]
     ensures { result.now ≡ answers.stage_word stage }
 {
@@ -159,26 +151,4 @@ pub(crate) fn not_made(alloc: Global, number: u32) -> Result<Answer, AllocError>
     let mut text = Vec::from_slice(alloc, b"make: line ")?;
     text.extend_from_slice(digits.as_bytes())?;
     told(alloc, Status::MakeRefused(number), text)
-}
-
-fn value_line(alloc: Global, value: i32) -> Result<Bytes, AllocError>
-    ensures { IfOk result (λ bytes. bytes ≡ line (signed_decimal value)) }
-{
-    let digits = value.to_string(alloc)?;
-    line_of(digits.into_bytes())
-}
-
-/// Values, each on a line of its own.
-pub(crate) fn prints(alloc: Global, values: &[i32]) -> Result<Answer, AllocError>
-    ensures { IfOk result (λ answer. answer ≡ answers.prints values.now) }
-{
-    let mut out = Rows::new(alloc);
-    for value in values {
-        out.push(value_line(alloc, *value)?)?;
-    }
-    Ok(Answer {
-        status: Status::Done,
-        out,
-        err: Rows::new(alloc),
-    })
 }

@@ -10,10 +10,10 @@ ghost use Rattle.jrev_top.specs.Headline.{AsksOnly, FailsAsked, IsAnswer};
 
 use crate::answers::{given, usage};
 use crate::failure::Failure;
-use crate::loading::load;
+use crate::loading::decide_program;
 use crate::making::make;
-use crate::picking::pick;
 use crate::texts::{help, version};
+use crate::verdict::{Count, Execution};
 use command_words::{Request, WordsRefusal, words_of};
 use jr_ports::{ClassDir, Source};
 use program_answers::Answer;
@@ -62,8 +62,24 @@ pub(crate) fn decide<D: ClassDir, I: Source>(
         (λ most. TakesUpTo most (I.taken input.old) (I.taken input.new)) }
 {
     match words_of(alloc, words) {
-        Ok(Request::Pick { dir, main, .. }) => pick(alloc, dir.as_str(), main.as_bytes(), classes),
-        Ok(Request::Load { dir, main }) => load(alloc, dir.as_str(), main.as_bytes(), classes),
+        Ok(
+            Request::Pick {
+                dir,
+                main,
+                limits,
+                schedule,
+                ..
+            },
+        ) => {
+            let execution = Execution {
+                schedule: &schedule,
+                limits: &limits,
+            };
+            decide_program(alloc, dir.as_str(), main.as_bytes(), classes, &execution)
+        }
+        Ok(Request::Load { dir, main }) => {
+            decide_program(alloc, dir.as_str(), main.as_bytes(), classes, &Count)
+        }
         Ok(Request::Make) => make(alloc, input),
         Ok(Request::Help) => text(alloc, help()),
         Ok(Request::Version) => text(alloc, version()),

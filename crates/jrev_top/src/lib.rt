@@ -6,9 +6,9 @@ mod deciding;
 mod failure;
 mod loading;
 mod making;
-mod picking;
 mod run;
 mod texts;
+mod verdict;
 
 pub use command_words::{Request, WordsRefusal, request_of, words_of};
 pub use program_answers::{Status, say};

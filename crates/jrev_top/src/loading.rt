@@ -1,12 +1,13 @@
-//! `load`: accepting a program.
+//! Commands over the program of a folder.
 
 ghost use Rattle.std.specs.Prelude.{◌≡◌, ◌<◌, List, ℕ, IfOk, IfSome, None, map, take, string_bytes};
 ghost use Rattle.jr_ports.specs.Stream.{Gains};
-ghost use Rattle.jrev_top.specs.Answers.{IsJudged, IsLoaded};
+ghost use Rattle.jrev_top.specs.Answers.{IsJudged, IsDecided};
 ghost use Rattle.jrev_top.specs.Folder.{AreListed, ReadsInOrder};
 
-use crate::answers::{accepted, no_main, refused};
+use crate::answers::{no_main, refused};
 use crate::failure::Failure;
+use crate::verdict::Verdict;
 use jr_ports::ClassDir;
 use program_accept::{AcceptRefusal, accept};
 use program_answers::Answer;
@@ -17,41 +18,44 @@ use std::alloc::Global;
 const MOST_FILES: usize = 1025;
 
 // The answer to class files of these names.
-fn judge(
+fn judge<V: Verdict>(
     alloc: Global,
     names: &[String],
     files: Vec<Vec<u8>>,
     main: &[u8],
+    verdict: &V,
 ) -> Result<Answer, Failure>
     ensures answer { IfOk result (λ answer.
-        IsJudged main.now (map string_bytes names.now) (map (λ f. f.items) files.items) answer) }
+        IsJudged (V.answers verdict.now) main.now (map string_bytes names.now) (map (λ f. f.items) files.items) answer) }
     ensures memory { result ≡ Err Failure.Failed → ⊥ }
 {
     let count = files.len();
-    match accept(alloc, files, main) {
-        Ok(_) => {}
+    let program = match accept(alloc, files, main) {
+        Ok(program) => program,
         Err(AcceptRefusal::NoMain) => return Ok(no_main(alloc)?),
         Err(AcceptRefusal::Refused(refusal)) => return Ok(refused(alloc, names, refusal)?),
         Err(AcceptRefusal::NoMemory) => return Err(Failure::NoMemory),
-    }
-    Ok(accepted(alloc, count)?)
+    };
+    verdict.answer(alloc, count, &program)
 }
 
-/// The answer of `load` to a folder and the name of its main class. All files are read before any is judged.
+/// The answer to a folder and the name of its main class: to its program, the verdict's. All files are read before any is
+/// judged.
 ///
 /// # Errors
 /// `Failed` comes only where the folder's count of faults rose in this call.
-pub(crate) fn load<D: ClassDir>(
+pub(crate) fn decide_program<D: ClassDir, V: Verdict>(
     alloc: Global,
     dir: &str,
     main: &[u8],
     classes: &mut D,
+    verdict: &V,
 ) -> Result<Answer, Failure>
     requires { D.asked classes.old ≡ None }
     ensures answer { IfOk result (λ answer. (names : List (List ℕ))
         × AreListed (D.asked classes.new) (D.contents classes.old) dir.now names
         × Gains (D.read_names classes.old) (D.read_names classes.new) (take 1025 names)
-        × IsLoaded main.now (D.contents classes.old) (take 1025 names) answer) }
+        × IsDecided (V.answers verdict.now) main.now (D.contents classes.old) (take 1025 names) answer) }
     ensures cause { result ≡ Err Failure.Failed → D.faults classes.old < D.faults classes.new }
     ensures asked { IfSome (D.asked classes.new) (λ asked. asked.dir ≡ dir.now) }
     ensures order { ReadsInOrder 1025 (D.asked classes.new) (D.read_names classes.old) (D.read_names classes.new) }
@@ -59,6 +63,6 @@ pub(crate) fn load<D: ClassDir>(
     let mut names = class_names(alloc, classes, dir)?;
     names.truncate(MOST_FILES);
     let files = read_files(alloc, classes, dir, names.as_slice())?;
-    let answer = judge(alloc, names.as_slice(), files, main)?;
+    let answer = judge(alloc, names.as_slice(), files, main, verdict)?;
     Ok(answer)
 }

@@ -6,15 +6,14 @@ ghost use Rattle.jrev_top.specs.Answers.{help_text, version_text};
 /// What `--help` prints.
 pub const HELP: &str = "jrev executes Java class files whose monitors can be revoked.
 
-usage: jrev pick DIR MAIN
+usage: jrev pick DIR MAIN [OPTION..]
        jrev load DIR MAIN
        jrev make
        jrev --help
        jrev --version
 
 pick       loads the class files of the folder DIR and executes the class MAIN, a dot or a slash between the
-           parts of its name. So far a program is one class whose main method prints the values of integer
-           expressions and does nothing else.
+           parts of its name, with its threads by turns on one processor, and prints its lines.
 load       says whether the class files of the folder DIR are accepted as a program that begins with the
            class MAIN: whether they are read, decoded, linked and verified. It executes nothing. The line
            refused: STAGE FILE NUMBER METHOD PLACE tells what is wrong; docs/refusals.md explains it.
@@ -22,15 +21,27 @@ make       reads the text of an assembler from the standard input and writes the
 --help     prints this text.
 --version  prints the version.
 
-examples: jrev pick classes One
+options of pick, each at most once:
+  --order=ITEM,..  first so many turns of a thread: 2*100 gives thread 2 one hundred. Behind it the
+                   first thread that can go on has the turn
+  --seed=N         behind the order a thread is drawn for each turn, by this number
+  --turns=N        the most turns of a thread (1000000000)
+  --heap=N         the most words of objects (4194304)
+  --sections=N     says nothing yet
+
+examples: jrev pick classes Main
+          jrev pick classes Main --seed=7
           jrev load classes Main
           jrev make < one.jasm > One.new && mv One.new classes/One.class
 
 exit status:
   0  the command did its work
-  2  the words are none of a command
-  3  a class file is not accepted
+  1  a thread of the program ended by an exception that nothing caught
+  2  the words are none of a command, or ask for what is not there yet
+  3  the program is not accepted
   4  no class in DIR is named MAIN, or it has no main method
+  5  the threads of the program wait for each other
+  6  the program reached a limit
   7  the folder or the standard input could not be read
   8  the output could not be written
   9  there was no memory

@@ -1,0 +1,72 @@
+//! What is answered to a program that is accepted.
+
+ghost use Rattle.std.specs.Prelude.{◌≡◌, IfOk, Err};
+
+use crate::answers::accepted;
+use crate::failure::Failure;
+use java_program::JavaWorld;
+use java_run::execute;
+use op_core::{Limits, NoMemory};
+use program_accept::Program;
+use program_answers::Answer;
+use schedules::Schedule;
+use std::alloc::Global;
+
+/// What is answered to a program that is accepted.
+pub(crate) trait Verdict {
+    ghost use Rattle.std.specs.Prelude.{◌≡◌, ℕ, IfOk, Err};
+    ghost use Rattle.program_accept.specs.Accepted.{Accepted};
+    ghost use Rattle.program_answers.specs.declared.answer.Answer.{Answer};
+    ghost use Rattle.jrev_top.specs.declared.failure.Failure.{Failure};
+
+    /// What holds of the answer to a program of so many classes.
+    ghost answers: { Self → ℕ → Accepted → Answer → Type 0 };
+
+    /// The answer to a program of so many classes.
+    fn answer(&self, alloc: Global, count: usize, program: &Program) -> Result<Answer, Failure>
+        ensures answer { IfOk result (λ answer. answers self.now count program.now answer) }
+        ensures memory { result ≡ Err Failure.Failed → ⊥ };
+}
+
+/// How many classes were read.
+#[derive(Clone, Copy)]
+pub(crate) struct Count;
+
+impl Verdict for Count {
+    ghost use Rattle.jrev_top.specs.Answers.{Counts};
+
+    ghost answers = { λ _. Counts };
+
+    fn answer(&self, alloc: Global, count: usize, _program: &Program) -> Result<Answer, Failure> {
+        Ok(accepted(alloc, count)?)
+    }
+}
+
+/// A run of the program by a schedule and under limits.
+#[derive(Clone, Copy)]
+pub(crate) struct Execution<'a> {
+    pub schedule: &'a Schedule,
+    pub limits: &'a Limits,
+}
+
+impl<'a> Verdict for Execution<'a> {
+    ghost use Rattle.jrev_top.specs.Answers.{Runs};
+
+    ghost answers = { λ e. Runs e.schedule.now e.limits.now };
+
+    fn answer(&self, alloc: Global, _count: usize, program: &Program) -> Result<Answer, Failure> {
+        let world = JavaWorld::new(alloc, program)?;
+        let main = program.main();
+        match execute(
+            alloc,
+            program.world(),
+            &world,
+            main,
+            self.schedule,
+            self.limits,
+        ) {
+            Ok(answer) => Ok(answer),
+            Err(NoMemory) => Err(Failure::NoMemory),
+        }
+    }
+}
