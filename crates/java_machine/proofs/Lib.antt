@@ -1,2 +1,3 @@
 pub mod ObjectLaws
 pub mod ArgumentLaws
+pub mod NameLaws

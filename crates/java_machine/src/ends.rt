@@ -5,11 +5,12 @@ ghost use Rattle.std.specs.Fmt.{decimal};
 ghost use Rattle.link_rules.specs.Classes.{classes_of};
 ghost use Rattle.linker.specs.Names.{name_of_class};
 ghost use Rattle.java_machine.specs.Lines.{line_of};
-ghost use Rattle.java_machine.specs.Ends.{class_name, died_text, died_line, limit_word, limit_line};
+ghost use Rattle.java_machine.specs.Ends.{class_name, class_text, died_text, died_line, limit_word, limit_line};
 
 use crate::lines::line_of;
+use class_names::decode_text;
 use linker::World;
-use op_core::{Bytes, Limit, NoMemory, ThreadEnd};
+use op_core::{Bytes, Limit, NoMemory, Text, ThreadEnd};
 use std::alloc::{AllocError, Global};
 
 fn push_number(text: &mut Vec<u8>, alloc: Global, number: u8) -> Result<(), AllocError>
@@ -20,6 +21,7 @@ fn push_number(text: &mut Vec<u8>, alloc: Global, number: u8) -> Result<(), Allo
     Ok(())
 }
 
+/// The bytes of the internal name of a class, as its class file has them.
 fn class_name(world: &World, class: u32) -> &[u8]
     ensures { result.now ≡ class_name world.now class }
 {
@@ -29,19 +31,28 @@ fn class_name(world: &World, class: u32) -> &[u8]
     }
 }
 
+/// The internal name of a class, in UTF-8.
+fn class_text(alloc: Global, world: &World, class: u32) -> Result<Text, AllocError>
+    ensures { IfOk result (λ text. text ≡ class_text world.now class) }
+{
+    world.is_linked();
+    let text = decode_text(alloc, class_name(world, class))?;
+    Ok(text)
+}
+
 fn died_text(alloc: Global, world: &World, thread: u8, class: u32) -> Result<Vec<u8>, AllocError>
     ensures { IfOk result (λ text. text.items ≡ died_text world.now thread class) }
 {
     let mut text = Vec::from_slice(alloc, b"died: thread ")?;
     push_number(&mut text, alloc, thread)?;
     text.push(b' ')?;
-    text.extend_from_slice(class_name(world, class))?;
+    text.extend_from_slice(class_text(alloc, world, class)?.as_bytes())?;
     Ok(text)
 }
 
-/// The line `died: thread N CLASS` with byte 10, of a thread that ended by an exception of this class, which has its
-/// internal name (JVMS 4.2.1); no class has an empty one. `None` of a thread that ended normally. It fails for want of
-/// memory alone.
+/// The line `died: thread N CLASS` with byte 10, of a thread that ended by an exception: its number, and the internal
+/// name of the exception's class in UTF-8 (JVMS 4.2.1), which is empty where that is no class, or an array class. `None`
+/// of a thread that ended normally. It fails for want of memory alone.
 pub fn died_line(alloc: Global, world: &World, end: ThreadEnd) -> Result<Option<Bytes>, NoMemory>
     ensures { IfOk result (λ line. line ≡ died_line world.now end) }
 {

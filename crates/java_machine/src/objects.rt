@@ -137,6 +137,7 @@ fn push_strings(
     ensures { OnOk result (objects.new ≡ objects.old
         ++ map (λ n. fixed_object (string_at_start (program_names world.now) n)) (range_with_len 0 (length (string_texts world.now)))) }
 {
+    // No literal has a number of 2^30 or more, since their places are less.
     let _first = world.first_free();
     for string in 0..world.strings() {
         objects.push(plain_object(alloc, world.string_reference(string), STRING, string))?;
