@@ -12,9 +12,9 @@ expect "a link to nothing is left out" 0 '5\n' '' pick "$folder/broken" One
 mkdir "$folder/linked" && ln -s "$PWD/$one" "$folder/linked/One.class"
 expect "a link to a file is followed" 0 '5\n' '' pick "$folder/linked" One
 head -c 1048577 /dev/zero >"$folder/long/A.class"
-expect "a file that is too long" 3 '' 'refused: stage A.class 99 0 0\n' pick "$folder/long" A
+expect "a file that is too long" 3 '' 'refused: read A.class 9 0 0\n' pick "$folder/long" A
 { cat "$one"; head -c 2000000 /dev/zero; } >"$folder/long/A.class"
-expect "a file that is much too long" 3 '' 'refused: stage A.class 99 0 0\n' pick "$folder/long" One
+expect "a file that is much too long" 3 '' 'refused: read A.class 9 0 0\n' pick "$folder/long" One
 if touch "$folder/bad/$(printf 'A\377.txt')" 2>/dev/null; then
     expect "a name that is not UTF-8" 7 '' 'read fault\n' pick "$folder/bad" One
 else

@@ -1,0 +1,5 @@
+//! Tests of the thread code of Java, over its public calls.
+#![tactic(auto)]
+
+#[cfg(test)]
+mod threads;
