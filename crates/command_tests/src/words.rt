@@ -1,6 +1,6 @@
-//! Words of the command line, and what they ask for.
+//! Words of the command line, what they ask for, and which of them are carried out.
 
-use command_words::{Request, WordsRefusal, request_of};
+use command_words::{Request, WordsRefusal, request_of, words_of};
 use schedules::OrderItem;
 use std::alloc::Global;
 use std::test::Fail;
@@ -198,7 +198,7 @@ fn words_ask_for_what_they_say(rt: HostRuntime) -> Result<(), Fail> {
 }
 
 /// Words that are none of a command, each with one fault in an option or a positional word.
-const UNASKED: [&[&str]; 40] = [
+const UNASKED: [&[&str]; 46] = [
     &["pick", "D", "M", "--seed=18446744073709551616"],
     &["pick", "D", "M", "--seed=01"],
     &["pick", "D", "M", "--seed=+1"],
@@ -237,6 +237,12 @@ const UNASKED: [&[&str]; 40] = [
     &["pick", "D", "M", "--order=1@0"],
     &["pick", "D", "M", "--order=1@28"],
     &["pick", "D", "M", "--order=1*2@3"],
+    &["load", "D", "M", "--order=1*1"],
+    &["load", "D", "M", "--seed=1"],
+    &["load", "D", "M", "--turns=1"],
+    &["load", "D", "M", "--heap=1"],
+    &["load", "D", "M", "--sections=1"],
+    &["load", "D", "M", "--counts"],
     &["stress", "18446744073709551616"],
     &["stress", "1", "2"],
 ];
@@ -253,6 +259,82 @@ fn is_unasked(alloc: Global, words: &[&str]) -> Result<bool, Fail> {
 fn other_words_ask_for_nothing(rt: HostRuntime) -> Result<(), Fail> {
     for words in UNASKED {
         assert!(rt; is_unasked(rt.alloc(), words)?);
+    }
+    Ok(())
+}
+
+/// Words of each command that is carried out; `pick` with its options in several orders, at the ends of their ranges.
+const CARRIED_OUT: [&[&str]; 12] = [
+    &["pick", "D", "M"],
+    &["pick", "D", "M", "--order=1*1"],
+    &["pick", "D", "M", "--order=255*1000000,1*1,255*1"],
+    &["pick", "D", "M", "--seed=0", "--turns=1000000000"],
+    &["pick", "D", "M", "--turns=1", "--seed=18446744073709551615"],
+    &["pick", "D", "M", "--heap=67108864", "--sections=0"],
+    &[
+        "pick",
+        "D",
+        "M",
+        "--sections=16777215",
+        "--heap=0",
+        "--seed=1",
+        "--order=2*3",
+        "--turns=5",
+    ],
+    &[
+        "pick",
+        "D",
+        "M",
+        "--order=2*3",
+        "--turns=5",
+        "--heap=0",
+        "--seed=1",
+        "--sections=16777215",
+    ],
+    &["load", "D", "M"],
+    &["make"],
+    &["--help"],
+    &["--version"],
+];
+
+fn is_carried_out(alloc: Global, words: &[&str]) -> Result<bool, Fail> {
+    let words = owned_words(alloc, words)?;
+    Ok(words_of(alloc, words.as_slice()).is_ok())
+}
+
+#[test]
+fn what_these_words_ask_for_is_carried_out(rt: HostRuntime) -> Result<(), Fail> {
+    for words in CARRIED_OUT {
+        assert!(rt; is_carried_out(rt.alloc(), words)?);
+    }
+    Ok(())
+}
+
+/// Words of the grammar that ask for what isn't carried out: counts, items up to a step of a kind, other commands.
+const NOT_CARRIED_OUT: [&[&str]; 9] = [
+    &["pick", "D", "M", "--counts"],
+    &["pick", "D", "M", "--seed=1", "--counts", "--turns=5"],
+    &["pick", "D", "M", "--order=1@1"],
+    &["pick", "D", "M", "--order=2@27,1*1"],
+    &["pick", "D", "M", "--seed=1", "--order=1*1,2*3,255@27"],
+    &["trace", "D", "M"],
+    &["run", "D", "M"],
+    &["check", "D", "M"],
+    &["stress", "1"],
+];
+
+fn is_only_asked(alloc: Global, words: &[&str]) -> Result<bool, Fail> {
+    let words = owned_words(alloc, words)?;
+    Ok(
+        request_of(alloc, words.as_slice()).is_ok()
+            && matches!(words_of(alloc, words.as_slice()), Err(WordsRefusal::Usage)),
+    )
+}
+
+#[test]
+fn what_these_words_ask_for_is_not_carried_out(rt: HostRuntime) -> Result<(), Fail> {
+    for words in NOT_CARRIED_OUT {
+        assert!(rt; is_only_asked(rt.alloc(), words)?);
     }
     Ok(())
 }

@@ -1,11 +1,13 @@
 use crate::loading::{B, CONDITIONAL};
 use crate::making::ONE_TEXT;
 use crate::picking::PRINTS_1_AND_2;
-use crate::running::{Case, is_as_wanted};
+use crate::programs::Class;
+use crate::running::{Case, File, is_as_wanted};
 use std::test::Fail;
 
-/// Each call of the folder, the input and both sinks fails in turn, under each command that makes it, and two together.
-const FAILING: [Case; 19] = [
+/// Each call of the folder, the input and both sinks fails in turn, under each command that makes it, and two together. A
+/// run in which a thread dies and the others are stuck has two lines on the standard error.
+const FAILING: [Case; 22] = [
     Case {
         words: &["pick", "D", "One"],
         files: &[PRINTS_1_AND_2],
@@ -68,6 +70,33 @@ const FAILING: [Case; 19] = [
         status: 8,
         out: b"1\n",
         err: "",
+    },
+    Case {
+        words: &["pick", "D", "Main"],
+        files: &[File::Made(Class::Holds)],
+        input: "",
+        faults: (0, 0, 1, 0),
+        status: 8,
+        out: b"",
+        err: "write fault\n",
+    },
+    Case {
+        words: &["pick", "D", "Main"],
+        files: &[File::Made(Class::Holds)],
+        input: "",
+        faults: (0, 0, 0, 1),
+        status: 8,
+        out: b"1\n",
+        err: "",
+    },
+    Case {
+        words: &["pick", "D", "Main"],
+        files: &[File::Made(Class::Holds)],
+        input: "",
+        faults: (0, 0, 0, 2),
+        status: 8,
+        out: b"1\n",
+        err: "died: thread 2 java/lang/ArithmeticException\n",
     },
     Case {
         words: &["none"],

@@ -2,6 +2,8 @@
 #![tactic(auto)]
 
 #[cfg(test)]
+mod executing;
+#[cfg(test)]
 mod failing;
 #[cfg(test)]
 mod loading;
@@ -9,6 +11,8 @@ mod loading;
 mod making;
 #[cfg(test)]
 mod picking;
+#[cfg(test)]
+mod programs;
 #[cfg(test)]
 mod running;
 #[cfg(test)]

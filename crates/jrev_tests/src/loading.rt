@@ -4,9 +4,11 @@ use std::process::Abort;
 use std::test::Fail;
 use std::thread::Threads;
 
-const NO_FAULTS: Faults = (0, 0, 0, 0);
+/// No call fails.
+pub const NO_FAULTS: Faults = (0, 0, 0, 0);
 
-const SUM: File = File::One("One.class", &[178, 0, 13, 5, 6, 96, 182, 0, 19, 177]);
+/// The class One, whose main method prints 2 + 3.
+pub const SUM: File = File::One("One.class", &[178, 0, 13, 5, 6, 96, 182, 0, 19, 177]);
 
 /// A class whose main method returns.
 const MAIN: File = File::Text(

@@ -119,7 +119,7 @@ const NOT_EXECUTED: [Case; 4] = [
         faults: (0, 0, 0, 0),
         status: 3,
         out: b"",
-        err: "refused: stage B.class 99 0 0\n",
+        err: "refused: read B.class 3 0 3\n",
     },
     Case {
         words: PICK_ONE,
@@ -132,7 +132,7 @@ const NOT_EXECUTED: [Case; 4] = [
         faults: (0, 0, 0, 0),
         status: 3,
         out: b"",
-        err: "refused: stage A.class 99 0 0\n",
+        err: "refused: read A.class 3 0 3\n",
     },
     Case {
         words: &["pick", "D", "Main"],

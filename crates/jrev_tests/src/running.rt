@@ -3,6 +3,7 @@
 ghost use Rattle.std.specs.Prelude.{IfOk, ◌≡◌, None};
 ghost use Rattle.jr_ports.specs.Memory.{asked_of};
 
+use crate::programs::{Class, file_of};
 use jr_ports::{MemDir, MemSink, MemSource, NoGate, names_differ};
 use jrev_top::jrev;
 use std::alloc::Global;
@@ -55,6 +56,8 @@ pub enum File {
     Pooled(&'static str, &'static [u8]),
     /// The class of an assembler's text.
     Text(&'static str, &'static str),
+    /// The class of a program.
+    Made(Class),
     /// These bytes.
     Other(&'static str, &'static [u8]),
 }
@@ -91,6 +94,10 @@ fn owned<R: Abort + Threads + Sync>(
         File::One(name, code) => (name, one_with(alloc, 20, &[], code)?),
         File::Pooled(name, code) => (name, one_with(alloc, 22, ENTRIES, code)?),
         File::Text(name, text) => (name, made(rt, alloc, text)?),
+        File::Made(class) => {
+            let (name, text) = file_of(class);
+            (name, made(rt, alloc, text)?)
+        }
         File::Other(name, bytes) => (name, Vec::from_slice(alloc, bytes)?),
     };
     Ok((String::from_str(alloc, name)?, bytes))

@@ -3,7 +3,7 @@ use jrev_top::{Request, Status, words_of};
 use std::test::Fail;
 
 /// Words that ask for nothing that there is, or that isn't carried out yet.
-const FAULTY: [&[&str]; 23] = [
+const FAULTY: [&[&str]; 24] = [
     &[],
     &["pick", "D"],
     &["pick", "D", "One", "x"],
@@ -21,12 +21,13 @@ const FAULTY: [&[&str]; 23] = [
     &["check", "D", "One"],
     &["stress", "1"],
     &["pick", "D", "One", "--counts"],
-    &["pick", "D", "One", "--seed=1"],
-    &["pick", "D", "One", "--order=1*1"],
-    &["pick", "D", "One", "--turns=5"],
-    &["pick", "D", "One", "--turns=1000000000"],
-    &["pick", "D", "One", "--heap=5"],
-    &["pick", "D", "One", "--sections=5"],
+    &["pick", "D", "One", "--order=1@1"],
+    &["pick", "D", "One", "--seed=1", "--order=1*1,2@27"],
+    &["load", "D", "One", "--order=1*1"],
+    &["load", "D", "One", "--seed=1"],
+    &["load", "D", "One", "--turns=5"],
+    &["load", "D", "One", "--heap=5"],
+    &["load", "D", "One", "--sections=5"],
 ];
 
 fn usage(words: &'static [&'static str]) -> Case {
@@ -78,19 +79,27 @@ const HELP: Case = Case {
     err: "",
 };
 
-/// What the help text says: each command with its words, and each exit status.
-const HELPED: [&str; 17] = [
+/// What the help text says: each command with its words, each option, and each exit status.
+const HELPED: [&str; 25] = [
     "jrev executes Java class files",
     "jrev pick DIR MAIN",
     "jrev load DIR MAIN",
     "jrev make",
     "jrev --help",
     "jrev --version",
+    "\n  --order=ITEM,..",
+    "\n  --seed=N ",
+    "\n  --turns=N ",
+    "\n  --heap=N ",
+    "\n  --sections=N ",
     "exit status:",
     "\n  0  ",
+    "\n  1  ",
     "\n  2  ",
     "\n  3  ",
     "\n  4  ",
+    "\n  5  ",
+    "\n  6  ",
     "\n  7  ",
     "\n  8  ",
     "\n  9  ",
