@@ -1,12 +1,12 @@
 // A sieve, twice, and a product of matrices of longs.
 class Arrays {
-    static int sieve(boolean[] crossed) {
+    static int sieve(boolean[] crossed, int most) {
         int count = 0;
-        for (int i = 2; i < crossed.length; i++) crossed[i] = false;
-        for (int i = 2; i < crossed.length; i++) {
+        for (int i = 2; i <= most; i++) crossed[i] = false;
+        for (int i = 2; i <= most; i++) {
             if (crossed[i]) continue;
             count++;
-            for (int j = i + i; j < crossed.length; j += i) crossed[j] = true;
+            for (int j = i + i; j <= most; j += i) crossed[j] = true;
         }
         return count;
     }
@@ -36,8 +36,8 @@ class Arrays {
 
     public static void main(String[] arguments) {
         boolean[] crossed = new boolean[3000001];
-        System.out.println(sieve(crossed));
-        System.out.println(sieve(crossed));
+        System.out.println(sieve(crossed, 3000000));
+        System.out.println(sieve(crossed, 3000000));
         System.out.println(product(120));
     }
 }
