@@ -1,0 +1,72 @@
+#!/usr/bin/env python3
+"""Times `jrev pick` beside `java -Xint` over the loops of bench/java, and prints a table of medians.
+
+usage: bench/interpreter.py [RUNS]     at the top of the repository, after `./jrev` has built the program; javac and
+                                       java have to be there
+
+Both run each class RUNS times (5), by turns, and have to print the same. The median time of a class that does nothing
+is taken off. The last rows are a million lines that are printed to a file, beside java with its compilers, and eight
+threads of a million instructions each, without and with a seed, with the time a turn.
+"""
+import os
+import statistics
+import subprocess
+import sys
+import tempfile
+import time
+
+PROGRAM = os.path.join("crates", "jrev_main", "out", "jrev_main")
+SOURCES = os.path.join("bench", "java")
+LOOPS = ["Arithmetic", "Calls", "Fields", "Arrays", "Exceptions", "Monitors"]
+COMPILED = ["java", "-XX:+UseSerialGC", "-cp"]
+JAVA = ["java", "-Xint", "-XX:+UseSerialGC", "-cp"]
+TURNS = 8 * 76923 * 13
+
+
+def timed(words, path):
+    """Runs words with a file as their standard output, and gives the seconds and what was printed."""
+    with open(path, "wb") as file:
+        begin = time.monotonic()
+        subprocess.run(words, stdout=file, check=True)
+        seconds = time.monotonic() - begin
+    with open(path, "rb") as file:
+        return seconds, file.read()
+
+
+def medians(folder, name, runs, options=(), java=JAVA):
+    """The median seconds of a class under pick with these options, and under java."""
+    path = os.path.join(folder, "out")
+    ours, theirs = [], []
+    for _ in range(runs):
+        seconds, printed = timed([PROGRAM, "pick", folder, name, *options], path)
+        ours.append(seconds)
+        seconds, wanted = timed(java + [folder, name], path)
+        theirs.append(seconds)
+        if printed != wanted:
+            sys.exit(f"{name}: pick and java print other lines")
+    return statistics.median(ours), statistics.median(theirs)
+
+
+def main():
+    runs = int(sys.argv[1]) if len(sys.argv) > 1 else 5
+    if not os.path.exists(PROGRAM):
+        sys.exit("./jrev hasn't built the program")
+    with tempfile.TemporaryDirectory() as folder:
+        sources = [os.path.join(SOURCES, it) for it in sorted(os.listdir(SOURCES))]
+        subprocess.run(["javac", "--release", "8", "-Xlint:none", "-d", folder] + sources, check=True)
+        start = {tuple(java): medians(folder, "Empty", runs, java=java) for java in (JAVA, COMPILED)}
+        print(f"{'class':<18}{'pick s':>9}{'java s':>9}{'ratio':>8}", flush=True)
+
+        def row(label, name, options=(), java=JAVA):
+            ours, theirs = (it - off for it, off in zip(medians(folder, name, runs, options, java), start[tuple(java)]))
+            turn = f"   {ours / TURNS * 1e9:.1f} ns a turn" if name == "Turns" else ""
+            print(f"{label:<18}{ours:>9.3f}{theirs:>9.3f}{ours / theirs:>8.1f}{turn}", flush=True)
+
+        for name in LOOPS:
+            row(name, name)
+        row("Lines, compiled", "Lines", java=COMPILED)
+        row("Turns", "Turns")
+        row("Turns, a seed", "Turns", ("--seed=1",))
+
+
+main()
