@@ -1,11 +1,14 @@
 -- What a program's execution answers.
 use Rattle.std.specs.Prelude.{◌≡◌, ℕ, false, List, [], ◌∷◌, ◌++◌, map, filter_map, codes}
 use Rattle.code_decode.specs.declared.code.ClassUnit.{ClassUnit}
+use Rattle.op_core.specs.declared.Event.{Event}
 use Rattle.op_core.specs.declared.How.{How}
 use Rattle.op_core.specs.declared.How.TheVariants as how
 use Rattle.op_core.specs.declared.Limits.{Limits}
 use Rattle.op_core.specs.declared.Outcome.{Outcome}
+use Rattle.op_core.specs.Execution.{printed, EndsStuck}
 use Rattle.schedules.specs.declared.order.Schedule.{Schedule}
+use Rattle.ordinary_machine.specs.Advance.{HasHalted}
 use Rattle.ordinary_machine.specs.Machine.{Machine}
 use Rattle.ordinary_machine.specs.Start.{start_of}
 use Rattle.ordinary_runs.specs.ScheduledRun.{IsOutcome}
@@ -44,10 +47,17 @@ answer_of us outcome = record {
 abbrev pub machine_at_start : Accepted → Machine Local
 machine_at_start program = start_of (opening_of program.units) (first_state program.units program.main)
 
--- The answer is that of a run of the program which follows a schedule under limits. The run is an execution of the
--- program: some events lead from its start, print the lines, and leave the threads ended as the answer says.
+-- Where the run of a machine ended stuck and no thread is at its code's end without having ended, some events are an execution
+-- that ends stuck and print the lines.
+abbrev pub IsStuckRun : Machine Local → Outcome → Machine Local → Type 0
+IsStuckRun start outcome last = outcome.how ≡ how.Stuck → ((t : ℕ) → HasHalted java_code last t → ⊥)
+    → (events : List Event) × EndsStuck java_code start.now events × (outcome.lines ≡ start.now.lines ++ printed events)
+
+-- The answer is that of a run of the program which follows a schedule under limits. Some events are an execution of the
+-- program from its start that prints the lines and leaves the threads ended as the answer says.
 pub record IsRunOf (program : Accepted) (schedule : Schedule) (limits : Limits) (answer : Answer) : Type 0 where
   pub outcome : Outcome
   pub ran : IsOutcome java_code (machine_at_start program) schedule limits false outcome
   pub executed : IsExecuted java_code (machine_at_start program) false outcome
+  pub stuck : IsStuckRun (machine_at_start program) outcome ran.last.state.machine
   pub answered : answer ≡ answer_of program.units outcome

@@ -10,7 +10,7 @@ use link_types::MethodId;
 use linker::World;
 use op_core::{Limits, NoMemory};
 use ordinary_machine::Ordinary;
-use ordinary_runs::laws::runs_are_executions;
+use ordinary_runs::laws::{runs_are_executions, stuck_runs_are_stuck};
 use ordinary_runs::run_picks;
 use program_answers::Answer;
 use schedules::Schedule;
@@ -37,5 +37,6 @@ pub fn execute<P: JavaProgram>(
     let machine = Ordinary::start(alloc, &opening, code)?;
     let outcome = run_picks(alloc, machine, schedule, limits, false)?;
     runs_are_executions::<JavaCode<'_, P>>();
+    stuck_runs_are_stuck::<JavaCode<'_, P>>();
     answer_of(alloc, world, &outcome)
 }

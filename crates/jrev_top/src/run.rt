@@ -21,7 +21,8 @@ use std::thread::Threads;
 /// program is. The answer goes to `out` and `err`, and the status says how the run ended:
 ///
 /// - `Done`, `Usage`, `Refused`, `NoMain` and `MakeRefused` come exactly where the words, the files and the text say
-///   so;
+///   so; under `pick` `Done` and `Died` where all threads have ended, normally or one by an exception, `Stuck` where no
+///   thread can go on, `Limit` where the next turn meets a limit;
 /// - `ReadFault` only where the count of faults of `classes` rose in this call, or under `make` that of `input`;
 ///   `WriteFault` only where that of `out` or of `err` did;
 /// - `Memory` may come anywhere.

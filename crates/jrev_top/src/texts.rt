@@ -36,11 +36,11 @@ examples: jrev pick classes Main
 
 exit status:
   0  the command did its work
-  1  a thread of the program ended by an exception that nothing caught
+  1  all threads of the program have ended, one or more by an exception that nothing caught
   2  the words are none of a command, or ask for what is not there yet
   3  the program is not accepted
   4  no class in DIR is named MAIN, or it has no main method
-  5  the threads of the program wait for each other
+  5  no thread of the program can go on
   6  the program reached a limit
   7  the folder or the standard input could not be read
   8  the output could not be written

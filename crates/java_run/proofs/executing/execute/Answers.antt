@@ -25,5 +25,6 @@ returns g c =
       outcome = outcome;
       ran = ran;
       executed = c.runs_are_executions.ensures (machine_at_start program) c.args.schedule.now c.args.limits.now false outcome refl ran;
+      stuck = λ is none. c.stuck_runs_are_stuck.ensures (machine_at_start program) c.args.schedule.now c.args.limits.now false outcome ran refl is none;
       answered = said;
     }) c.answer_of.ensures
