@@ -11,6 +11,10 @@ class Uncaught {
         zero = 0;
     }
 
+    public static void main(String[] it) {
+        begin();
+    }
+
     static class Division { public static void main(String[] it) { begin(); System.out.println(1 / zero); } }
     static class Remainder { public static void main(String[] it) { begin(); System.out.println(1L % zero); } }
     static class Null { public static void main(String[] it) { begin(); System.out.println(none.field); } }
