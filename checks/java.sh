@@ -1,4 +1,4 @@
-# Straight classes print under java what they print here.
+# Classes that print the values of expressions print under java what they print here.
 . checks/lib
 mkdir "$folder/one"
 same() {

@@ -1,8 +1,4 @@
 pub mod Numbers
-pub mod ScanLaws
-pub mod ScanSound
-pub mod PrintsLaws
-pub mod StraightLaws
 pub mod FindLaws
 pub mod FoundLaws
 pub mod PlaceLaws

@@ -1,7 +1,3 @@
-pub mod Expression
-pub mod StraightClass
-pub mod Scan
-pub mod StraightAnswer
 pub mod AttributeRules
 pub mod Repeats
 pub mod MemberRules

@@ -1,3 +1,5 @@
+//! A small class file that the tests read: the bytes of the class One.
+
 use std::alloc::{AllocError, Global};
 
 /// `class One`, a class with one method that prints a sum, as an assembler made it; `javap -v` shows what is

@@ -1,3 +1,5 @@
+//! Tests of the content of a Code attribute, taken apart and written again.
+
 use class_walk::{ContentRefusal, RawAttribute, RawCode, RawHandler, code_content};
 use class_write::{read_classes_can_be_written, write_code};
 use std::alloc::Global;

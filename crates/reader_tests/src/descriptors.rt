@@ -1,3 +1,5 @@
+//! Tests of field and method descriptors: which texts are one, and the kinds that they name.
+
 use class_names::{
     BaseKind, BaseShape, Descriptor, Kind, KindShape, NameRefusal, Parameters, descriptor_of,
     field_shape, is_array_descriptor, is_field_descriptor, is_method_descriptor, method_shape,

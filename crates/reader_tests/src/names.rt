@@ -1,3 +1,5 @@
+//! Tests of which texts are names of classes, fields and methods.
+
 use class_names::{is_class_name, is_member_name, is_method_name};
 
 /// A text, and whether it is the name of a class, of a field and of a method (JVMS 4.2).

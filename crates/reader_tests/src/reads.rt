@@ -1,9 +1,8 @@
+//! Tests of reading class files: what is read, what is refused, and the numbers of refusals.
+
 use crate::class_one::{CODE, one};
 use class_names::ParameterSize;
-use class_read::{
-    ClassFile, CodeAttribute, Constant, Member, Pool, ReadRefusal, StraightRefusal, read_class,
-    straight,
-};
+use class_read::{ClassFile, CodeAttribute, Constant, Member, Pool, ReadRefusal, read_class};
 use std::alloc::Global;
 use std::test::Fail;
 
@@ -189,17 +188,6 @@ fn a_refusal_shows_its_name_and_number(rt: HostRuntime) -> Result<(), Fail> {
     ] {
         assert!(rt; shown(rt.alloc(), refusal)?.as_str() == text);
     }
-    Ok(())
-}
-
-#[test]
-fn a_straight_class_has_a_name_and_a_code(rt: HostRuntime) -> Result<(), Fail> {
-    let bytes = one(rt.alloc())?;
-    let read = straight(rt.alloc(), &bytes).ok().ok_or("a straight class")?;
-    assert!(rt; read.name.as_slice() == b"One".as_slice() && read.code.as_slice() == CODE);
-    let other = edited(rt.alloc(), 207, 1, b"\x0b")?;
-    let refusal = straight(rt.alloc(), &other).err();
-    assert!(rt; matches!(refusal, Some(StraightRefusal::NotYet)));
     Ok(())
 }
 

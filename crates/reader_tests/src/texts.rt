@@ -1,3 +1,5 @@
+//! Tests of modified UTF-8: which bytes are a text, and what the text is in UTF-8.
+
 use class_names::{decode_text, is_modified_utf8};
 use rows::Text;
 use std::alloc::Global;

@@ -1,3 +1,5 @@
+//! Tests of taking a class file apart, and of each fault with its place.
+
 use crate::class_one::{CODE, one};
 use class_walk::{
     Constant, RawAttribute, RawClass, RawMember, WalkFault, WalkRefusal, code_content, walk,
