@@ -1,3 +1,5 @@
+//! How far the initialization of each class is, by the class's number.
+
 ghost use Rattle.std.specs.Prelude.{◌≡◌, ◌↔◌, OnOk, OnErr, IsTrue};
 ghost use Rattle.op_core.specs.OrdinaryState.{set_at, unready};
 ghost use Rattle.machine_tables.specs.Tables.{class_state_of, classes_in};

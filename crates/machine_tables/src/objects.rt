@@ -1,3 +1,5 @@
+//! The objects of the heap by reference, with their monitors.
+
 ghost use Rattle.std.specs.Prelude.{◌≡◌, ◌<◌, OnOk, OnErr, Some, None, IsSome, IsNone, length, slice_set};
 ghost use Rattle.std.specs.Prelude.{◌↔◌, ◌+◌, ◌^◌, ◌≤◌, IsTrue, true, MatchOption};
 ghost use Rattle.std.specs.Option.{option_copied};
@@ -240,6 +242,23 @@ impl Objects {
     {
         if let Some(object) = self.table.get_mut(&reference) {
             object.words.set(place, value);
+        }
+    }
+
+    /// Writes the word at a place of the object of a reference, and says that it did: exactly where the object is there
+    /// and has the word. Where it hasn't, nothing changes.
+    pub fn write_word(&mut self, reference: u32, place: u32, value: u32) -> bool
+        ensures has { IsTrue result ↔ HasWord (objects_in (object_at self.old)) reference place }
+        ensures there { (x : _) → object_at self.old reference ≡ Some x → object_at self.new ≡ set_at (object_at self.old) reference (Some (record x { words = slice_set x.words place value })) }
+        ensures absent { object_at self.old reference ≡ None → object_at self.new ≡ object_at self.old }
+    {
+        match self.table.get_mut(&reference) {
+            Some(object) => {
+                let has = (place as usize) < object.words.len();
+                object.words.set(place, value);
+                has
+            }
+            None => false,
         }
     }
 }

@@ -1,3 +1,5 @@
+//! The threads that have begun, by number: where each stands, and what it waits for.
+
 ghost use Rattle.std.specs.Prelude.{ℕ, ◌≡◌, ◌<◌, Ok, Err, true, false, OnOk, OnErr, Some, None, IsSome, IsNone, ◌↔◌, ◌≤◌, IsTrue, MatchOption, ◌+◌, length, vec_len};
 ghost use Rattle.std.specs.Option.{option_copied, option_map};
 ghost use Rattle.op_core.specs.OrdinaryState.{set_at, IsNotifiedFor, IsWaitingFor, saved_count, notified_of};

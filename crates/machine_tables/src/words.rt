@@ -1,3 +1,5 @@
+//! The 32-bit words of an object.
+
 ghost use Rattle.std.specs.Prelude.{◌≡◌, ◌<◌, OnOk, OnErr, IfOk, IfSome, slice_get, slice_set, length, replicate, ◌==◌};
 
 use op_core::NoMemory;

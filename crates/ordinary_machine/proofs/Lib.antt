@@ -6,9 +6,11 @@ pub mod StartLemmas
 pub mod RunLemmas
 pub mod OutcomeLemmas
 pub mod EnabledLemmas
+pub mod DecidedLemmas
 pub mod SilentLemmas
 pub mod JoinLemmas
 pub mod MakeLemmas
+pub mod WriteLemmas
 pub mod StuckLemmas
 pub mod ReferenceLemmas
 pub mod StepOnLemmas

@@ -1,7 +1,7 @@
 -- What `advance` answers for one thread, and what it leaves.
 use Rattle.std.specs.Prelude.{◌≡◌, ℕ, suc, ◌+◌, ◌<◌, ◌≤◌, ◌⊎◌, Some}
 use Rattle.op_core.specs.declared.Op.{Op}
-use Rattle.op_core.specs.declared.Op.TheVariants.{New, Enter, Start}
+use Rattle.op_core.specs.declared.Op.TheVariants.{ClassOf, Read, New, Enter, Start}
 use Rattle.op_core.specs.declared.Reply.{Reply}
 use Rattle.op_core.specs.declared.Reply.TheVariants.{Made, Number}
 use Rattle.op_core.specs.declared.Next.TheVariants.{Want}
@@ -11,8 +11,8 @@ use Rattle.op_core.specs.declared.Limits.{Limits}
 use Rattle.op_core.specs.declared.Limit.{Limit}
 use Rattle.op_core.specs.declared.Limit.TheVariants.{Heap, Threads, Frames, Depth}
 use Rattle.op_core.specs.ThreadCode.{Code, quiet_step}
-use Rattle.op_core.specs.OrdinaryState.{IsThere, IsOwner, count_of, live, HasEnded}
-use Rattle.op_core.specs.OrdinaryStep.{CanStep, IsFreeNumber, IsFreeReference, IsStep}
+use Rattle.op_core.specs.OrdinaryState.{IsThere, IsOwner, count_of, live, HasEnded, OrdinaryState}
+use Rattle.op_core.specs.OrdinaryStep.{CanStep, MayAnswer, IsFreeNumber, IsFreeReference, IsStep}
 use Rattle.ordinary_machine.specs.declared.advance.Advance.{Advance}
 use Rattle.ordinary_machine.specs.declared.advance.Advance.TheVariants.{Silent, Step, Waits, Halts, Ended, Spent}
 use Rattle.ordinary_machine.specs.Machine.{Machine, moved, with_thread_at, HasBegun}
@@ -115,3 +115,13 @@ pub record MayAdvance {S : Type 0} (code : Code S) (m : Machine S) (t : ℕ) : T
 abbrev pub LacksNumber : {S : Type 0} → Machine S → Op → Type 0
 LacksNumber m (Start r p) = IsOutOfNumbers m r
 LacksNumber _ _ = ⊥
+
+-- the operation changes nothing that threads share, and meets no limit
+abbrev pub IsLook : Op → Type 0
+IsLook (ClassOf r) = Unit {0}
+IsLook (Read r i) = Unit {0}
+IsLook _ = ⊥
+
+-- it has a step, with this reply
+abbrev pub IsGiven : {S : Type 0} → OrdinaryState S → ℕ → Op → Reply → Type 0
+IsGiven s t op reply = CanStep s t op × MayAnswer s t op reply

@@ -1,9 +1,12 @@
+//! A thread's next step of its own accord: the replies that are chosen, and the limits that it meets.
+
 ghost use Rattle.std.specs.Prelude.{ℕ, ◌≡◌, ◌↔◌, ◌<◌, ◌≤◌, ◌+◌, IsTrue, IfOk, IfSome, IfNone, MatchOption, OnErr, OnOk, suc};
 ghost use Rattle.op_core.specs.OrdinaryState.{live, IsOwner, count_of};
 ghost use Rattle.op_core.specs.OrdinaryStep.{CanStep, MayAnswer, IsFreeNumber};
-ghost use Rattle.ordinary_machine.specs.Machine.{machine_of, moved, with_thread_at, HasBegun, Wants};
+ghost use Rattle.ordinary_machine.specs.Machine.{machine_of, moved, with_thread_at, HasBegun, Wants, Awaits};
 ghost use Rattle.op_core.specs.declared.Limit.{Limit};
-ghost use Rattle.ordinary_machine.specs.Advance.{IsOutOfNumbers, OpMeets, IsChosen, Advances, MayAdvance, LacksNumber, LacksReference};
+ghost use Rattle.op_core.specs.declared.Limits.{Limits};
+ghost use Rattle.ordinary_machine.specs.Advance.{IsOutOfNumbers, IsGiven, IsLook, OpMeets, IsChosen, Advances, MayAdvance, LacksNumber, LacksReference};
 
 use crate::Ordinary;
 use machine_tables::{ClassProgress, Standing};
@@ -275,8 +278,91 @@ impl<C: ThreadCode + Drop> Ordinary<C> {
         })
     }
 
-    // What comes of the operation that a thread wants.
+    // Goes on with the reply to an operation that a thread wants, once all else that it changes is changed.
+    fn reply_with(&mut self, thread: u8, op: Op, reply: Reply) -> Event
+        requires { Awaits C.code (machine_of C.state self.old) thread reply }
+        ensures event { result ≡ record { thread = thread; silent = (machine_of C.state self.old).silents thread; op = op; reply = reply } }
+        ensures replied { (l : C.State) → (machine_of C.state self.old).now.threads thread ≡ live l
+            → machine_of C.state self.new ≡ with_thread_at (machine_of C.state self.old) thread (live (C.code.reply l reply)) 0 }
+    {
+        let silent = self.silent_steps(thread);
+        self.reply_to(thread, reply);
+        Event {
+            thread,
+            silent,
+            op,
+            reply,
+        }
+    }
+
+    // What a Read answers, or `None` where it has no step: one look at the object tells.
+    fn find_word(&self, thread: u8, reference: u32, place: u32) -> Option<Reply>
+        ensures { MatchOption result (CanStep (machine_of C.state self.now).now thread (Op.Read reference place) → ⊥)
+            (λ reply. IsGiven (machine_of C.state self.now).now thread (Op.Read reference place) reply) }
+    {
+        let word = self.objects.get(reference)?.words.get(place)?;
+        Some(Reply::Value(word))
+    }
+
+    // What a ClassOf answers, or `None` where it has no step.
+    fn find_class(&self, thread: u8, reference: u32) -> Option<Reply>
+        ensures { MatchOption result (CanStep (machine_of C.state self.now).now thread (Op.ClassOf reference) → ⊥)
+            (λ reply. IsGiven (machine_of C.state self.now).now thread (Op.ClassOf reference) reply) }
+    {
+        let object = self.objects.get(reference)?;
+        Some(Reply::Class(object.class, object.length))
+    }
+
+    // What comes of an operation that a thread wants, that changes nothing and meets no limit, by what it answers.
+    fn look(&mut self, thread: u8, op: Op, found: Option<Reply>) -> Advance
+        requires wants { Wants C.code (machine_of C.state self.old) thread op }
+        requires looks { IsLook op }
+        requires found { MatchOption found (CanStep (machine_of C.state self.old).now thread op → ⊥) (λ reply. IsGiven (machine_of C.state self.old).now thread op reply) }
+        ensures { (limits : Limits) → Advances C.code (machine_of C.state self.old) thread limits result (machine_of C.state self.new) }
+    {
+        match found {
+            Some(reply) => Advance::Step(self.reply_with(thread, op, reply)),
+            None => Advance::Waits,
+        }
+    }
+
+    // What comes of a Write that a thread wants.
+    fn try_write(&mut self, thread: u8, reference: u32, place: u32, value: u32) -> Advance
+        requires { Wants C.code (machine_of C.state self.old) thread (Op.Write reference place value) }
+        ensures { (limits : Limits) → Advances C.code (machine_of C.state self.old) thread limits result (machine_of C.state self.new) }
+    {
+        if self.write_word(reference, place, value) {
+            let op = Op::Write(reference, place, value);
+            Advance::Step(self.reply_with(thread, op, Reply::Done))
+        } else {
+            Advance::Waits
+        }
+    }
+
+    // What comes of the operation that a thread wants, with one lookup where it reads or writes an object.
     fn try_operation(&mut self, thread: u8, op: Op, limits: &Limits) -> Result<Advance, NoMemory>
+        requires { Wants C.code (machine_of C.state self.old) thread op }
+        ensures ok { IfOk result (λ advance. Advances C.code (machine_of C.state self.old) thread limits.now advance (machine_of C.state self.new)) }
+        ensures err { OnErr result (machine_of C.state self.new ≡ machine_of C.state self.old) }
+    {
+        match op {
+            Op::ClassOf(reference) => {
+                let found = self.find_class(thread, reference);
+                Ok(self.look(thread, op, found))
+            }
+            Op::Read(reference, place) => {
+                let found = self.find_word(thread, reference, place);
+                Ok(self.look(thread, op, found))
+            }
+            Op::Write(reference, place, value) => {
+                Ok(self.try_write(thread, reference, place, value))
+            }
+            _ => self.try_other(thread, op, limits),
+        }
+    }
+
+    // The same for any operation.
+    fn try_other(&mut self, thread: u8, op: Op, limits: &Limits) -> Result<Advance, NoMemory>
         requires { Wants C.code (machine_of C.state self.old) thread op }
         ensures ok { IfOk result (λ advance. Advances C.code (machine_of C.state self.old) thread limits.now advance (machine_of C.state self.new)) }
         ensures err { OnErr result (machine_of C.state self.new ≡ machine_of C.state self.old) }

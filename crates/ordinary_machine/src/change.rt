@@ -1,4 +1,6 @@
-ghost use Rattle.std.specs.Prelude.{◌≡◌, ◌≤◌, Ok, Err, true, OnOk, OnErr, IsNone, IfOk, IfSome, IfNone, ◌+◌};
+//! Single changes of the machine's tables, and the silent steps of a thread.
+
+ghost use Rattle.std.specs.Prelude.{◌≡◌, ◌≤◌, ◌↔◌, Ok, Err, true, false, IsTrue, OnOk, OnErr, IsNone, IfOk, IfSome, IfNone, ◌+◌};
 ghost use Rattle.op_core.specs.declared.CodeStop.{CodeStop};
 ghost use Rattle.op_core.specs.OrdinaryStep.{IsFreeNumber};
 ghost use Rattle.op_core.specs.OrdinaryState.{IsThere, HasWord, live};
@@ -30,6 +32,15 @@ impl<C: ThreadCode + Drop> Ordinary<C> {
         ensures { machine_of C.state self.new ≡ with_word_at (machine_of C.state self.old) reference place value }
     {
         self.objects.set_word(reference, place, value);
+    }
+
+    // Writes a word, and says that it did: exactly where an object has it. Where none has, nothing changes.
+    pub(crate) fn write_word(&mut self, reference: u32, place: u32, value: u32) -> bool
+        ensures has { IsTrue result ↔ HasWord (machine_of C.state self.old).now.objects reference place }
+        ensures written { result ≡ true → machine_of C.state self.new ≡ with_word_at (machine_of C.state self.old) reference place value }
+        ensures kept { result ≡ false → machine_of C.state self.new ≡ machine_of C.state self.old }
+    {
+        self.objects.write_word(reference, place, value)
     }
 
     pub(crate) fn put_waiting(&mut self, thread: u8, waiting: WaitState)

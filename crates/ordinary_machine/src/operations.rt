@@ -1,3 +1,5 @@
+//! The step of each operation, made with a reply that it may have.
+
 ghost use Rattle.std.specs.Prelude.{◌≡◌, ℕ, Option, IfOk, OnOk, OnErr};
 ghost use Rattle.op_core.specs.OrdinaryState.{live};
 ghost use Rattle.op_core.specs.OrdinaryStep.{CanStep, MayAnswer};

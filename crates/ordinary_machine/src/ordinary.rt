@@ -1,3 +1,5 @@
+//! The ordinary machine: which operations have a step now, and which replies they may have.
+
 ghost use Rattle.std.specs.Prelude.{◌≡◌, ◌↔◌, ◌<◌, ℕ, IsTrue, MatchOption};
 ghost use Rattle.op_core.specs.OrdinaryState.{HasEnded, unused, ended};
 ghost use Rattle.op_core.specs.OrdinaryStep.{CanStep, MayAnswer, IsFreeNumber};
@@ -93,11 +95,10 @@ impl<C: ThreadCode + Drop> Ordinary<C> {
     fn can_join(&self, thread: u8, reference: u32) -> bool
         ensures { IsTrue result ↔ CanStep (machine_of C.state self.now).now thread (Op.Join reference) }
     {
-        if !self.objects.has(reference) {
-            return false;
+        match self.objects.get(reference) {
+            Some(object) => object.started == 0 || self.has_ended(object.started),
+            None => false,
         }
-        let started = self.objects.started(reference);
-        started == 0 || self.has_ended(started)
     }
 
     fn can_rewake(&self, thread: u8, reference: u32) -> bool

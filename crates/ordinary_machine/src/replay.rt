@@ -1,3 +1,5 @@
+//! The steps of a list of events, and where the first one is refused.
+
 ghost use Rattle.std.specs.Prelude.{◌<◌, OnOk, IfOk, IfErr, length, take, slice_get, IfSome};
 ghost use Rattle.ordinary_machine.specs.Machine.{machine_of};
 ghost use Rattle.ordinary_machine.specs.Step.{Refuses, Replays, IsReplayed, IsRefusedAt};

@@ -1,3 +1,5 @@
+//! The machine at the start of a program: its fixed objects, its ready classes and its first thread.
+
 ghost use Rattle.std.specs.Prelude.{◌≡◌, IfOk, Some, None};
 ghost use Rattle.std.specs.Option.{option_map};
 ghost use Rattle.op_core.specs.OrdinaryState.{set_at};

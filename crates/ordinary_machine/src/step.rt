@@ -1,3 +1,5 @@
+//! The step of one event, and why an event is refused.
+
 ghost use Rattle.std.specs.Prelude.{◌≡◌, ◌↔◌, IfOk, IfErr, OnOk, OnErr, MatchOption, IsTrue};
 ghost use Rattle.op_core.specs.declared.Op.{Op};
 ghost use Rattle.op_core.specs.OrdinaryState.{live};

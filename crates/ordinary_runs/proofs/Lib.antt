@@ -3,5 +3,7 @@ pub mod OrderLemmas
 pub mod SilentLemmas
 pub mod TurnLemmas
 pub mod EndLemmas
+pub mod EnabledLemmas
 pub mod LawLemmas
 pub mod RunLemmas
+pub mod LowestLemmas

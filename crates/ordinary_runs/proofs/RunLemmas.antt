@@ -15,7 +15,7 @@ use Rattle.op_core.proofs.PointwiseLemmas.{set_at-same}
 use Rattle.schedules.specs.declared.order.OrderItem.{OrderItem}
 use Rattle.schedules.specs.declared.order.OrderItem.TheVariants.{Turns, Until}
 use Rattle.schedules.specs.declared.order.TurnEnd.{TurnEnd}
-use Rattle.schedules.specs.declared.order.TurnEnd.TheVariants.{Spent}
+use Rattle.schedules.specs.declared.order.TurnEnd.TheVariants.{Made, Other, Blocked, Spent}
 use Rattle.schedules.specs.declared.order.Schedule.{Schedule}
 use Rattle.schedules.specs.Schedule.{thread_of, drawn, place_of, due, order_after, number_after, Rest, rest_due, rest_after}
 use Rattle.schedules.specs.Run.{AreThose, IsPicked, Run, due_of, GetsTurn, IsNext, IsTurn, Follows, EndsBy}
@@ -25,7 +25,7 @@ use Rattle.ordinary_machine.specs.declared.advance.Advance.TheVariants as advanc
 use Rattle.ordinary_machine.specs.Machine.{Machine, HasBegun}
 use Rattle.ordinary_machine.specs.Advance.{Advances, MayAdvance}
 use Rattle.ordinary_runs.specs.Turns.{Progress, is_live, end_of, counted_after, events_after, IsSilentFor, machine_turns}
-use Rattle.ordinary_runs.specs.ScheduledRun.{begun_with, AreEnds, IsOutcome, CanGive, order_behind, GoesOn, GoesOnOrEnds}
+use Rattle.ordinary_runs.specs.ScheduledRun.{begun_with, AreEnds, IsOutcome, CanGive, order_behind, how_at, GoesOn, GoesOnOrEnds}
 use Rattle.ordinary_runs.proofs.OrderLemmas.{due_first, due_twice}
 use Rattle.ordinary_runs.proofs.TurnLemmas.{ordered_keeps, lowest_keeps, goes_silently, picked_enabled, none_more}
 
@@ -51,7 +51,7 @@ spent_advance code limits r new t limit (advance.Spent met) advances comes count
     let events = kept ∙ none_more r.events in
     λ i. record { machine = machine i; counted = counts i; events = events i }
 
-spent_same : {S : Type 0} (code : Code S) (limits : Limits) (r new : Progress S) (t : ℕ) (limit : Limit) → (machine_turns code limits).gives r t (Spent limit) new → new ≡ r
+pub spent_same : {S : Type 0} (code : Code S) (limits : Limits) (r new : Progress S) (t : ℕ) (limit : Limit) → (machine_turns code limits).gives r t (Spent limit) new → new ≡ r
 spent_same code limits r new t limit (inl out) = out.same
 spent_same code limits r new t limit (inr made) = spent_advance code limits r new t limit made.answer made.advances made.comes made.counts made.kept
 
@@ -178,56 +178,43 @@ enabled_live code m t may = begun_lives (m.now.threads t) may.begun (λ over. ma
 pub is_picked : (enabled : ℕ → Type 0) (threads : List ℕ) (number : Option ℕ) (t : ℕ) → AreThose enabled threads → slice_get threads (place_of number (length threads)) ≡ Some t → IsPicked enabled number t
 is_picked enabled threads number t those at = record { threads = threads; those = those; at_place = at }
 
-pub picked_live : {S : Type 0} (code : Code S) (limits : Limits) (r middle : Progress S) (number : Option ℕ) (t n : ℕ) → IsPicked (MayAdvance code r.machine) number t → n ≤ 0 → IsSilentFor code limits r t n middle
-    → is_live (middle.machine.now.threads t) ≡ true
-picked_live {S} code limits r middle number t n picked none ran =
-    subst (λ (x : Progress S). is_live (x.machine.now.threads t) ≡ true) (sym (silent_none code limits r middle t n none ran))
-    (enabled_live code r.machine t (picked_enabled (MayAdvance code r.machine) number t picked))
+pub picked_live : {S : Type 0} (code : Code S) (r : Progress S) (number : Option ℕ) (t : ℕ) → IsPicked (MayAdvance code r.machine) number t → is_live (r.machine.now.threads t) ≡ true
+picked_live code r number t picked = enabled_live code r.machine t (picked_enabled (MayAdvance code r.machine) number t picked)
 
-none_drawn : (number : Option ℕ) → None ≡ drawn number → number ≡ None
-none_drawn None is = refl
-none_drawn (Some x) is = absurd (cc)
-
--- where a thread gets silent turns at once, no number was drawn
-no_number : (number : Option ℕ) (most n : ℕ) → IfSome number (λ _. most ≡ 0) → n ≤ most → 0 < n → number ≡ None
-no_number None most n none within some = refl
-no_number (Some x) most n none within some = absurd (omega (arith, none, within, some))
-
-silent_on : {S : Type 0} (code : Code S) (limits : Limits) (r new : Progress S) (t n : ℕ) → IsPicked (MayAdvance code r.machine) None t → t < 256 → 0 < n → IsSilentFor code limits r t n new
+pub silent_on : {S : Type 0} (code : Code S) (limits : Limits) (r new : Progress S) (t n : ℕ) → IsPicked (MayAdvance code r.machine) None t → t < 256 → 0 < n → IsSilentFor code limits r t n new
     → GoesOn code limits (record { state = r; rest = record { order = []; number = None } }) (record { state = new; rest = record { order = []; number = None } })
 silent_on code limits r new t zero picked below some ran = absurd (omega (arith, some))
 silent_on code limits r new t (suc n) picked below some ran =
     goes_silently code limits r new (λ k. record { order = []; number = None }) t n ran below
     (lowest_keeps code limits r t ran.runs.from (suc n) picked ran.runs.begun (picked_enabled (MayAdvance code r.machine) None t picked) (room_for limits.turns (r.counted t) (suc n) some ran.left))
 
-pub picked_silent : {S : Type 0} (code : Code S) (limits : Limits) (r new : Progress S) (rest left : Rest) (number : Option ℕ) (t n most : ℕ) → rest.order ≡ [] → number ≡ drawn rest.number → IsPicked (MayAdvance code r.machine) number t → t < 256
-    → IfSome number (λ _. most ≡ 0) → n ≤ most → 0 < n → IsSilentFor code limits r t n new → left ≡ record rest { number = drawn rest.number }
-    → GoesOn code limits (record { state = r; rest = rest }) (record { state = new; rest = left })
-picked_silent {S} code limits r new rest left number t n most through draws picked below none within some ran leaves =
-    let undrawn : number ≡ None = no_number number most n none within some in
-    let seedless : rest.number ≡ None = none_drawn rest.number (sym undrawn ∙ draws) in
-    let before : rest ≡ record { order = []; number = None } = λ i. record { order = through i; number = seedless i } in
-    let draw : drawn rest.number ≡ None = sym draws ∙ undrawn in
-    let behind : left ≡ record { order = []; number = None } = leaves ∙ (λ i. record { order = through i; number = draw i }) in
-    subst (λ x. GoesOn code limits (record { state = r; rest = x }) (record { state = new; rest = left })) (sym before)
-    (subst (λ x. GoesOn code limits (record { state = r; rest = record { order = []; number = None } }) (record { state = new; rest = x })) (sym behind)
-    (silent_on code limits r new t n (subst (λ x. IsPicked (MayAdvance code r.machine) x t) undrawn picked) below some ran))
+none_made : {S : Type 0} (code : Code S) (limits : Limits) (r : Progress S) (t : ℕ) → IsSilentFor code limits r t 0 r
+none_made code limits r t = record { left = omega arith; runs = refl; counts = sym (set_at-same r.counted t (r.counted t + 0) (omega arith)); kept = refl }
 
-pub picked_spent : {S : Type 0} (code : Code S) (limits : Limits) (r middle new : Progress S) (rest left : Rest) (number : Option ℕ) (t n : ℕ) (limit : Limit) (end : TurnEnd) → rest.order ≡ [] → number ≡ drawn rest.number
-    → IsPicked (MayAdvance code r.machine) number t → n ≤ 0 → IsSilentFor code limits r t n middle → (machine_turns code limits).gives middle t end new → end ≡ Spent limit
+picked_spent : {S : Type 0} (code : Code S) (limits : Limits) (r new : Progress S) (rest left : Rest) (number : Option ℕ) (t : ℕ) (limit : Limit) (end : TurnEnd) → rest.order ≡ [] → number ≡ drawn rest.number
+    → IsPicked (MayAdvance code r.machine) number t → (machine_turns code limits).gives r t end new → end ≡ Spent limit
     → GoesOnOrEnds code limits (record { state = r; rest = rest }) (Some (how.Limit t limit)) (record { state = new; rest = left })
-picked_spent code limits r middle new rest left number t n limit end through draws picked none ran given is =
-    spent_ends code limits r middle new rest left t n limit end none ran (picked_next code limits r rest number t through draws picked) given is
+picked_spent code limits r new rest left number t limit end through draws picked given is =
+    spent_ends code limits r r new rest left t 0 limit end (omega arith) (none_made code limits r t) (picked_next code limits r rest number t through draws picked) given is
 
-pub picked_turn : {S : Type 0} (code : Code S) (limits : Limits) (r middle new : Progress S) (rest left : Rest) (number : Option ℕ) (t n : ℕ) (end : TurnEnd) → rest.order ≡ [] → number ≡ drawn rest.number
-    → IsPicked (MayAdvance code r.machine) number t → t < 256 → n ≤ 0 → IsSilentFor code limits r t n middle → (machine_turns code limits).gives middle t end new → ((limit : Limit) → end ≡ Spent limit → ⊥)
-    → left ≡ record rest { number = drawn rest.number } → GoesOn code limits (record { state = r; rest = rest }) (record { state = new; rest = left })
-picked_turn code limits r middle new rest left number t n end through draws picked below none ran given unspent leaves =
+pub picked_turn : {S : Type 0} (code : Code S) (limits : Limits) (r new : Progress S) (rest left : Rest) (number : Option ℕ) (t : ℕ) (end : TurnEnd) → rest.order ≡ [] → number ≡ drawn rest.number
+    → IsPicked (MayAdvance code r.machine) number t → t < 256 → (machine_turns code limits).gives r t end new → ((limit : Limit) → end ≡ Spent limit → ⊥)
+    → left ≡ record { order = []; number = number } → GoesOn code limits (record { state = r; rest = rest }) (record { state = new; rest = left })
+picked_turn code limits r new rest left number t end through draws picked below given unspent leaves =
     let lives : ℕ → Bool = λ u. is_live (r.machine.now.threads u) in
-    let order = through ∙ sym (ap (λ x. order_after (due lives x) end) through) in
-    let numbers = sym (ap (λ x. number_after (due lives x) rest.number) through) in
-    turn_goes code limits r middle new rest left t n end none ran below (picked_next code limits r rest number t through draws picked) given unspent
+    let order : [] ≡ order_after (due lives rest.order) end = sym (ap (λ x. order_after (due lives x) end) through) in
+    let numbers = draws ∙ sym (ap (λ x. number_after (due lives x) rest.number) through) in
+    turn_goes code limits r r new rest left t 0 end (omega arith) (none_made code limits r t) below (picked_next code limits r rest number t through draws picked) given unspent
     (leaves ∙ (λ i. record { order = order i; number = numbers i }))
+
+-- whatever the turn of the picked thread came to
+pub picked_came : {S : Type 0} (code : Code S) (limits : Limits) (r new : Progress S) (rest left : Rest) (number : Option ℕ) (t : ℕ) (end : TurnEnd) → rest.order ≡ [] → number ≡ drawn rest.number
+    → IsPicked (MayAdvance code r.machine) number t → t < 256 → (machine_turns code limits).gives r t end new
+    → left ≡ record { order = []; number = number } → GoesOnOrEnds code limits (record { state = r; rest = rest }) (how_at t end) (record { state = new; rest = left })
+picked_came code limits r new rest left number t (Spent limit) through draws picked below given leaves = picked_spent code limits r new rest left number t limit (Spent limit) through draws picked given refl
+picked_came code limits r new rest left number t (Made kind) through draws picked below given leaves = picked_turn code limits r new rest left number t (Made kind) through draws picked below given (λ limit is. cc) leaves
+picked_came code limits r new rest left number t Other through draws picked below given leaves = picked_turn code limits r new rest left number t Other through draws picked below given (λ limit is. cc) leaves
+picked_came code limits r new rest left number t Blocked through draws picked below given leaves = picked_turn code limits r new rest left number t Blocked through draws picked below given (λ limit is. cc) leaves
 
 -- what is left where no item is due
 pub order_through : (order : List OrderItem) → None ≡ option_map thread_of (slice_get order 0) → order ≡ []

@@ -1,5 +1,5 @@
 -- Silent steps of one thread: each is a turn of its own, and they let the same threads go on.
-use Rattle.std.proofs.Common.{◌≡◌, ◌↔◌, inl, inr, ℕ, Option, Some, None, refl, sym, ◌∙◌, ap, subst}
+use Rattle.std.proofs.Common.{◌≡◌, ◌≢◌, ◌↔◌, inl, inr, ℕ, zero, suc, Option, Some, None, refl, sym, ◌∙◌, ap, subst}
 use Rattle.std.specs.Option.{option_and_then}
 use Rattle.op_core.specs.declared.Op.{Op}
 use Rattle.op_core.specs.declared.Op.TheVariants.{New, Enter, Start, Join}
@@ -9,12 +9,13 @@ use Rattle.op_core.specs.declared.Next.TheVariants as next
 use Rattle.op_core.specs.declared.Limits.{Limits}
 use Rattle.op_core.specs.declared.Limit.{Limit}
 use Rattle.op_core.specs.declared.Limit.TheVariants.{Heap, Threads, Depth}
-use Rattle.op_core.specs.ThreadCode.{Code, quiet_to, quiet_step}
+use Rattle.op_core.specs.ThreadCode.{Code, quiet_to, quiet_step, quiet_steps}
 use Rattle.op_core.specs.OrdinaryState.{set_at, Thread, unused, live, HasEnded}
 use Rattle.op_core.specs.OrdinaryStep.{IsFreeNumber, CanStep}
 use Rattle.op_core.proofs.PointwiseLemmas.{same_or_other, set_at-hit, set_at-other, set_at-same, set_at-twice}
 use Rattle.ordinary_machine.specs.Machine.{Machine, HasBegun, with_thread_at}
 use Rattle.ordinary_machine.specs.Advance.{OpMeets, IsWaiting, HasHalted, MayAdvance}
+use Rattle.ordinary_machine.proofs.DecidedLemmas.{silent_may}
 
 -- the machine with other threads and other counts of silent steps
 abbrev with_threads : {S : Type 0} → Machine S → (ℕ → Thread S) → (ℕ → ℕ) → Machine S
@@ -89,23 +90,6 @@ back_alike f t from l begun = record {
   ];
 }
 
--- a thread that is silent next may go on
-silent_may : {S : Type 0} (code : Code S) (m : Machine S) (t : ℕ) (l : S) → m.now.threads t ≡ live l → code.next l ≡ next.Silent → MayAdvance code m t
-silent_may code m t l begun silent = record {
-  begun = subst HasBegun (sym begun) tt;
-  goes_on = λ limits waits.
-      let place : live l ≡ live waits.place = sym begun ∙ waits.begun in
-      let same : l ≡ waits.place = cc in
-      let clash : next.Silent ≡ Want waits.op = sym silent ∙ ap code.next same ∙ waits.wanted in absurd (cc);
-  more = λ over. elim over [
-    | inl has_ended ↦ absurd (subst HasEnded begun has_ended)
-    | inr halted ↦
-        let place : live l ≡ live halted.place = sym begun ∙ halted.begun in
-        let same : l ≡ halted.place = cc in
-        let clash : next.Silent ≡ next.Ended = sym silent ∙ ap code.next same ∙ halted.over in absurd (cc)
-  ];
-}
-
 quiet_silent : {S : Type 0} (code : Code S) (behind l : S) (goes : Next) → quiet_to code behind goes ≡ Some l → goes ≡ next.Silent
 quiet_silent code behind l next.Silent quiet = refl
 quiet_silent code behind l (Want op) quiet = absurd (cc)
@@ -113,6 +97,18 @@ quiet_silent code behind l next.Ended quiet = absurd (cc)
 
 pub step_silent : {S : Type 0} (code : Code S) (l behind : S) → quiet_step code l ≡ Some behind → code.next l ≡ next.Silent
 step_silent code l behind quiet = quiet_silent code (code.silent l) behind (code.next l) quiet
+
+-- of the other threads the same ones are enabled where a live thread stands elsewhere
+pub others_same : {S : Type 0} (code : Code S) (m : Machine S) (t : ℕ) (from l : S) (n : ℕ) → m.now.threads t ≡ live from → (u : ℕ) → u ≢ t → MayAdvance code m u ↔ MayAdvance code (with_thread_at m t (live l) n) u
+others_same code m t from l n begun u other =
+    let f = m.now.threads in
+    let g = set_at m.now.threads t (live l) in
+    let same : g u ≡ f u = set_at-other f t (live l) u other in
+    let forth = live_alike f t from l begun in
+    let back = back_alike f t from l begun in (
+      may_alike code m f g m.silents (set_at m.silents t n) u forth back (sym same),
+      may_alike code m g f (set_at m.silents t n) m.silents u back forth same,
+    )
 
 -- The same threads are enabled where an enabled thread stands elsewhere, and is silent next there.
 pub enabled_same : {S : Type 0} (code : Code S) (m : Machine S) (t : ℕ) (from l : S) (n : ℕ) → m.now.threads t ≡ live from → MayAdvance code m t → code.next l ≡ next.Silent
@@ -122,15 +118,7 @@ enabled_same code m t from l n begun may silent u = elim (same_or_other u t) [
     λ _. subst (MayAdvance code (with_thread_at m t (live l) n)) (sym is) (silent_may code (with_thread_at m t (live l) n) t l (set_at-hit m.now.threads t (live l)) silent),
     λ _. subst (MayAdvance code m) (sym is) may,
   )
-  | inr other ↦
-      let f = m.now.threads in
-      let g = set_at m.now.threads t (live l) in
-      let same : g u ≡ f u = set_at-other f t (live l) u other in
-      let forth = live_alike f t from l begun in
-      let back = back_alike f t from l begun in (
-        may_alike code m f g m.silents (set_at m.silents t n) u forth back (sym same),
-        may_alike code m g f (set_at m.silents t n) m.silents u back forth same,
-      )
+  | inr other ↦ others_same code m t from l n begun u other
 ]
 
 -- a thread put at a place twice stands at the second one
@@ -144,3 +132,14 @@ put_back m t a k thread count = λ i. record m { now = record m.now { threads = 
 pub and_then_some : {S : Type 0} (f : S → Option S) (o : Option S) (y : S) → option_and_then f o ≡ Some y → (x : S) × (o ≡ Some x) × (f x ≡ Some y)
 and_then_some f None y h = absurd (cc)
 and_then_some f (Some x) y h = (x, refl, h)
+
+-- the first of some silent steps
+first_quiet : {S : Type 0} (code : Code S) (n : ℕ) (from behind : S) → quiet_steps code (suc n) from ≡ Some behind → (x : S) × (quiet_step code from ≡ Some x)
+first_quiet code zero from behind quiet = (behind, quiet)
+first_quiet code (suc n) from behind quiet =
+    let (middle, before, step) = and_then_some (quiet_step code) (quiet_steps code (suc n) from) behind quiet in first_quiet code n from middle before
+
+-- so a thread that makes some is enabled
+pub silent_enabled : {S : Type 0} (code : Code S) (m : Machine S) (t n : ℕ) (from behind : S) → m.now.threads t ≡ live from → quiet_steps code (suc n) from ≡ Some behind → MayAdvance code m t
+silent_enabled code m t n from behind begun quiet =
+    let (x, step) = first_quiet code n from behind quiet in silent_may code m t from begun (step_silent code from x step)

@@ -2,13 +2,15 @@
 use Rattle.std.specs.Prelude.{◌≡◌, ℕ, zero, suc, ◌<◌, ◌≤◌, Bool, None, Some, Option, List, [], map, length, All, if◌then◌else◌}
 use Rattle.op_core.specs.declared.Limits.{Limits}
 use Rattle.op_core.specs.declared.How.{How}
+use Rattle.op_core.specs.declared.How.TheVariants as how
 use Rattle.op_core.specs.declared.ThreadEnd.{ThreadEnd}
 use Rattle.op_core.specs.declared.Outcome.{Outcome}
 use Rattle.op_core.specs.ThreadCode.{Code}
 use Rattle.op_core.specs.OrdinaryState.{OrdinaryState, ended, HasEnded}
 use Rattle.schedules.specs.declared.order.OrderItem.{OrderItem}
 use Rattle.schedules.specs.declared.order.OrderItem.TheVariants.{Turns, Until}
-use Rattle.schedules.specs.declared.order.TurnEnd.TheVariants.{Other}
+use Rattle.schedules.specs.declared.order.TurnEnd.{TurnEnd}
+use Rattle.schedules.specs.declared.order.TurnEnd.TheVariants.{Other, Spent}
 use Rattle.schedules.specs.declared.order.Schedule.{Schedule}
 use Rattle.schedules.specs.Schedule.{order_after}
 use Rattle.schedules.specs.Run.{AreThose, Run, Follows, EndsBy, Goes}
@@ -53,6 +55,11 @@ CanGive k (Until t kind) = Unit {0}
 abbrev pub order_behind : ℕ → List OrderItem → List OrderItem
 order_behind zero order = order
 order_behind (suc n) order = order_after (order_behind n order) Other
+
+-- how a run ends at a turn of thread t that came to this, where it does
+abbrev pub how_at : ℕ → TurnEnd → Option How
+how_at t (Spent limit) = Some (how.Limit t limit)
+how_at t _ = None
 
 -- one or more turns of threads whose numbers are below 256 lead from one run to the other
 pub record GoesOn {S : Type 0} (code : Code S) (limits : Limits) (run next : Run (Progress S)) : Type 0 where

@@ -1,5 +1,5 @@
 -- What gives turns here: the ordinary machine. A turn of a thread is one call of `advance`.
-use Rattle.std.specs.Prelude.{◌≡◌, ℕ, ◌+◌, ◌-◌, ◌<◌, ◌≤◌, ◌⊎◌, Bool, true, false, Option, None, List, ◌++◌, slice_index}
+use Rattle.std.specs.Prelude.{◌≡◌, ℕ, ◌+◌, ◌-◌, ◌<◌, ◌≤◌, ◌⊎◌, Bool, true, false, Option, None, Some, List, ◌++◌, slice_index}
 use Rattle.std.specs.Option.{option_map}
 use Rattle.op_core.specs.declared.Event.{Event}
 use Rattle.op_core.specs.declared.Limits.{Limits}
@@ -79,6 +79,11 @@ machine_turns code limits = record {
   gives = λ r t end new. IsOutOfTurns limits r t end new ⊎ MakesTurn code limits r t end new;
   stopped = λ r. None;
 }
+
+-- a turn is given to thread t where it is enabled, and where it isn't all stays as it is
+abbrev pub GivesIfEnabled : {S : Type 0} → Code S → Limits → Progress S → ℕ → Option TurnEnd → Progress S → Type 0
+GivesIfEnabled code limits r t None new = (MayAdvance code r.machine t → ⊥) × (new ≡ r)
+GivesIfEnabled code limits r t (Some end) new = MayAdvance code r.machine t × (machine_turns code limits).gives r t end new
 
 -- thread t makes n silent steps, each a turn that it has left
 pub record IsSilentFor {S : Type 0} (code : Code S) (limits : Limits) (r : Progress S) (t n : ℕ) (new : Progress S) : Type 0 where

@@ -1,3 +1,5 @@
+//! How many turns of each thread counted.
+
 ghost use Rattle.std.specs.Prelude.{◌≡◌, ◌+◌, ◌<◌, ◌^◌};
 ghost use Rattle.op_core.specs.OrdinaryState.{set_at};
 ghost use Rattle.ordinary_runs.specs.Turns.{count_in};

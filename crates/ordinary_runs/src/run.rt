@@ -1,10 +1,12 @@
+//! A run of the ordinary machine along a schedule, from its first turn to its outcome.
+
 ghost use Rattle.std.specs.Prelude.{◌≡◌, IfOk, IfSome, Some, None, [], slice_get, if◌then◌else◌};
 ghost use Rattle.std.specs.Option.{option_map};
-ghost use Rattle.schedules.specs.Schedule.{thread_of};
+ghost use Rattle.schedules.specs.Schedule.{thread_of, drawn, Rest};
 ghost use Rattle.schedules.specs.Run.{due_of};
 ghost use Rattle.ordinary_machine.specs.Machine.{machine_of};
-ghost use Rattle.ordinary_runs.specs.Turns.{machine_turns};
-ghost use Rattle.ordinary_runs.specs.ScheduledRun.{begun_with, IsOutcome, run_of, CanGive, order_behind, GoesOnOrEnds};
+ghost use Rattle.ordinary_runs.specs.Turns.{progress_of, machine_turns};
+ghost use Rattle.ordinary_runs.specs.ScheduledRun.{begun_with, IsOutcome, run_of, CanGive, order_behind, how_at, GoesOnOrEnds};
 
 use crate::turns::CountedMachine;
 use op_core::{Event, How, Limits, NoMemory, Outcome, Rows, ThreadCode};
@@ -39,13 +41,13 @@ fn most_turns(item: Option<OrderItem>) -> u64
     }
 }
 
-// How many silent turns at most a picked thread gets at once: none where a number is drawn for each turn.
-fn most_picked(drawn: Option<u64>) -> u64
-    ensures { IfSome drawn (λ _. result ≡ 0) }
+// How a run ends at a thread's turn that came to this, or `None` where it goes on.
+fn how_at(thread: u8, end: TurnEnd) -> Option<How>
+    ensures { result ≡ how_at thread end }
 {
-    match drawn {
-        Some(_) => 0,
-        None => u64::MAX,
+    match end {
+        TurnEnd::Spent(limit) => Some(How::Limit(thread, limit)),
+        _ => None,
     }
 }
 
@@ -97,24 +99,52 @@ impl<'a, C: ThreadCode + Drop> ScheduledRun<'a, C> {
         }
     }
 
-    // Where the order is through, gives the thread that is picked its next turn, or silent ones at once where no
-    // number is drawn for each.
+    // Gives the thread that a number picks its next turn, whatever is left of the schedule that drew the number.
+    fn give_drawn(&mut self, number: u64) -> Result<Option<How>, NoMemory>
+        requires { self.old.rest ≡ record { order = []; number = Some number } }
+        ensures limits { self.new.turns.limits ≡ self.old.turns.limits }
+        ensures goes { IfOk result (λ how. (rest : Rest) → rest.order ≡ [] → drawn rest.number ≡ Some number
+            → GoesOnOrEnds C.code self.old.turns.limits (record { state = progress_of C.state self.old.turns; rest = rest }) how (run_of C.state self.new)) }
+    {
+        self.turns.list_enabled(&mut self.enabled)?;
+        let Some(thread) = pick(self.enabled.as_slice(), Some(number)) else {
+            return Ok(Some(self.turns.end()));
+        };
+        let end = self.turns.turn(thread)?;
+        Ok(how_at(thread, end))
+    }
+
+    // Gives the lowest enabled thread its silent turns at once, and the turn behind them. Each lower one is asked by
+    // trying it, so that nobody is listed.
+    fn give_lowest(&mut self) -> Result<Option<How>, NoMemory>
+        requires { self.old.rest ≡ record { order = []; number = None } }
+        ensures limits { self.new.turns.limits ≡ self.old.turns.limits }
+        ensures goes { IfOk result (λ how. GoesOnOrEnds C.code self.old.turns.limits (run_of C.state self.old) how (run_of C.state self.new)) }
+    {
+        for number in 0..self.turns.highest() as u16 + 1 {
+            let thread = number as u8;
+            let made = self.turns.run_silent(thread, u64::MAX);
+            let end = self.turns.turn_if_enabled(thread)?;
+            if made > 0 {
+                return Ok(None);
+            }
+            if let Some(end) = end {
+                return Ok(how_at(thread, end));
+            }
+        }
+        Ok(Some(self.turns.end()))
+    }
+
+    // Where the order is through, gives the thread that is picked its next turn, or silent ones and that behind them
+    // where no number is drawn for each.
     fn give_picked(&mut self) -> Result<Option<How>, NoMemory>
         requires { self.old.rest.order ≡ [] }
         ensures limits { self.new.turns.limits ≡ self.old.turns.limits }
         ensures goes { IfOk result (λ how. GoesOnOrEnds C.code self.old.turns.limits (run_of C.state self.old) how (run_of C.state self.new)) }
     {
-        let drawn = self.rest.draw();
-        self.turns.list_enabled(&mut self.enabled)?;
-        let Some(thread) = pick(self.enabled.as_slice(), drawn) else {
-            return Ok(Some(self.turns.end()));
-        };
-        if self.turns.run_silent(thread, most_picked(drawn)) > 0 {
-            return Ok(None);
-        }
-        match self.turns.turn(thread)? {
-            TurnEnd::Spent(limit) => Ok(Some(How::Limit(thread, limit))),
-            _ => Ok(None),
+        match self.rest.draw() {
+            Some(number) => self.give_drawn(number),
+            None => self.give_lowest(),
         }
     }
 

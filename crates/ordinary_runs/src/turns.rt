@@ -1,10 +1,14 @@
-ghost use Rattle.std.specs.Prelude.{◌≡◌, ◌+◌, ◌<◌, ◌≤◌, ◌^◌, ℕ, true, false, [], ◌∷◌, ◌++◌, IfOk, OnOk, Some, None};
-ghost use Rattle.op_core.specs.OrdinaryState.{ended};
+//! A machine whose threads are given turns: what a turn comes to, what counts, and how a run ends.
+
+ghost use Rattle.std.specs.Prelude.{◌≡◌, ◌+◌, ◌<◌, ◌≤◌, ◌^◌, ℕ, true, false, [], ◌∷◌, ◌++◌, IfOk, IfSome, IfNone, OnOk, Some, None};
+ghost use Rattle.op_core.specs.declared.Limit.{Limit};
+ghost use Rattle.op_core.specs.OrdinaryState.{unused, ended};
 ghost use Rattle.ordinary_machine.specs.Machine.{machine_of};
 ghost use Rattle.ordinary_machine.specs.Advance.{MayAdvance};
+ghost use Rattle.schedules.specs.declared.order.TurnEnd.{TurnEnd};
 ghost use Rattle.schedules.specs.Schedule.{Rest};
 ghost use Rattle.schedules.specs.Run.{AreThose, EndsBy};
-ghost use Rattle.ordinary_runs.specs.Turns.{count_in, progress_of, is_live, end_of, counted_after, events_after, machine_turns, IsSilentFor};
+ghost use Rattle.ordinary_runs.specs.Turns.{count_in, progress_of, is_live, end_of, counted_after, events_after, machine_turns, IsSilentFor, GivesIfEnabled};
 ghost use Rattle.ordinary_runs.specs.ScheduledRun.{AreEnds};
 
 use crate::counts::TurnCounts;
@@ -105,6 +109,48 @@ impl<C: ThreadCode + Drop> CountedMachine<C> {
         self.keep(answer)?;
         self.count(thread, answer);
         Ok(end_of(answer))
+    }
+
+    /// Gives a thread a turn where it is enabled, and says what the turn came to; `None` where it isn't, and then
+    /// nothing changes. After an error the run can't go on.
+    pub(crate) fn turn_if_enabled(&mut self, thread: u8) -> Result<Option<TurnEnd>, NoMemory>
+        ensures limits { self.new.limits ≡ self.old.limits }
+        ensures gives { IfOk result (λ end. GivesIfEnabled C.code self.old.limits (progress_of C.state self.old) thread end (progress_of C.state self.new)) }
+    {
+        if !self.machine.has_begun(thread) {
+            return Ok(None);
+        }
+        if self.counts.of(thread) >= self.limits.turns {
+            return Ok(self.spent_turn(thread));
+        }
+        let answer = self.machine.advance(thread, &self.limits)?;
+        match end_of(answer) {
+            TurnEnd::Blocked => Ok(None),
+            end => {
+                self.keep(answer)?;
+                self.count(thread, answer);
+                Ok(Some(end))
+            }
+        }
+    }
+
+    // What a turn comes to of a thread that has made its number of turns, `None` where it isn't enabled.
+    fn spent_turn(&self, thread: u8) -> Option<TurnEnd>
+        ensures none { IfNone result (MayAdvance C.code (progress_of C.state self.now).machine thread → ⊥) }
+        ensures some { IfSome result (λ end. MayAdvance C.code (progress_of C.state self.now).machine thread × (end ≡ TurnEnd.Spent Limit.Turns)) }
+    {
+        if self.machine.is_enabled(thread) {
+            Some(TurnEnd::Spent(Limit::Turns))
+        } else {
+            None
+        }
+    }
+
+    /// The highest number with which a thread has begun.
+    pub(crate) fn highest(&self) -> u8
+        ensures { (k : ℕ) → result < k → (progress_of C.state self.now).machine.now.threads k ≡ unused }
+    {
+        self.machine.highest()
     }
 
     /// Gives a thread turns that are silent steps, at most so many and as many as it has left, and says how many.
