@@ -58,7 +58,7 @@ run_stays us steps (suc n) old new is run =
 count_stays : (old new : FrameStack) → StaysLocal old new → frame_count old ≤ 1024 → frame_count new ≤ 1024
 count_stays old new stays few = subst (λ b. suc (length b) ≤ 1024) (sym stays.below) few
 
-steps_stay : (us : List ClassUnit) (old new : FrameStack) → StaysLocal old new → steps_of us old.here.method ≡ steps_of us new.here.method
+pub steps_stay : (us : List ClassUnit) (old new : FrameStack) → StaysLocal old new → steps_of us old.here.method ≡ steps_of us new.here.method
 steps_stay us old new stays = ap (steps_of us) (sym stays.method)
 
 some_same : {A : Type 0} {x y : A} → Some x ≡ Some y → x ≡ y

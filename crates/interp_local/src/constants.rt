@@ -1,5 +1,15 @@
 //! Constants of a program.
 
+ghost use Rattle.std.specs.Prelude.{◌≡◌};
+ghost use Rattle.std.specs.Option.{option_map};
+ghost use Rattle.java_rows.specs.LocalRows.{pushed};
+ghost use Rattle.interp_local.specs.Effects.{row_of, CanApply, constant_words};
+ghost use Rattle.interp_local.specs.Frames.{frame_now};
+
+use crate::effect::{Effect, Words, leaves};
+use crate::numbers::halves;
+use frame_snapshot::Frames;
+
 /// A constant that an instruction pushes.
 #[derive(Clone, Copy)]
 pub enum Constant {
@@ -23,4 +33,17 @@ pub trait Constants {
     /// pushes. Takes no memory.
     fn constant(&self, class: u32, index: u16) -> Option<Constant>
         ensures { option_map constant_words result ≡ constant_at (units self.now) class index };
+}
+
+/// A constant is pushed, if there is one.
+#[inline(always)]
+pub fn push(frames: &Frames, constant: Option<Constant>) -> Effect
+    ensures row { pushed (frame_now frames.now) frames.now.here.stack (option_map constant_words constant) ≡ row_of (frame_now frames.now) result }
+    ensures fits { CanApply frames.now result }
+{
+    match constant {
+        Some(Constant::Word(word)) => leaves(frames, 0, Words::One(word)),
+        Some(Constant::Long(number)) => leaves(frames, 0, halves(number)),
+        None => Effect::Other,
+    }
 }

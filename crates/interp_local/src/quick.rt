@@ -1,15 +1,16 @@
 //! Instructions told apart by one look.
 
 ghost use Rattle.std.specs.Prelude.{◌≡◌, IfOk};
-ghost use Rattle.interp_local.specs.Quick.{quick_of, quicks_of, quick_arithmetic, quick_shift, quick_plain, quick_local, quick_if, quick_if_ints, quick_branch};
+ghost use Rattle.interp_local.specs.Quick.{quick_of, quicks_of, quick_arithmetic, quick_long_arithmetic, quick_shift, quick_long_shift, quick_plain, quick_local, quick_if, quick_if_ints, quick_branch};
 
 use instructions::{
-    Arithmetic, Condition, Instr, LocalAccess, Plain, Shift, Target, Test, ValueKind, What,
+    Arithmetic, Condition, Conversion, Instr, LocalAccess, Plain, Shift, StackOperation, Target,
+    Test, ValueKind, What,
 };
 use std::alloc::{AllocError, Global};
 
-/// An instruction on ints, references and branches that needs no operation, so small that one look tells it. A branch
-/// has the number of the instruction that it leads to.
+/// An instruction so small that one look tells it: on ints, longs, references and branches, where it needs no operation. A
+/// branch has the number of the instruction that it leads to.
 #[derive(Clone, Copy)]
 pub enum Quick {
     /// An int or a reference of a local.
@@ -17,17 +18,38 @@ pub enum Quick {
     /// An int or a reference to a local.
     Store(u16),
     Increment(u16, i16),
+    LoadLong(u16),
+    StoreLong(u16),
     /// A constant.
     Push(u32),
+    /// A constant of the constant pool.
+    Constant(u16),
+    Duplicate,
     Add,
     Subtract,
     Multiply,
+    Divide,
+    Remainder,
     And,
     Or,
     Xor,
     ShiftLeft,
     ShiftRight,
     ShiftRightUnsigned,
+    AddLongs,
+    SubtractLongs,
+    MultiplyLongs,
+    DivideLongs,
+    RemainderLongs,
+    AndLongs,
+    OrLongs,
+    XorLongs,
+    ShiftLongLeft,
+    ShiftLongRight,
+    ShiftLongRightUnsigned,
+    CompareLongs,
+    IntToLong,
+    LongToInt,
     /// An int against 0.
     IfEqual(u32),
     IfNotEqual(u32),
@@ -42,7 +64,14 @@ pub enum Quick {
     IfIntsGreaterOrEqual(u32),
     IfIntsGreater(u32),
     IfIntsLessOrEqual(u32),
+    /// A reference against another one, or against null.
+    IfSame(u32),
+    IfDifferent(u32),
+    IfNull(u32),
+    IfNonNull(u32),
     Goto(u32),
+    /// An instruction that needs an operation.
+    Operation,
     /// Any other instruction.
     Other,
 }
@@ -54,10 +83,26 @@ fn make_arithmetic(op: Arithmetic) -> Quick
         Arithmetic::Add => Quick::Add,
         Arithmetic::Subtract => Quick::Subtract,
         Arithmetic::Multiply => Quick::Multiply,
+        Arithmetic::Divide => Quick::Divide,
+        Arithmetic::Remainder => Quick::Remainder,
         Arithmetic::And => Quick::And,
         Arithmetic::Or => Quick::Or,
         Arithmetic::Xor => Quick::Xor,
-        Arithmetic::Divide | Arithmetic::Remainder => Quick::Other,
+    }
+}
+
+fn make_long_arithmetic(op: Arithmetic) -> Quick
+    ensures { result ≡ quick_long_arithmetic op }
+{
+    match op {
+        Arithmetic::Add => Quick::AddLongs,
+        Arithmetic::Subtract => Quick::SubtractLongs,
+        Arithmetic::Multiply => Quick::MultiplyLongs,
+        Arithmetic::Divide => Quick::DivideLongs,
+        Arithmetic::Remainder => Quick::RemainderLongs,
+        Arithmetic::And => Quick::AndLongs,
+        Arithmetic::Or => Quick::OrLongs,
+        Arithmetic::Xor => Quick::XorLongs,
     }
 }
 
@@ -71,12 +116,36 @@ fn make_shift(op: Shift) -> Quick
     }
 }
 
+fn make_long_shift(op: Shift) -> Quick
+    ensures { result ≡ quick_long_shift op }
+{
+    match op {
+        Shift::Left => Quick::ShiftLongLeft,
+        Shift::Right => Quick::ShiftLongRight,
+        Shift::UnsignedRight => Quick::ShiftLongRightUnsigned,
+    }
+}
+
 fn make_plain(op: Plain) -> Quick
     ensures { result ≡ quick_plain op }
 {
     match op {
+        Plain::Null => Quick::Push(0),
+        Plain::Stack(StackOperation::Dup) => Quick::Duplicate,
         Plain::IntArithmetic(op) => make_arithmetic(op),
+        Plain::LongArithmetic(op) => make_long_arithmetic(op),
         Plain::IntShift(op) => make_shift(op),
+        Plain::LongShift(op) => make_long_shift(op),
+        Plain::LongCompare => Quick::CompareLongs,
+        Plain::Convert(Conversion::IntToLong) => Quick::IntToLong,
+        Plain::Convert(Conversion::LongToInt) => Quick::LongToInt,
+        Plain::ArrayLoad(_)
+        | Plain::ArrayStore(_)
+        | Plain::ArrayLength
+        | Plain::Return(_)
+        | Plain::Throw
+        | Plain::MonitorEnter
+        | Plain::MonitorExit => Quick::Operation,
         _ => Quick::Other,
     }
 }
@@ -85,8 +154,9 @@ fn make_local(access: LocalAccess, local: u16) -> Quick
     ensures { result ≡ quick_local access local }
 {
     match access {
-        LocalAccess::Load(ValueKind::Long) | LocalAccess::Store(ValueKind::Long) => Quick::Other,
+        LocalAccess::Load(ValueKind::Long) => Quick::LoadLong(local),
         LocalAccess::Load(_) => Quick::Load(local),
+        LocalAccess::Store(ValueKind::Long) => Quick::StoreLong(local),
         LocalAccess::Store(_) => Quick::Store(local),
     }
 }
@@ -123,8 +193,11 @@ fn make_branch(test: Test, step: u32) -> Quick
     match test {
         Test::Zero(condition) => make_if(condition, step),
         Test::Ints(condition) => make_if_ints(condition, step),
+        Test::Same => Quick::IfSame(step),
+        Test::Different => Quick::IfDifferent(step),
+        Test::Null => Quick::IfNull(step),
+        Test::NonNull => Quick::IfNonNull(step),
         Test::Always => Quick::Goto(step),
-        _ => Quick::Other,
     }
 }
 
@@ -135,9 +208,15 @@ pub fn make_quick(what: &What<Target>) -> Quick
     match what {
         What::Plain(op) => make_plain(*op),
         What::Int(number) => Quick::Push(number.cast_unsigned()),
+        What::Constant(index) | What::LongConstant(index) => Quick::Constant(*index),
         What::Local(access, local) => make_local(*access, *local),
         What::Increment { local, by } => Quick::Increment(*local, *by),
         What::Branch(test, target) => make_branch(*test, target.step),
+        What::Field(..)
+        | What::Call(..)
+        | What::InterfaceCall(_)
+        | What::Class(..)
+        | What::NewArray(_) => Quick::Operation,
         _ => Quick::Other,
     }
 }

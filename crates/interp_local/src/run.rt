@@ -37,7 +37,34 @@ fn next_step<P: Constants>(
     match quicks.get(frames.step()) {
         None => LocalStep::Other,
         Some(Quick::Other) => local_step(program, steps, frames),
-        Some(quick) => execute(*quick, frames),
+        Some(quick) => execute(program, *quick, frames),
+    }
+}
+
+// The steps that come next, where the frames stand.
+#[inline(always)]
+fn run_here<P: Constants>(
+    program: &P,
+    steps: &[Instr<Target>],
+    quicks: &[Quick],
+    frames: &mut Frames,
+    most: u64,
+) -> LocalRun
+    requires { quicks.now ≡ quicks_of steps.now }
+    ensures run { IsLocalRun (P.units program.now) steps.now result.steps frames.old frames.new }
+    ensures most { result.steps ≤ most }
+    ensures full { (result.stop ≡ LocalStep.Moved) ↔ (result.steps ≡ most) }
+    ensures stop { result.steps < most → result.stop ≡ kind_of (local_now (P.units program.now) steps.now frames.new) }
+{
+    for made in 0..most {
+        match next_step(program, steps, quicks, frames) {
+            LocalStep::Moved => {}
+            stop => return LocalRun { steps: made, stop },
+        }
+    }
+    LocalRun {
+        steps: most,
+        stop: LocalStep::Moved,
     }
 }
 
@@ -56,21 +83,16 @@ fn run_own<P: Constants>(
     ensures full { (result.1.stop ≡ LocalStep.Moved) ↔ (result.1.steps ≡ most) }
     ensures stop { result.1.steps < most → result.1.stop ≡ kind_of (local_now (P.units program.now) steps.now result.0) }
 {
-    for made in 0..most {
-        match next_step(program, steps, quicks, &mut frames) {
-            LocalStep::Moved => {}
-            stop => return (frames, LocalRun { steps: made, stop }),
-        }
-    }
-    let run = LocalRun {
-        steps: most,
-        stop: LocalStep::Moved,
-    };
+    let run = run_here(program, steps, quicks, &mut frames, most);
     (frames, run)
 }
 
+/// How many steps are made where the frames stand, before it pays to move them.
+const FEW: u64 = 12;
+
 /// Makes the steps that come next in the top frame, at most so many, each one what [`local_step`] makes, and says why
 /// it stopped. `quicks` are those of [`crate::make_quicks`]. Takes no memory.
+#[tactic(auto, using(crate::proofs::RunLemmas::runs_join))]
 pub fn run_local<P: Constants>(
     program: &P,
     steps: &[Instr<Target>],
@@ -84,7 +106,15 @@ pub fn run_local<P: Constants>(
     ensures full { (result.stop ≡ LocalStep.Moved) ↔ (result.steps ≡ most) }
     ensures stop { result.steps < most → result.stop ≡ kind_of (local_now (P.units program.now) steps.now frames.new) }
 {
-    let (after, run) = run_own(program, steps, quicks, frames.take(), most);
+    let few = most.min(FEW);
+    let first = run_here(program, steps, quicks, frames, few);
+    if first.steps < few || few == most {
+        return first;
+    }
+    let (after, rest) = run_own(program, steps, quicks, frames.take(), most - few);
     *frames = after;
-    run
+    LocalRun {
+        steps: few + rest.steps,
+        stop: rest.stop,
+    }
 }

@@ -1,15 +1,14 @@
 //! One step.
 
 ghost use Rattle.std.specs.Prelude.{◌≡◌};
-ghost use Rattle.std.specs.Option.{option_map};
-ghost use Rattle.java_rows.specs.LocalRows.{local_row, pushed};
+ghost use Rattle.java_rows.specs.LocalRows.{local_row};
 ghost use Rattle.interp_local.specs.Steps.{local_now, outcome, kind_of, IsLocal, KeptUnlessMoved};
 ghost use Rattle.interp_local.specs.Frames.{frame_now};
-ghost use Rattle.interp_local.specs.Effects.{row_of, CanApply, constant_words};
+ghost use Rattle.interp_local.specs.Effects.{row_of, CanApply};
 
 use crate::apply::apply;
 use crate::branches::{branch, lookup, table};
-use crate::constants::{Constant, Constants};
+use crate::constants::{Constants, push};
 use crate::effect::{Effect, Words, leaves};
 use crate::locals::{access, increment};
 use crate::numbers::halves;
@@ -28,17 +27,6 @@ pub enum LocalStep {
     Other,
 }
 
-fn push_constant(frames: &Frames, constant: Option<Constant>) -> Effect
-    ensures row { pushed (frame_now frames.now) frames.now.here.stack (option_map constant_words constant) ≡ row_of (frame_now frames.now) result }
-    ensures fits { CanApply frames.now result }
-{
-    match constant {
-        Some(Constant::Word(word)) => leaves(frames, 0, Words::One(word)),
-        Some(Constant::Long(number)) => leaves(frames, 0, halves(number)),
-        None => Effect::Other,
-    }
-}
-
 // What an instruction does to the top frame.
 #[inline(always)]
 fn effect<P: Constants>(program: &P, what: &What<Target>, frames: &Frames) -> Effect
@@ -50,7 +38,7 @@ fn effect<P: Constants>(program: &P, what: &What<Target>, frames: &Frames) -> Ef
         What::Int(number) => leaves(frames, 0, Words::One(number.cast_unsigned())),
         What::Long(number) => leaves(frames, 0, halves(number.cast_unsigned())),
         What::Constant(index) | What::LongConstant(index) => {
-            push_constant(frames, program.constant(frames.method().class, *index))
+            push(frames, program.constant(frames.method().class, *index))
         }
         What::Local(kind, local) => access(frames, *kind, *local),
         What::Increment { local, by } => increment(frames, *local, *by),

@@ -88,14 +88,16 @@ impl<'a, P: JavaProgram> Here<'a, P> {
         }
     }
 
-    /// What is to be done at the instruction's beginning; `None` where it needs no operation.
+    /// What is to be done at the instruction's beginning, given what a local step there would come to; `None` where it
+    /// needs no operation.
     #[tactic(auto, using(crate::proofs::BeginLemmas::begun_none, crate::proofs::BeginLemmas::begun_other))]
-    pub fn begin(&self) -> Option<Todo>
+    pub fn begin_by(&self, step: LocalStep) -> Option<Todo>
+        requires { step ≡ kind_of (local_now (P.units self.now.program.now) (steps_of (P.units self.now.program.now) self.now.frames.now.here.method) self.now.frames.now) }
         ensures some { IfSome result (λ todo. begun (P.units self.now.program.now) self.now.thread (frame_of self.now.frames.now.here)
             ≡ plan_of (P.units self.now.program.now) self.now.thread (frame_of self.now.frames.now.here) todo) }
-        ensures none { IsNone result → kind_of (local_now (P.units self.now.program.now) (steps_of (P.units self.now.program.now) self.now.frames.now.here.method) self.now.frames.now) ≡ LocalStep.Moved }
+        ensures none { IsNone result → step ≡ LocalStep.Moved }
     {
-        match look_ahead(self.program, self.steps(), self.frames) {
+        match step {
             LocalStep::Moved => None,
             LocalStep::Throw(class) => Some(self.fail(class)),
             LocalStep::Other => match self.instruction() {
@@ -103,5 +105,14 @@ impl<'a, P: JavaProgram> Here<'a, P> {
                 None => Some(Todo::Stuck),
             },
         }
+    }
+
+    /// What is to be done at the instruction's beginning; `None` where it needs no operation.
+    pub fn begin(&self) -> Option<Todo>
+        ensures some { IfSome result (λ todo. begun (P.units self.now.program.now) self.now.thread (frame_of self.now.frames.now.here)
+            ≡ plan_of (P.units self.now.program.now) self.now.thread (frame_of self.now.frames.now.here) todo) }
+        ensures none { IsNone result → kind_of (local_now (P.units self.now.program.now) (steps_of (P.units self.now.program.now) self.now.frames.now.here.method) self.now.frames.now) ≡ LocalStep.Moved }
+    {
+        self.begin_by(look_ahead(self.program, self.steps(), self.frames))
     }
 }

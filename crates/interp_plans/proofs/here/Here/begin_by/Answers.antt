@@ -3,7 +3,7 @@ use Rattle.interp_local.specs.declared.step.LocalStep.TheVariants.{Throw}
 use Rattle.interp_local.specs.Steps.{kind_of, local_now}
 use Rattle.java_rows.specs.Program.{steps_of}
 use Rattle.interp_plans.proofs.BeginLemmas.{begun_fails}
-use Rattle.interp_plans.proofs.here.Here.begin.Goals as goal
+use Rattle.interp_plans.proofs.here.Here.begin_by.Goals as goal
 
 pub returns-in-Throw-clause-some : goal.returns-in-Throw-clause-some
 returns-in-Throw-clause-some g c =
