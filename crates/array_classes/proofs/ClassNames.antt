@@ -12,7 +12,7 @@ use Rattle.code_decode.specs.declared.code.ClassUnit.{ClassUnit}
 use Rattle.code_laws.proofs.FileLaws.{header}
 use Rattle.link_rules.specs.Classes.{NamedClass, classes_of, class_of_unit, number_of_file}
 use Rattle.link_rules.specs.Units.{AreUnits}
-use Rattle.link_laws.proofs.Numbers.{in_library, file_class, is_file}
+use Rattle.link_rules.proofs.Numbers.{in_library, file_class, is_file}
 use Rattle.base_order.specs.Bases.{name_of}
 use Rattle.array_classes.specs.Numbers.{AreNamed}
 

@@ -14,7 +14,7 @@ use Rattle.code_decode.specs.declared.code.ClassUnit.{ClassUnit}
 use Rattle.link_types.specs.declared.types.ElementType.{ElementType}
 use Rattle.link_types.specs.declared.types.ElementType.TheVariants.{Boolean, Byte, Char, Short, Int, Long, Float, Double, Class, Other}
 use Rattle.link_rules.specs.Classes.{NamedClass, classes_of}
-use Rattle.link_laws.proofs.Lists.{contains_head, contains_tail, contains_cases, contains_none, contains_at}
+use Rattle.link_rules.proofs.Lists.{contains_head, contains_tail, contains_cases, contains_none, contains_at}
 use Rattle.array_order.specs.Order.{StandInOrder}
 use Rattle.array_order.specs.Order.{arrays_in_order}
 use Rattle.array_order.proofs.Arrays.{arrays_few}

@@ -12,7 +12,7 @@ use Rattle.link_types.specs.declared.types.ElementType.{ElementType}
 use Rattle.link_rules.specs.Classes.{classes_of}
 use Rattle.link_rules.specs.Arrays.{array_names}
 use Rattle.link_rules.specs.Names.{program_names, array_number, array_numbered}
-use Rattle.link_laws.proofs.Lists.{Found, found_at, contains_cases, contains_none, contains_at}
+use Rattle.link_rules.proofs.Lists.{Found, found_at, contains_cases, contains_none, contains_at}
 use Rattle.array_order.specs.Order.{array_text, arrays_in_order}
 use Rattle.array_order.proofs.Arrays.{arrays_ordered, arrays_few}
 use Rattle.array_table.specs.declared.place.ArrayPlace.{ArrayPlace}

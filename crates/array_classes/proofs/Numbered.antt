@@ -20,8 +20,8 @@ use Rattle.link_rules.specs.Classes.{NamedClass, classes_of, class_number, is_ar
 use Rattle.link_rules.specs.Descriptors.{base_class, class_of_kind}
 use Rattle.link_rules.specs.Names.{ProgramNames, program_names, type_named, array_number, number_named, element_type_of, other_number}
 use Rattle.link_rules.specs.Readers.{element_name}
-use Rattle.link_laws.specs.Laws.{NamesHaveOneNumber}
-use Rattle.link_laws.proofs.Lists.{contains_at}
+use Rattle.link_rules.specs.Laws.{NamesHaveOneNumber}
+use Rattle.link_rules.proofs.Lists.{contains_at}
 use Rattle.array_order.specs.Order.{array_text}
 use Rattle.base_order.specs.Bases.{name_of, base_text, IsBase}
 use Rattle.array_kinds.specs.declared.kind.ArrayKind.{ArrayKind}

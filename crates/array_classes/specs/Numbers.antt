@@ -4,7 +4,7 @@ use Rattle.class_names.specs.Names.{IsClassName}
 use Rattle.code_decode.specs.declared.code.ClassUnit.{ClassUnit}
 use Rattle.link_types.specs.declared.types.ElementType.TheVariants.{Class}
 use Rattle.link_rules.specs.Classes.{NamedClass, classes_of}
-use Rattle.link_laws.specs.Laws.{NamesHaveOneNumber}
+use Rattle.link_rules.specs.Laws.{NamesHaveOneNumber}
 use Rattle.base_order.specs.Bases.{name_of, IsBase}
 use Rattle.base_order.specs.Order.{IsOrderOf}
 use Rattle.array_table.specs.Table.{IsTableOf}

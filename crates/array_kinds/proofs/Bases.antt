@@ -18,8 +18,8 @@ use Rattle.link_rules.specs.Classes.{NamedClass, class_number}
 use Rattle.link_rules.specs.Descriptors.{base_class, named_kind, class_of_kind}
 use Rattle.link_rules.specs.LinkRules.{IsClassThere}
 use Rattle.link_rules.specs.Names.{ProgramNames, type_named, kind_object, element_type_of, element_class_type, other_number}
-use Rattle.link_laws.proofs.Lists.{Found, found_at}
-use Rattle.link_laws.proofs.Numbers.{class_number_within}
+use Rattle.link_rules.proofs.Lists.{Found, found_at}
+use Rattle.link_rules.proofs.Numbers.{class_number_within}
 use Rattle.array_order.specs.Order.{array_text}
 use Rattle.base_order.specs.Bases.{name_of, base_text, IsBase}
 use Rattle.array_kinds.specs.declared.kind.ArrayKind.{ArrayKind}

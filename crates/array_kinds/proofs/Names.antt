@@ -25,7 +25,7 @@ use Rattle.link_rules.specs.Classes.{is_array_name, class_number}
 use Rattle.link_rules.specs.Descriptors.{named_kind}
 use Rattle.link_rules.specs.Arrays.{array_of, where_array, primitive_array}
 use Rattle.link_rules.specs.Names.{ProgramNames, type_named, kind_object, element_type_of, class_type, other_number}
-use Rattle.link_laws.proofs.Arrays.{begins_array}
+use Rattle.link_rules.proofs.Arrays.{begins_array}
 use Rattle.array_order.specs.Order.{array_text}
 use Rattle.array_kinds.specs.declared.kind.ArrayKind.{ArrayKind}
 use Rattle.array_kinds.specs.Kinds.{array_kind, array_itself, array_of_type, primitive_kind, Spells, SpellKind}

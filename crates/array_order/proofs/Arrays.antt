@@ -5,9 +5,9 @@ use Rattle.std.proofs.lemmas.Bool.{cases_lt, leb-true, le-leb}
 use Rattle.std.proofs.lemmas.List.Elements.{Contains-append_cases, Contains-append_left, Contains-append_right}
 use Rattle.std.proofs.lemmas.Option.{none-some, same_Some}
 use Rattle.link_rules.specs.Arrays.{with_elements, in_order}
-use Rattle.link_laws.proofs.Lists.{contains_head, contains_tail, contains_cases, contains_none, contains_flat_map, contains_at}
-use Rattle.link_laws.proofs.Arrays.{put_before, from_flat_map}
-use Rattle.link_laws.proofs.Texts.{all_put}
+use Rattle.link_rules.proofs.Lists.{contains_head, contains_tail, contains_cases, contains_none, contains_flat_map, contains_at}
+use Rattle.link_rules.proofs.Arrays.{put_before, from_flat_map}
+use Rattle.link_rules.proofs.Texts.{all_put}
 use Rattle.array_order.specs.Order.{array_text, StandInOrder, AreBases, arrays_of_dimensions, arrays_from, arrays_in_order, HasMost, AreMost}
 use Rattle.array_order.proofs.Texts.{Before, by_less, by_rest}
 use Rattle.array_order.proofs.Sorting.{all_sorted, same_in_order, joined_in_order}

@@ -2,8 +2,8 @@
 use Rattle.std.proofs.Common.{◌≡◌, ℕ, Bool, true, false, cond, List, [], ◌∷◌, ◌++◌, Contains, fold, bytes_eq, inl, inr, refl, sym, ap, subst, ◌∙◌}
 use Rattle.std.proofs.lemmas.List.Elements.{Contains-append_cases}
 use Rattle.link_rules.specs.Arrays.{is_before, put_in_order}
-use Rattle.link_laws.proofs.Lists.{contains_head, contains_tail, contains_cases, contains_none}
-use Rattle.link_laws.proofs.Arrays.{put_cases}
+use Rattle.link_rules.proofs.Lists.{contains_head, contains_tail, contains_cases, contains_none}
+use Rattle.link_rules.proofs.Arrays.{put_cases}
 use Rattle.array_order.specs.Order.{StandInOrder}
 use Rattle.array_order.proofs.Texts.{Before, not_itself, through, behind}
 

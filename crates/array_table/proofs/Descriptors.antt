@@ -6,7 +6,7 @@ use Rattle.std.proofs.lemmas.List.{map-append, get_or_at, length_push}
 use Rattle.std.proofs.lemmas.List.Elements.{Contains-append_cases}
 use Rattle.std.proofs.lemmas.Option.{none-some, same_Some, slice_get-get_or, get_or_from_slice_get}
 use Rattle.std.proofs.lemmas.Slice.Eq.{bytes_eq-Decides}
-use Rattle.link_laws.proofs.Lists.{contains_head, contains_tail, contains_cases, contains_none, contains_at}
+use Rattle.link_rules.proofs.Lists.{contains_head, contains_tail, contains_cases, contains_none, contains_at}
 use Rattle.array_order.specs.Order.{array_text, StandInOrder, AreBases, arrays_of_dimensions, arrays_from, arrays_in_order}
 use Rattle.array_order.proofs.Texts.{Before, not_itself}
 use Rattle.array_table.specs.declared.place.ArrayPlace.{ArrayPlace}

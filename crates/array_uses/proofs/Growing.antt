@@ -9,7 +9,7 @@ use Rattle.std.proofs.lemmas.Option.{none-some, same_Some, slice_get_within, sli
 use Rattle.class_read.proofs.FindLaws.{take_next}
 use Rattle.code_decode.specs.declared.code.ClassUnit.{ClassUnit}
 use Rattle.link_rules.specs.Classes.{classes_of}
-use Rattle.link_laws.proofs.Lists.{contains_head, contains_cases, contains_none}
+use Rattle.link_rules.proofs.Lists.{contains_head, contains_cases, contains_none}
 use Rattle.array_order.specs.Order.{array_text, HasMost, AreMost}
 use Rattle.base_order.specs.declared.order.BaseOrder.{BaseOrder}
 use Rattle.base_order.specs.Bases.{base_text}

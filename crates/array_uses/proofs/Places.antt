@@ -7,8 +7,8 @@ use Rattle.code_decode.specs.declared.code.ClassUnit.{ClassUnit}
 use Rattle.link_types.specs.declared.types.ElementType.{ElementType}
 use Rattle.link_types.specs.declared.types.ElementType.TheVariants.{Boolean, Byte, Char, Short, Int, Long, Float, Double, Class, Other}
 use Rattle.link_rules.specs.Classes.{NamedClass, classes_of, class_number, class_numbered}
-use Rattle.link_laws.specs.Laws.{NamesHaveOneNumber}
-use Rattle.link_laws.proofs.Lists.{contains_head, contains_tail, contains_cases, contains_none}
+use Rattle.link_rules.specs.Laws.{NamesHaveOneNumber}
+use Rattle.link_rules.proofs.Lists.{contains_head, contains_tail, contains_cases, contains_none}
 use Rattle.base_order.specs.declared.order.BaseOrder.{BaseOrder}
 use Rattle.base_order.specs.Bases.{name_of, base_text, IsBase}
 use Rattle.base_order.specs.Order.{IsOrderOf}

@@ -10,7 +10,7 @@ use Rattle.link_rules.specs.Classes.{classes_of}
 use Rattle.link_rules.specs.Units.{AreUnits}
 use Rattle.link_rules.specs.LinkRules.{link_rules}
 use Rattle.link_rules.specs.Arrays.{arguments_array}
-use Rattle.link_laws.proofs.Numbers.{class_count_is}
+use Rattle.link_rules.proofs.Numbers.{class_count_is}
 use Rattle.array_order.specs.Order.{array_text}
 use Rattle.base_order.specs.Bases.{base_text}
 use Rattle.array_kinds.specs.Kinds.{array_kind}

@@ -12,7 +12,7 @@ use Rattle.link_types.specs.declared.types.ObjectType.{ObjectType}
 use Rattle.link_rules.specs.Classes.{classes_of}
 use Rattle.link_rules.specs.Arrays.{arrays_of_what}
 use Rattle.link_rules.specs.LinkRules.{what_rules}
-use Rattle.link_laws.specs.Laws.{NamesHaveOneNumber}
+use Rattle.link_rules.specs.Laws.{NamesHaveOneNumber}
 use Rattle.base_order.specs.declared.order.BaseOrder.{BaseOrder}
 use Rattle.base_order.specs.Order.{IsOrderOf}
 use Rattle.array_kinds.specs.declared.kind.ArrayKind.{ArrayKind}

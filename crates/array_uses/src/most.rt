@@ -3,7 +3,7 @@
 ghost use Rattle.std.specs.Prelude.{◌≡◌, ◌≢◌, ◌<◌, ◌∷◌, [], ℕ, List, Some, IfOk, length, slice_get, slice_index, max, replicate};
 ghost use Rattle.code_decode.specs.declared.code.ClassUnit.{ClassUnit};
 ghost use Rattle.link_rules.specs.Classes.{classes_of};
-ghost use Rattle.link_laws.specs.Laws.{NamesHaveOneNumber};
+ghost use Rattle.link_rules.specs.Laws.{NamesHaveOneNumber};
 ghost use Rattle.base_order.specs.Order.{IsOrderOf};
 ghost use Rattle.array_uses.specs.Most.{IsArrayIn, AreUsed, MostGrows};
 

@@ -1,3 +1,5 @@
+//! Tests of method bodies: a Code attribute as javac writes it, labels, and refused lines.
+
 use assembler_bodies::{Body, BodyRefusal, Entry, Labels, Mark, index_of};
 use assembler_lines::Room;
 use assembler_pool::PoolMaker;

@@ -1,3 +1,5 @@
+//! Tests of what a line of the assembler says.
+
 use assembler_lines::{FieldValue, Line, LineRefusal, Operands, Operation, line_of};
 
 #[test]

@@ -1,3 +1,5 @@
+//! Tests of making a constant pool: its entries, their reuse, and a full pool.
+
 use assembler_pool::{PoolMaker, PoolRefusal};
 use class_walk::Constant;
 

@@ -1,3 +1,5 @@
+//! Tests of how a text of the assembler is split into numbered lines.
+
 use assembler_text::{Numbered, lines_of};
 use std::alloc::Global;
 

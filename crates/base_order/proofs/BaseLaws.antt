@@ -13,8 +13,8 @@ use Rattle.code_decode.specs.declared.code.ClassUnit.{ClassUnit}
 use Rattle.link_types.specs.declared.types.ElementType.{ElementType}
 use Rattle.link_types.specs.declared.types.ElementType.TheVariants.{Boolean, Byte, Char, Short, Int, Long, Float, Double, Class, Other}
 use Rattle.link_rules.specs.Classes.{NamedClass, classes_of, class_of_unit, class_numbered, number_of_file}
-use Rattle.link_laws.proofs.Lists.{contains_head, contains_tail, contains_cases, contains_none, contains_at}
-use Rattle.link_laws.proofs.Numbers.{in_library, file_class, class_count_is}
+use Rattle.link_rules.proofs.Lists.{contains_head, contains_tail, contains_cases, contains_none, contains_at}
+use Rattle.link_rules.proofs.Numbers.{in_library, file_class, class_count_is}
 use Rattle.base_order.specs.declared.text.BaseText.{BaseText}
 use Rattle.base_order.specs.Sorted.{AreInOrder}
 use Rattle.base_order.specs.Bases.{name_of, base_text, text_of_base, primitive_bases, class_base, IsBase, AreBasesOf}

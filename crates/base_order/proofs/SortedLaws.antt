@@ -18,7 +18,7 @@ use Rattle.std.specs.Option.{option_map}
 use Rattle.std.proofs.lemmas.Option.{same_Some, slice_get-map, slice_get-get_or}
 use Rattle.std.proofs.lemmas.Slice.Eq.{bytes_eq-Decides}
 use Rattle.class_read.proofs.FindLaws.{take_next}
-use Rattle.link_laws.proofs.Lists.{contains_head, contains_tail, contains_cases, contains_none, contains_at}
+use Rattle.link_rules.proofs.Lists.{contains_head, contains_tail, contains_cases, contains_none, contains_at}
 use Rattle.link_types.specs.declared.types.ElementType.{ElementType}
 use Rattle.array_order.specs.Order.{StandInOrder}
 use Rattle.array_order.proofs.Texts.{Before, by_less, by_rest}

@@ -1,3 +1,5 @@
+//! Tests of built-in classes by name and by number, and of the numbers of machine exceptions.
+
 use builtin_world::{MachineException, builtin, builtin_at, builtin_named, builtins};
 
 #[test]

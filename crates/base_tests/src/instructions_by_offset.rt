@@ -1,3 +1,5 @@
+//! Tests of finding an instruction by its offset.
+
 use instructions::{Instr, Numbering, Plain, Steps, Target, Test, What};
 use rows::Rows;
 use std::alloc::Global;

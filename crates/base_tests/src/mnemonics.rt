@@ -1,3 +1,5 @@
+//! Tests of finding an instruction's row by its mnemonic.
+
 use instructions::{row, row_named};
 
 #[test]

@@ -1,3 +1,5 @@
+//! Tests of an instruction's targets, its index of the pool, and whether the next one may follow it.
+
 use instructions::{
     Call, Case, ClassUse, Condition, FieldAccess, LocalAccess, Plain, Test, ValueKind, What,
 };

@@ -1,3 +1,5 @@
+//! Tests of the folder, the source and the sink in memory, and of their faults.
+
 ghost use Rattle.std.specs.Prelude.{◌≡◌, IfOk, None};
 ghost use Rattle.jr_ports.specs.Memory.{asked_of};
 

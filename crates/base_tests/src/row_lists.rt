@@ -1,3 +1,5 @@
+//! Tests of owned lists of items, of bytes and of text.
+
 use rows::{Bytes, Rows, Text};
 use std::test::Fail;
 

@@ -1,3 +1,5 @@
+//! Tests of a row that is changed apart from the one with which it shares pages.
+
 use shared_rows::SharedRow;
 use std::test::Fail;
 

@@ -1,4 +1,5 @@
-// The exceptions that the machine itself makes.
+//! The exceptions that the machine itself makes.
+
 ghost use Rattle.std.specs.Prelude.{◌≡◌, ◌≤◌, ◌<◌};
 ghost use Rattle.builtin_world.specs.BuiltinClass.{number_of};
 ghost use Rattle.builtin_world.specs.MachineException.{class_name_of};

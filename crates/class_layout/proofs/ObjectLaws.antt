@@ -12,7 +12,7 @@ use Rattle.link_rules.specs.Names.{program_names}
 use Rattle.link_rules.specs.Layout.{static_words}
 use Rattle.link_rules.specs.FixedObjects.{class_object, class_object_size}
 use Rattle.link_rules.specs.Units.{AreUnits}
-use Rattle.link_laws.proofs.Objects.{range_more}
+use Rattle.link_rules.proofs.Objects.{range_more}
 use Rattle.class_supers.proofs.AboveLaws.{last_at, before_at}
 use Rattle.class_layout.specs.declared.row.ClassRow.{ClassRow}
 use Rattle.class_layout.specs.Rows.{AreRowsOf}
@@ -110,7 +110,7 @@ object_past us rows are c index end is past end_is =
 
     at_number : class_object (program_names us) (suc (length (classes_of us)) + (index - length rows)) ≡ class_object (program_names us) c
     at_number = elim (cases_eq c 0) [
-      | inl none ↦ absurd (let count = are.count in let many = Rattle.link_laws.proofs.Numbers.class_count_is us in omega arith)
+      | inl none ↦ absurd (let count = are.count in let many = Rattle.link_rules.proofs.Numbers.class_count_is us in omega arith)
       | inr ne ↦ ap (class_object (program_names us)) (some ne)
     ]
 

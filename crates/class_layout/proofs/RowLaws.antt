@@ -16,10 +16,10 @@ use Rattle.link_rules.specs.Classes.{NamedClass, NamedMember, classes_of, class_
 use Rattle.link_rules.specs.Layout.{is_built_in, built_in_words, added_words, own_words, instance_words, static_words, field_place}
 use Rattle.link_rules.specs.Supers.{superclasses_within, PutsSupersFirst}
 use Rattle.link_rules.specs.Units.{AreUnits}
-use Rattle.link_laws.proofs.Numbers.{in_library, is_file, class_count_is}
-use Rattle.link_laws.proofs.Upward.{up_none}
-use Rattle.link_laws.proofs.Fields.{words_of_file, library_words_are, library_stays}
-use Rattle.link_laws.proofs.Objects.{fields_of_file}
+use Rattle.link_rules.proofs.Numbers.{in_library, is_file, class_count_is}
+use Rattle.link_rules.proofs.Upward.{up_none}
+use Rattle.link_rules.proofs.Fields.{words_of_file, library_words_are, library_stays}
+use Rattle.link_rules.proofs.Objects.{fields_of_file}
 use Rattle.class_layout.specs.declared.row.ClassRow.{ClassRow}
 use Rattle.class_layout.specs.Row.{ArePlaced, place_among}
 use Rattle.class_layout.specs.Rows.{row_numbered, instance_in, place_numbered, empty_row, IsRowOf, AreRowsOf}

@@ -9,10 +9,10 @@ use Rattle.search_orders.specs.Orders.{put, put_all, without_repeats}
 use Rattle.search_orders.proofs.OrderLaws.{put_all_append, put_all_once, once_append}
 use Rattle.link_rules.specs.Classes.{NamedClass, class_number, class_numbered, superclass_of, interfaces_of}
 use Rattle.link_rules.specs.Supers.{HasSuper, superclasses, superinterfaces, field_order, PutsSupersFirst}
-use Rattle.link_laws.proofs.Lists.{contains_head, contains_tail, contains_cases, contains_none}
-use Rattle.link_laws.proofs.Numbers.{superclass_within, class_number_within}
-use Rattle.link_laws.proofs.Upward.{up_none, superclasses_step}
-use Rattle.link_laws.proofs.Above.{interfaces_none, interfaces_step}
+use Rattle.link_rules.proofs.Lists.{contains_head, contains_tail, contains_cases, contains_none}
+use Rattle.link_rules.proofs.Numbers.{superclass_within, class_number_within}
+use Rattle.link_rules.proofs.Upward.{up_none, superclasses_step}
+use Rattle.link_rules.proofs.Above.{interfaces_none, interfaces_step}
 use Rattle.class_orders.specs.declared.class_order.ClassOrder.{ClassOrder}
 use Rattle.class_orders.specs.Orders.{IsOrders, HasOrders, AreOrders, interfaces_in, IsBuilt, IsReady, no_orders}
 

@@ -6,8 +6,8 @@ use borrow.Author.Tests.{eq-eqb}
 use Rattle.search_orders.specs.Orders.{has_number}
 use Rattle.link_rules.specs.Classes.{NamedClass, class_number, class_numbered, superclass_of, interfaces_of}
 use Rattle.link_rules.specs.Supers.{superclasses, superclasses_within, superinterfaces, superinterfaces_within, method_order}
-use Rattle.link_laws.proofs.Numbers.{superclass_within, class_number_within}
-use Rattle.link_laws.proofs.Upward.{up_none}
+use Rattle.link_rules.proofs.Numbers.{superclass_within, class_number_within}
+use Rattle.link_rules.proofs.Upward.{up_none}
 use Rattle.class_relations.proofs.RelationLaws.{past_all, no_superclass}
 
 -- each number of a list is a bound at most

@@ -12,7 +12,7 @@ use Rattle.builtin_world.specs.declared.BuiltinClass.{BuiltinClass}
 use Rattle.class_read.proofs.FindLaws.{take_next}
 use Rattle.code_decode.specs.declared.code.ClassUnit.{ClassUnit}
 use Rattle.link_rules.specs.Classes.{classes_of, class_of_unit, library_class}
-use Rattle.link_laws.proofs.Numbers.{class_count_is}
+use Rattle.link_rules.proofs.Numbers.{class_count_is}
 
 -- the first files
 pub take_classes : (us : List ClassUnit) (k : ℕ) → take (27 + k) (classes_of us) ≡ classes_of (take k us)

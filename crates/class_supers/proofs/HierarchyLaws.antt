@@ -5,8 +5,8 @@ use borrow.Author.Tests.{eqb-true, eqb-false, not-true, eq-eqb, ne_eqb}
 use Rattle.std.proofs.lemmas.List.{length-map}
 use Rattle.std.proofs.lemmas.List.Elements.{All-map}
 use Rattle.transitive_closure.specs.Relation.{relates, Relates, IsWay, IsClosure}
-use Rattle.link_laws.proofs.Lists.{contains_head, contains_tail, contains_cases, contains_none}
-use Rattle.link_laws.proofs.Numbers.{class_number_within}
+use Rattle.link_rules.proofs.Lists.{contains_head, contains_tail, contains_cases, contains_none}
+use Rattle.link_rules.proofs.Numbers.{class_number_within}
 use Rattle.std.specs.List.{list_any}
 use Rattle.std.proofs.lemmas.Option.{slice_get-map, same_Some}
 use Rattle.link_rules.specs.Classes.{NamedClass, class_number, class_numbered}

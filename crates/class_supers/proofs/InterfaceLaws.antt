@@ -12,7 +12,7 @@ use Rattle.link_types.specs.declared.refusal.LinkRefusal.TheVariants.{At}
 use Rattle.link_types.specs.declared.refusal.LinkKind.TheVariants.{Missing, NotInterface}
 use Rattle.link_rules.specs.Classes.{NamedClass, classes_of, class_number, class_has, class_name_at, interfaces_of, number_of_file}
 use Rattle.link_rules.specs.LinkRules.{named_class_rules, named_interface_rules}
-use Rattle.link_laws.proofs.Numbers.{file_class}
+use Rattle.link_rules.proofs.Numbers.{file_class}
 use Rattle.class_supers.specs.Answers.{KeepsExactly}
 use Rattle.class_supers.proofs.RuleLaws.{each_as}
 

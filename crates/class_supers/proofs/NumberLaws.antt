@@ -11,7 +11,7 @@ use Rattle.builtin_world.specs.BuiltinClass.{ClassRow, rows, shown_class}
 use Rattle.builtin_world.specs.Library.{library}
 use Rattle.builtin_world.specs.declared.BuiltinClass.{BuiltinClass}
 use Rattle.class_supers.proofs.ClassLaws.{Shows, shows, library_more, library_count}
-use Rattle.link_laws.proofs.Lists.{next, position_next}
+use Rattle.link_rules.proofs.Lists.{next, position_next}
 use Rattle.link_rules.specs.Classes.{NamedClass, class_number, library_class}
 use Rattle.class_supers.specs.Numbers.{with_number, AreNumbersOf}
 

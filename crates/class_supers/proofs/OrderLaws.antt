@@ -10,8 +10,8 @@ use Rattle.code_decode.specs.declared.code.ClassUnit.{ClassUnit}
 use Rattle.link_rules.specs.Classes.{NamedClass, classes_of, class_number, class_numbered, superclass_of, interfaces_of}
 use Rattle.link_rules.specs.Supers.{HasSuper, IsWayUp, IsAbove, PutsSupersFirst}
 use Rattle.link_rules.specs.LinkRules.{hierarchy_rules}
-use Rattle.link_laws.proofs.Lists.{contains_cases, contains_none}
-use Rattle.link_laws.proofs.Numbers.{in_library, is_file}
+use Rattle.link_rules.proofs.Lists.{contains_cases, contains_none}
+use Rattle.link_rules.proofs.Numbers.{in_library, is_file}
 use Rattle.transitive_closure.specs.Relation.{relates, Relates, IsStrictOrder, PutsRelatedFirst}
 
 -- ---- a class that isn't there names nothing

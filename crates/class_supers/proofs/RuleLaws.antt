@@ -7,7 +7,7 @@ use Rattle.link_types.specs.declared.refusal.LinkRefusal.TheVariants.{At}
 use Rattle.link_types.specs.declared.refusal.LinkKind.TheVariants.{TooMany}
 use Rattle.link_rules.specs.Classes.{classes_of, class_of_unit}
 use Rattle.link_rules.specs.LinkRules.{count_rules, twice_rules, supers_rules, all_twice_rules, all_supers_rules, hierarchy_rules}
-use Rattle.link_laws.proofs.Sharp.{sharp_supers}
+use Rattle.link_rules.proofs.Sharp.{sharp_supers}
 use Rattle.link_types.specs.declared.refusal.LinkRefusal.{LinkRefusal}
 use Rattle.class_supers.specs.Answers.{Refuses, Gives, KeepsExactly, IsRefused}
 

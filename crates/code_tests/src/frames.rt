@@ -1,3 +1,5 @@
+//! Tests of reading stack map frames: the instructions that they stand at, and a frame that is wrong.
+
 use crate::pool::pool;
 use class_read::Pool;
 use code_frames::{FrameRefusal, Frames, read_frames};

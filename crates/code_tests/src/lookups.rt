@@ -1,3 +1,5 @@
+//! Tests of what stands at an index of a constant pool.
+
 use crate::pool::pool;
 use class_pool::{class_name_at, name_and_type_at, reference_at, utf8_at};
 use class_read::Constant;

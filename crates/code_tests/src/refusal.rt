@@ -1,3 +1,5 @@
+//! Tests of the text, the numbers and the places of the refusals of code.
+
 use code_decode::CodeRefusal;
 use std::test::Fail;
 

@@ -1,3 +1,5 @@
+//! Tests of reading the instructions of code: each form of operands, and faulty code.
+
 use crate::pool::pool;
 use class_read::Pool;
 use code_steps::{StepFault, StepRefusal, read_steps};

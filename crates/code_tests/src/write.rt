@@ -1,3 +1,5 @@
+//! Tests of the bytes of written instructions, switches and full stack map frames.
+
 ghost use Rattle.std.specs.Prelude.{◌<◌, ◌^◌, IfOk};
 ghost use Rattle.code_write.specs.Instruction.{count};
 

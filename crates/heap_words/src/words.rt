@@ -1,3 +1,5 @@
+//! How the words of objects, headers, waits and classes are packed into 64 bits.
+
 ghost use Rattle.std.specs.Prelude.{◌≡◌, ◌+◌, ◌*◌, ◌/◌, ◌%◌, ◌^◌, ◌<◌, MatchOption};
 ghost use Rattle.heap_words.specs.Words.{pack, value_of, tag_of, pack_header, header_class, header_length, wait_word, wait_object, wait_state, wait_word_of, SaysOfWait, class_state, class_word_of, SaysOfClass};
 

@@ -1,3 +1,5 @@
+//! Tests of instructions that need no operation: what they leave, and what stops a run.
+
 use crate::setting::{NoConstants, frames_with, stack_is};
 use instructions::{
     Arithmetic, Conversion, Instr, LocalAccess, Plain, Shift, StackOperation, Target, Test,

@@ -1,3 +1,5 @@
+//! Tests of a thread's frames: calls, returns, saves and copies.
+
 use crate::setting::{METHOD, frames_with, push, stack_is};
 use frame_snapshot::{Caller, Frames, NewFrame, PushRefusal, Stage};
 use std::test::Fail;

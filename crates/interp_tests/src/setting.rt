@@ -1,3 +1,5 @@
+//! What the tests of frames and instructions begin with.
+
 use frame_snapshot::{Frames, Stage};
 use interp_local::{Constant, Constants};
 use link_types::MethodId;

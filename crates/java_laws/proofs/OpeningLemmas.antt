@@ -13,9 +13,9 @@ use Rattle.fixed_objects.specs.declared.FixedObject.{FixedObject}
 use Rattle.fixed_objects.specs.Fixed.{fixed_start}
 use Rattle.link_rules.specs.FixedObjects.{ObjectAtStart, objects_at_start, first_free, object_at_start, class_object_at_start, main_thread_at_start, main_thread_object, string_at_start, system_out_object, arguments_object, arguments_class}
 use Rattle.link_rules.specs.Names.{ProgramNames, program_names, class_count}
-use Rattle.link_laws.proofs.Numbers.{class_count_is}
-use Rattle.link_laws.proofs.Objects.{objects_row}
-use Rattle.link_laws.specs.Laws.{LieInARow}
+use Rattle.link_rules.proofs.Numbers.{class_count_is}
+use Rattle.link_rules.proofs.Objects.{objects_row}
+use Rattle.link_rules.specs.Laws.{LieInARow}
 use Rattle.plain_words.specs.Opening.{LiesBehind, KeepsStartWord}
 use Rattle.java_rows.specs.Start.{fixed_object}
 use Rattle.java_laws.specs.Laws.{OpeningsHavePlace, OpeningsLieBelowFirst, OpeningsStartMain}

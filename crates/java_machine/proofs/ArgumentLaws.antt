@@ -20,8 +20,8 @@ use Rattle.link_rules.specs.LinkRules.{link_rules}
 use Rattle.link_rules.specs.Names.{ProgramNames, program_names, type_named, array_numbered}
 use Rattle.link_rules.specs.Readers.{array_type}
 use Rattle.link_rules.specs.Units.{AreUnits}
-use Rattle.link_laws.proofs.Lists.{position_at, position_push}
-use Rattle.link_laws.proofs.Named.{one_number}
+use Rattle.link_rules.proofs.Lists.{position_at, position_push}
+use Rattle.link_rules.proofs.Named.{one_number}
 use Rattle.array_kinds.specs.Kinds.{array_kind}
 use Rattle.array_kinds.proofs.Names.{type_spells}
 use Rattle.array_kinds.proofs.Bases.{spelled_here}

@@ -15,7 +15,7 @@ use Rattle.class_read.proofs.TextLaws.{text_is_formed}
 use Rattle.code_decode.specs.declared.code.ClassUnit.{ClassUnit}
 use Rattle.link_rules.specs.Classes.{NamedClass, class_name_at, class_of_unit, class_numbered, classes_of}
 use Rattle.link_rules.specs.Units.{AreUnits}
-use Rattle.link_laws.proofs.Numbers.{in_library, file_class, is_file}
+use Rattle.link_rules.proofs.Numbers.{in_library, file_class, is_file}
 use Rattle.java_machine.specs.Ends.{class_name}
 
 no_bytes : IsModifiedUtf8 []

@@ -11,8 +11,8 @@ use Rattle.link_rules.specs.FixedObjects.{ObjectAtStart, object_at_start, class_
 use Rattle.link_rules.specs.Layout.{static_words}
 use Rattle.link_rules.specs.Names.{ProgramNames, program_names, class_count}
 use Rattle.java_rows.specs.Start.{fixed_object}
-use Rattle.link_laws.specs.Laws.{LieInARow}
-use Rattle.link_laws.proofs.Objects.{objects_row, range_more}
+use Rattle.link_rules.specs.Laws.{LieInARow}
+use Rattle.link_rules.proofs.Objects.{objects_row, range_more}
 
 pub range_next : (a n : ℕ) → range_with_len a (n + 1) ≡ range_with_len a n ++ (a + n) ∷ []
 range_next a zero = ap (λ x. x ∷ []) (omega arith)

@@ -9,4 +9,5 @@ mod start;
 
 pub use ends::{died_line, limit_line, limit_word};
 pub use lines::line_bytes;
+pub use linker::World;
 pub use start::opening;

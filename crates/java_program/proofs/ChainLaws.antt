@@ -10,9 +10,9 @@ use Rattle.code_decode.specs.declared.code.ClassUnit.{ClassUnit}
 use Rattle.link_rules.specs.Classes.{NamedClass, classes_of, class_number, superclass_of}
 use Rattle.link_rules.specs.Names.{program_names, super_number}
 use Rattle.link_rules.specs.Supers.{PutsSupersFirst, superclasses_within}
-use Rattle.link_laws.proofs.Fields.{library_stays}
-use Rattle.link_laws.proofs.Numbers.{class_count_is}
-use Rattle.link_laws.proofs.Upward.{superclasses_step, up_none}
+use Rattle.link_rules.proofs.Fields.{library_stays}
+use Rattle.link_rules.proofs.Numbers.{class_count_is}
+use Rattle.link_rules.proofs.Upward.{superclasses_step, up_none}
 use Rattle.java_rows.specs.Program.{initialized_with, is_of_file}
 
 with_class : Bool → ℕ → List ℕ → List ℕ

@@ -11,8 +11,8 @@ use Rattle.link_rules.specs.Classes.{NamedClass, NamedMember, class_number, clas
 use Rattle.link_rules.specs.FixedObjects.{class_object}
 use Rattle.link_rules.specs.Names.{ProgramNames, program_names, array_number, class_count, is_class_number, number_named}
 use Rattle.link_rules.specs.Readers.{layout}
-use Rattle.link_laws.proofs.Lists.{Found, found_at}
-use Rattle.link_laws.proofs.Numbers.{class_number_within}
+use Rattle.link_rules.proofs.Lists.{Found, found_at}
+use Rattle.link_rules.proofs.Numbers.{class_number_within}
 use Rattle.java_rows.specs.Program.{method_has}
 
 pub counts : (p : ProgramNames) (c : ℕ) → c ≢ 0 → c ≤ class_count p → is_class_number p c ≡ true

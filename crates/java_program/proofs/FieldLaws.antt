@@ -18,8 +18,8 @@ use Rattle.link_rules.specs.Layout.{field_place, instance_words, own_words}
 use Rattle.link_rules.specs.Names.{program_names, is_class_number}
 use Rattle.link_rules.specs.Supers.{PutsSupersFirst}
 use Rattle.link_rules.specs.Units.{AreUnits}
-use Rattle.link_laws.proofs.Numbers.{in_library, is_file}
-use Rattle.link_laws.proofs.Objects.{fields_of_file}
+use Rattle.link_rules.proofs.Numbers.{in_library, is_file}
+use Rattle.link_rules.proofs.Objects.{fields_of_file}
 use Rattle.java_program.proofs.ClassLaws.{counts, numbered}
 use Rattle.java_program.proofs.OperandLaws.{IsFieldOf}
 

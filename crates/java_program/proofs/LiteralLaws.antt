@@ -8,7 +8,7 @@ use Rattle.code_laws.proofs.FileLaws.{small}
 use Rattle.link_rules.specs.Names.{program_names, string_number}
 use Rattle.link_rules.specs.Strings.{each_once, literal_in, string_texts}
 use Rattle.link_rules.specs.Units.{AreUnits}
-use Rattle.link_laws.proofs.Lists.{Found, found_at}
+use Rattle.link_rules.proofs.Lists.{Found, found_at}
 
 put : List (List ℕ) → List ℕ → List (List ℕ)
 put known text = cond (list_any (bytes_eq text) known) known (known ++ text ∷ [])

@@ -17,7 +17,7 @@ use Rattle.link_rules.specs.Members.{Declared, found_field, found_method}
 use Rattle.link_rules.specs.Names.{ProgramNames, program_names, string_number, value_type}
 use Rattle.link_rules.specs.Operands.{operand, operand_of, class_operand, field_operand, field_named, method_found}
 use Rattle.link_rules.specs.Strings.{literal_text}
-use Rattle.link_laws.proofs.Looked.{field_fits}
+use Rattle.link_rules.proofs.Looked.{field_fits}
 
 -- a field is one of its owner's
 pub record IsFieldOf (cs : List NamedClass) (f : FieldOperand) : Type 0 where

@@ -4,7 +4,7 @@ ghost use Rattle.std.specs.Prelude.{◌≡◌};
 ghost use Rattle.java_rows.specs.Program as program;
 
 use instructions::PrimitiveType;
-use linker::World;
+use program_accept::World;
 
 /// Whether the elements of an array class of references take objects of a class.
 pub fn takes_element(world: &World, array: u32, class: u32) -> bool

@@ -7,7 +7,7 @@ ghost use Rattle.java_rows.specs.Program.{constant_at};
 use crate::world::JavaWorld;
 use interp_local::{Constant, Constants};
 use link_types::Operand;
-use linker::World;
+use program_accept::World;
 
 /// The constant at an index of the pool of a class (JVMS 5.1), `None` where there is none that an instruction pushes.
 fn constant_at(world: &World, class: u32, index: u16) -> Option<Constant>

@@ -4,7 +4,7 @@ ghost use Rattle.std.specs.Prelude.{◌≡◌, ◌<◌, ◌^◌, IfSome, slice_g
 ghost use Rattle.java_rows.specs.Program.{initialized_with};
 
 use builtin_world::number::COUNT;
-use linker::World;
+use program_accept::World;
 
 /// The class at a place of those that are initialized with a class, from that class at place 0 upward (JVMS 5.5): it
 /// goes up as many superclasses. Those of a built-in class are built-in, and ready.

@@ -8,7 +8,7 @@ ghost use Rattle.link_rules.specs.Names.{program_names};
 
 use access_flags::has;
 use link_types::{MethodBody, MethodId};
-use linker::World;
+use program_accept::World;
 
 /// What a call of a method executes.
 pub fn body_of(world: &World, method: MethodId) -> Option<MethodBody>

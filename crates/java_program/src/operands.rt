@@ -8,7 +8,7 @@ ghost use Rattle.link_types.specs.declared.operands.FieldOperand.{FieldOperand a
 ghost use Rattle.link_types.specs.declared.operands.Operand.TheVariants as operands;
 
 use link_types::Operand;
-use linker::World;
+use program_accept::World;
 
 /// What an index of the constant pool of a class stands for.
 pub fn operand_at(world: &World, class: u32, index: u16) -> Operand

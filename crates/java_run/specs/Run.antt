@@ -13,11 +13,11 @@ use Rattle.ordinary_machine.specs.Machine.{Machine}
 use Rattle.ordinary_machine.specs.Start.{start_of}
 use Rattle.ordinary_runs.specs.ScheduledRun.{IsOutcome}
 use Rattle.ordinary_runs.specs.Laws.{IsExecuted}
-use Rattle.program_accept.specs.Accepted.{Accepted}
 use Rattle.program_answers.specs.declared.status.Status.{Status}
 use Rattle.program_answers.specs.declared.status.Status.TheVariants as statuses
 use Rattle.program_answers.specs.declared.answer.Answer.{Answer}
 use Rattle.program_answers.specs.Written.{line}
+use Rattle.link_types.specs.declared.operands.MethodId.{MethodId}
 use Rattle.java_rows.specs.Start.{opening_of}
 use Rattle.java_rows.specs.Thread.{Local, first_state, java_code}
 use Rattle.java_machine.specs.Ends.{died_line, limit_line}
@@ -43,9 +43,9 @@ answer_of us outcome = record {
   err = filter_map (died_line us) outcome.ends ++ how_lines outcome.how;
 }
 
--- the machine at the program's start
-abbrev pub machine_at_start : Accepted → Machine Local
-machine_at_start program = start_of (opening_of program.units) (first_state program.units program.main)
+-- the machine at the start of the program of these classes, which begins with a method
+abbrev pub machine_at_start : List ClassUnit → MethodId → Machine Local
+machine_at_start us main = start_of (opening_of us) (first_state us main)
 
 -- Where the run of a machine ended stuck and no thread is at its code's end without having ended, some events are an execution
 -- that ends stuck and print the lines.
@@ -53,11 +53,12 @@ abbrev pub IsStuckRun : Machine Local → Outcome → Machine Local → Type 0
 IsStuckRun start outcome last = outcome.how ≡ how.Stuck → ((t : ℕ) → HasHalted java_code last t → ⊥)
     → (events : List Event) × EndsStuck java_code start.now events × (outcome.lines ≡ start.now.lines ++ printed events)
 
--- The answer is that of a run of the program which follows a schedule under limits. Some events are an execution of the
--- program from its start that prints the lines and leaves the threads ended as the answer says.
-pub record IsRunOf (program : Accepted) (schedule : Schedule) (limits : Limits) (answer : Answer) : Type 0 where
+-- The answer is that of a run of the program of these classes, which begins with a method: a run that follows a schedule under
+-- limits. Some events are an execution of the program from its start that prints the lines and leaves the threads ended as the
+-- answer says.
+pub record IsRunOf (us : List ClassUnit) (main : MethodId) (schedule : Schedule) (limits : Limits) (answer : Answer) : Type 0 where
   pub outcome : Outcome
-  pub ran : IsOutcome java_code (machine_at_start program) schedule limits false outcome
-  pub executed : IsExecuted java_code (machine_at_start program) false outcome
-  pub stuck : IsStuckRun (machine_at_start program) outcome ran.last.state.machine
-  pub answered : answer ≡ answer_of program.units outcome
+  pub ran : IsOutcome java_code (machine_at_start us main) schedule limits false outcome
+  pub executed : IsExecuted java_code (machine_at_start us main) false outcome
+  pub stuck : IsStuckRun (machine_at_start us main) outcome ran.last.state.machine
+  pub answered : answer ≡ answer_of us outcome

@@ -5,8 +5,7 @@ ghost use Rattle.java_machine.specs.Ends as ends;
 ghost use Rattle.java_machine.specs.Lines as lines;
 ghost use Rattle.java_run.specs.Run as spec;
 
-use java_machine::{died_line, limit_line, line_bytes};
-use linker::World;
+use java_machine::{World, died_line, limit_line, line_bytes};
 use op_core::{How, Line, NoMemory, Outcome, ThreadEnd};
 use program_answers::{Answer, Status};
 use rows::{Bytes, Rows};

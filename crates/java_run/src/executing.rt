@@ -5,9 +5,8 @@ ghost use Rattle.java_run.specs.Run.{IsRunOf};
 
 use crate::answering::answer_of;
 use interp_calls::{JavaCode, JavaProgram};
-use java_machine::opening;
+use java_machine::{World, opening};
 use link_types::MethodId;
-use linker::World;
 use op_core::{Limits, NoMemory};
 use ordinary_machine::Ordinary;
 use ordinary_runs::laws::{runs_are_executions, stuck_runs_are_stuck};
@@ -30,7 +29,7 @@ pub fn execute<P: JavaProgram>(
     limits: &Limits,
 ) -> Result<Answer, NoMemory>
     requires { P.units program.now ≡ world.now }
-    ensures { IfOk result (λ answer. IsRunOf (record { units = world.now; main = main }) schedule.now limits.now answer) }
+    ensures { IfOk result (λ answer. IsRunOf world.now main schedule.now limits.now answer) }
 {
     let opening = opening(alloc, world)?;
     let code = JavaCode::main(alloc, program, main)?;

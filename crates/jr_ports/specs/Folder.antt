@@ -1,3 +1,4 @@
+-- Folders of files: what they hold, what they were asked for, and what was read of them.
 use Rattle.std.specs.Prelude.{◌≡◌, ℕ, List, [], ◌∷◌, Option, Some, Contains, map, take, refl}
 
 -- a file of a folder: its name, as the bytes of a text, and its bytes

@@ -1,3 +1,4 @@
+-- What a listing tells that a folder of the system was asked for.
 use Rattle.std.specs.Prelude.{Option, option_map, map, string_bytes}
 use Rattle.jr_ports.specs.Folder.{Asked}
 use Rattle.jr_ports.specs.declared.folder.Listing.{Listing}

@@ -1,3 +1,4 @@
+-- What a folder in memory holds, and what it was asked for.
 use Rattle.std.specs.Prelude.{ℕ, List, [], if◌then◌else◌, Option, option_map, map, String, string_bytes, Vec}
 use Rattle.std.specs.declared.alloc.Global.{Global}
 use Rattle.jr_ports.specs.Folder.{File, Asked, names_of}

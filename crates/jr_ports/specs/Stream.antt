@@ -1,3 +1,4 @@
+-- Sources and sinks: the pieces that a sink was given, and what was taken of a source.
 use Rattle.std.specs.Prelude.{◌≡◌, ℕ, ◌⊎◌, List, [], ◌∷◌, ◌++◌, Option, option_map, map, take, length}
 
 -- part is how the list begins

@@ -1,3 +1,5 @@
+//! A folder of the file system: the names of its regular files, and their bytes.
+
 ghost use Rattle.std.specs.Prelude.{◌≡◌, ◌<◌, ◌≤◌, None, IfOk, length, map, string_bytes};
 ghost use Rattle.jr_ports.specs.Listing.{asked_of};
 

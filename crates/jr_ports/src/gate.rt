@@ -1,3 +1,5 @@
+//! A gate that the host threads of a parallel run pass between two epochs.
+
 /// A place where the host threads of a parallel run pass between two epochs, for tests of their order.
 pub trait Gate {
     /// A worker is about to begin an epoch.

@@ -1,3 +1,5 @@
+//! A folder, a source and a sink in memory, of which chosen calls fail.
+
 ghost use Rattle.std.specs.Prelude.{◌≡◌, ◌+◌, ◌-◌, ◌^◌, ◌<◌, ◌≤◌, ◌↔◌, min, IsTrue, Contains};
 
 use crate::faults::{Refusal, count_fault};

@@ -1,3 +1,5 @@
+//! The ports to the outside world: folders of class files, sources and sinks, and how their calls fail.
+
 ghost use Rattle.std.specs.Prelude.{◌≡◌, ◌<◌, ◌≤◌, ◌⊎◌, ℕ, List, [], ◌∷◌, Option, Some, None, OnOk, OnErr, IfOk, IfSome, length, drop, map, string_bytes};
 ghost use Rattle.std.specs.List.Sorted.{IsPermutation};
 ghost use Rattle.jr_ports.specs.Folder.{File, Asked, IsListed, IsRead, names_of};

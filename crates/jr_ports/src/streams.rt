@@ -1,3 +1,5 @@
+//! The standard input as a source, the standard output and the standard error as sinks.
+
 ghost use Rattle.std.specs.Prelude.{◌≡◌, ◌<◌, ◌≤◌, None, IfOk, length};
 
 use crate::faults::{Refusal, refusal_of};

@@ -1,3 +1,5 @@
+//! Tests of runs in which a call of the folder, the input or an output fails.
+
 use crate::loading::{B, CONDITIONAL};
 use crate::making::ONE_TEXT;
 use crate::picking::PRINTS_1_AND_2;

@@ -1,3 +1,5 @@
+//! Tests of load: what it says of a folder of class files, and which files are refused.
+
 use crate::running::{Faults, File, ONE_FILE, Seen, owned_files, run_over};
 use std::alloc::Global;
 use std::process::Abort;

@@ -1,3 +1,5 @@
+//! Tests of make: a text of the assembler that becomes a class file, and one that is refused.
+
 use crate::running::{Case, ONE_FILE, is_as_wanted};
 use std::test::Fail;
 

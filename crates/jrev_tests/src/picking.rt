@@ -1,3 +1,5 @@
+//! Tests of pick: values that are printed as in Java, and programs that are not executed.
+
 use crate::running::{Case, File, is_as_wanted};
 use std::test::Fail;
 

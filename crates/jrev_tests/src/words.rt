@@ -1,3 +1,5 @@
+//! Tests of the words of the command line, of the version and the help, and of the numbers of statuses.
+
 use crate::running::{Case, is_as_wanted, owned_words, run};
 use jrev_top::{Request, Status, words_of};
 use std::test::Fail;

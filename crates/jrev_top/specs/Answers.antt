@@ -91,7 +91,7 @@ Counts count program answer = answer ≡ accepted count
 
 -- what pick answers to a program: a run of it
 abbrev pub Runs : Schedule → Limits → ℕ → Accepted → Answer → Type 0
-Runs schedule limits count program answer = IsRunOf program schedule limits answer
+Runs schedule limits count program answer = IsRunOf program.units program.main schedule limits answer
 
 -- the number of the line at which a text is refused
 abbrev pub not_made : ℕ → Answer

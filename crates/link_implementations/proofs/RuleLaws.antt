@@ -21,7 +21,7 @@ use Rattle.link_members.specs.declared.implementations.Asked.{Asked}
 use Rattle.link_members.specs.declared.implementations.Asked.TheVariants.{Implemented, Public}
 use Rattle.link_implementations.specs.Implementations.{all_implementation_rules, is_abstract, is_open, leaves_open}
 use Rattle.search_orders.specs.Orders.{without_repeats}
-use Rattle.link_laws.proofs.Numbers.{class_count_is}
+use Rattle.link_rules.proofs.Numbers.{class_count_is}
 use Rattle.link_implementations.proofs.TestLaws.{any_once, any_of_each, all_where_none, none_where_all}
 
 abbrev flags_of : Declared → ℕ

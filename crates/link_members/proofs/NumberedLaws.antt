@@ -14,7 +14,7 @@ use Rattle.text_numbers.specs.Numbers.{number_of}
 use Rattle.link_rules.specs.Classes.{NamedClass, NamedMember, classes_of, class_numbered, class_of_unit, library_class, library_method, member_of_file, methods_of, number_of_file}
 use Rattle.link_rules.specs.Members.{signature_of}
 use Rattle.link_rules.specs.Units.{AreUnits}
-use Rattle.link_laws.proofs.Numbers.{file_class}
+use Rattle.link_rules.proofs.Numbers.{file_class}
 use Rattle.member_lookup.specs.Found.{HaveNumbers}
 use Rattle.member_lookup.proofs.SourceLaws.{before_at, no_class}
 use Rattle.member_rules.proofs.MethodLaws.{have_texts}

@@ -12,3 +12,6 @@ pub mod Methods
 pub mod Operands
 pub mod Readers
 pub mod LinkRules
+pub mod Linked
+pub mod Laws
+pub mod Uses

@@ -1,3 +1,5 @@
+//! Tests of superclasses and interfaces: refused programs, the numbers of classes, and their order.
+
 use crate::programs::{File, program, unit};
 use class_supers::Supers;
 use code_decode::ClassUnit;

@@ -13,4 +13,5 @@ mod pool;
 mod words;
 
 pub use classes::LinkedClasses;
+pub use linker::{World, link};
 pub use method::LinkedMethod;

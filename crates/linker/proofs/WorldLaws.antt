@@ -12,7 +12,7 @@ use Rattle.builtin_world.specs.declared.number.TheConstants.{OBJECT}
 use Rattle.link_rules.specs.Classes.{classes_of}
 use Rattle.link_rules.specs.Names.{ProgramNames, program_names, class_count}
 use Rattle.link_rules.specs.Methods.{selection_start}
-use Rattle.link_laws.proofs.Numbers.{class_count_is}
+use Rattle.link_rules.proofs.Numbers.{class_count_is}
 
 pub start_within : (us : List ClassUnit) (c : ℕ) → c ≤ class_count (program_names us) → selection_start (program_names us) c ≤ length (classes_of us)
 start_within us c le = go (slice_get_cases p.arrays (c - suc n)).1

@@ -4,12 +4,12 @@ use Rattle.code_decode.specs.declared.code.ClassUnit.{ClassUnit}
 use Rattle.link_rules.specs.Classes.{classes_of}
 use Rattle.link_rules.specs.Supers.{PutsSupersFirst}
 use Rattle.class_relations.specs.Relations.{AreRelationsOf}
-use Rattle.array_classes.specs.ArrayClasses.{AreArraysOf}
 use Rattle.class_layout.specs.Layout.{IsLayoutOf}
 use Rattle.string_literals.specs.Literals.{IsLiteralsOf}
 use Rattle.start_objects.specs.Start.{AreStartObjectsOf}
 use Rattle.method_table.specs.Methods.{AreMethodsOf}
 use Rattle.method_selection.specs.Selection.{IsSelectionOf}
+use Rattle.operand_table.specs.Sources.{AreArraysOf}
 use Rattle.operand_table.specs.Table.{AreOperandsOf}
 use Rattle.linker.specs.declared.tables.ClassTables.{ClassTables}
 use Rattle.linker.specs.declared.tables.MemberTables.{MemberTables}

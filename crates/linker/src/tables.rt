@@ -8,14 +8,13 @@ ghost use Rattle.link_rules.specs.LinkRules.{link_rules};
 ghost use Rattle.pool_types.specs.Types.{ArePoolTypes};
 ghost use Rattle.linker.specs.Tables.{AreClassTables, AreMemberTables};
 
-use array_classes::ArrayClasses;
 use class_layout::ClassLayout;
 use class_relations::ClassRelations;
 use member_lookup::MemberLookup;
 use method_selection::MethodSelection;
 use method_table::MethodTable;
 use named_types::NamedTypes;
-use operand_table::{FieldTypes, OperandTable, Sources};
+use operand_table::{ArrayClasses, FieldTypes, OperandTable, Sources};
 use pool_types::PoolTypes;
 use start_objects::StartObjects;
 use std::alloc::{AllocError, Global};

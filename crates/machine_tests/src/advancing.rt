@@ -1,3 +1,5 @@
+//! Tests of advancing a thread by a step or by silent steps, and of what it is answered.
+
 use crate::setting::{machine, opening};
 use op_core::{Limit, Limits, Line, NoMemory, Op, Reply, ScriptStep, ThreadCode};
 use ordinary_machine::{Advance, Ordinary};

@@ -1,3 +1,5 @@
+//! Tests of monitors and of the table of threads.
+
 use crate::setting::ample;
 use crate::tables::object;
 use machine_tables::{MonitorState, Objects, Seat, Standing, Threads, WaitState};

@@ -1,3 +1,5 @@
+//! Tests of which events the ordinary machine refuses, and why.
+
 use crate::setting::{HAND_OVER, machine, opening};
 use op_core::{Event, Op, Reply, Script};
 use ordinary_machine::{Ordinary, StepRefusal};

@@ -1,3 +1,5 @@
+//! Tests of schedules: which thread a seed picks, and whose turns an order gives.
+
 use op_core::Rows;
 use schedules::{LiveThreads, OrderItem, Remaining, Schedule, TurnEnd, next_number, pick};
 use std::alloc::Global;

@@ -1,3 +1,5 @@
+//! Tests of thread codes that follow scripts: operations in order, saves, frames and copies.
+
 ghost use Rattle.std.specs.Prelude.{◌≡◌};
 
 use op_core::{

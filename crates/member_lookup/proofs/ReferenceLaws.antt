@@ -9,7 +9,7 @@ use Rattle.text_numbers.specs.Numbers.{number_of}
 use Rattle.text_numbers.proofs.NumberLaws.{text_of_number}
 use Rattle.builtin_world.specs.declared.number.TheConstants.{OBJECT}
 use Rattle.link_rules.specs.Classes.{classes_of, class_number, is_array_name}
-use Rattle.link_laws.proofs.Numbers.{class_count_is, class_number_within}
+use Rattle.link_rules.proofs.Numbers.{class_count_is, class_number_within}
 use Rattle.member_lookup.specs.declared.tables.Tables.{Tables}
 use Rattle.member_lookup.specs.Found.{holder_named, assembled, AreNumbersOf, IsLookup}
 

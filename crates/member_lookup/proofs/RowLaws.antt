@@ -18,7 +18,7 @@ use Rattle.text_numbers.proofs.NumberLaws.{number_alone}
 use Rattle.member_table.specs.Members.{has_signature}
 use Rattle.member_table.proofs.SearchLaws.{first_once, first_same}
 use Rattle.member_lookup.specs.declared.tables.Tables.{Tables}
-use Rattle.link_laws.proofs.Lists.{slice_get-behind}
+use Rattle.link_rules.proofs.Lists.{slice_get-behind}
 use Rattle.member_table.specs.declared.table.MemberRow.{MemberRow}
 use Rattle.member_table.specs.Search.{or_first, first_found, of_class}
 use Rattle.member_lookup.specs.Rows.{row_of, rows_from, class_rows, rows_of_classes, is_virtual_row, AreTables}

@@ -9,8 +9,8 @@ use Rattle.builtin_world.specs.BuiltinClass.{ClassRow, rows, shown_class, shown_
 use Rattle.builtin_world.specs.declared.BuiltinClass.{BuiltinClass}
 use Rattle.code_decode.specs.declared.code.ClassUnit.{ClassUnit}
 use Rattle.link_rules.specs.Classes.{NamedClass, NamedMember, classes_of, class_numbered, class_of_unit, library_class, library_field, library_method, member_of_file, fields_of, methods_of, number_of_file}
-use Rattle.link_laws.proofs.Numbers.{file_class}
-use Rattle.link_laws.proofs.Lists.{slice_get-behind}
+use Rattle.link_rules.proofs.Numbers.{file_class}
+use Rattle.link_rules.proofs.Lists.{slice_get-behind}
 use Rattle.class_supers.proofs.ClassLaws.{Shows, shows}
 
 pub before_at : {X : Type 0} (xs ys : List X) (j : ℕ) → j < length xs → slice_get (xs ++ ys) j ≡ slice_get xs j

@@ -10,7 +10,7 @@ use Rattle.std.proofs.lemmas.Option.{same_Some, none-some, slice_get-get_or}
 use Rattle.class_texts.specs.Texts.{ProgramTexts}
 use Rattle.link_types.specs.declared.operands.MethodId.{MethodId}
 use Rattle.link_rules.specs.Classes.{NamedMember, classes_of, methods_of}
-use Rattle.link_laws.proofs.Lists.{contains_none, contains_cases, contains_head, contains_tail, contains_at, contains_flat_map}
+use Rattle.link_rules.proofs.Lists.{contains_none, contains_cases, contains_head, contains_tail, contains_at, contains_flat_map}
 use Rattle.member_table.specs.declared.table.MemberRow.{MemberRow}
 use Rattle.member_table.specs.Members.{has_signature}
 use Rattle.member_lookup.specs.Found.{first_virtual}

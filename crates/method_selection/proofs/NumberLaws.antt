@@ -5,7 +5,7 @@ use Rattle.std.proofs.lemmas.Option.{slice_get_within, get_or_from_slice_get, no
 use Rattle.class_texts.specs.Texts.{ProgramTexts}
 use Rattle.link_types.specs.declared.operands.MethodId.{MethodId}
 use Rattle.link_rules.specs.Classes.{classes_of}
-use Rattle.link_laws.proofs.Lists.{slice_get-behind}
+use Rattle.link_rules.proofs.Lists.{slice_get-behind}
 use Rattle.member_table.specs.declared.table.MemberRow.{MemberRow}
 use Rattle.member_lookup.proofs.FoundLaws.{no_methods}
 use Rattle.member_lookup.proofs.SourceLaws.{before_at}

@@ -8,7 +8,7 @@ use Rattle.link_types.specs.declared.operands.MethodId.{MethodId}
 use Rattle.link_rules.specs.Classes.{NamedClass, classes_of, superclass_of}
 use Rattle.link_rules.specs.Members.{first_some, or_first}
 use Rattle.link_rules.specs.Supers.{PutsSupersFirst}
-use Rattle.link_laws.proofs.Upward.{up_none, superclasses_step}
+use Rattle.link_rules.proofs.Upward.{up_none, superclasses_step}
 use Rattle.member_table.specs.declared.table.MemberRow.{MemberRow}
 use Rattle.member_table.specs.Members.{has_signature}
 use Rattle.member_lookup.specs.Rows.{is_virtual_row}

@@ -15,7 +15,7 @@ use Rattle.link_rules.specs.Members.{Declared, declared, first_some, or_first, i
 use Rattle.link_rules.specs.Methods.{implemented, method_named, selection_start, select_virtual}
 use Rattle.link_rules.specs.Names.{program_names}
 use Rattle.link_rules.specs.Supers.{superclasses}
-use Rattle.link_laws.proofs.Looked.{selected_fits}
+use Rattle.link_rules.proofs.Looked.{selected_fits}
 use Rattle.member_lookup.specs.Found.{HaveNumbers}
 use Rattle.member_lookup.specs.Rows.{row_of}
 use Rattle.member_lookup.proofs.FoundLaws.{no_methods}

@@ -4,7 +4,7 @@ use Rattle.std.specs.Map.{update}
 use Rattle.std.proofs.lemmas.Bool.{cases_Bool}
 use Rattle.std.proofs.lemmas.Slice.Eq.{bytes_eq-Decides}
 use Rattle.link_rules.specs.Members.{or_first}
-use Rattle.link_laws.proofs.Lists.{next, position_next}
+use Rattle.link_rules.proofs.Lists.{next, position_next}
 use Rattle.named_types.specs.Others.{first_place, with_place}
 
 or_first_none : (o : Option ℕ) → or_first o None ≡ o

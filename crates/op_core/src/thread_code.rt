@@ -1,3 +1,5 @@
+//! The code of a Java thread, as a machine sees it.
+
 ghost use Rattle.std.specs.Prelude.{◌≡◌, ◌≢◌, false, [], ◌∷◌, ◌<◌, ◌≤◌, Some, drop, OnOk, OnErr, IfOk, IfSome};
 ghost use Rattle.std.specs.Option.{option_map};
 ghost use Rattle.op_core.specs.ThreadCode.{leaves_any, quiet_step, quiet_steps, LeavesNoSave};

@@ -12,7 +12,7 @@ use Rattle.link_rules.specs.Members.{Declared, found_field}
 use Rattle.link_rules.specs.Names.{program_names, type_named}
 use Rattle.link_rules.specs.Layout.{field_place}
 use Rattle.link_rules.specs.Operands.{field_named}
-use Rattle.link_laws.proofs.Looked.{field_fits}
+use Rattle.link_rules.proofs.Looked.{field_fits}
 use Rattle.class_layout.specs.Rows.{place_numbered}
 use Rattle.member_lookup.specs.Found.{found_of}
 use Rattle.operand_table.specs.FieldTypes.{field_type}

@@ -12,7 +12,7 @@ use Rattle.link_types.specs.declared.operands.Operand.TheVariants.{Nothing}
 use Rattle.link_rules.specs.Classes.{number_of_file}
 use Rattle.link_rules.specs.Names.{ProgramNames, program_names}
 use Rattle.link_rules.specs.Operands.{operand_of, operand}
-use Rattle.link_laws.proofs.Objects.{unit_of_file}
+use Rattle.link_rules.proofs.Objects.{unit_of_file}
 use Rattle.operand_table.specs.Table.{AreOperands, AreOperandsOf, kept_operand}
 use Rattle.operand_table.specs.declared.table.OperandTable.{OperandTable}
 

@@ -5,7 +5,7 @@ use Rattle.link_rules.specs.Units.{AreUnits}
 use Rattle.pool_types.specs.Types.{ArePoolTypes}
 use Rattle.class_layout.specs.Layout.{IsLayoutOf}
 use Rattle.string_literals.specs.Literals.{IsLiteralsOf}
-use Rattle.array_classes.specs.ArrayClasses.{AreArraysOf}
+pub use Rattle.array_classes.specs.ArrayClasses.{AreArraysOf}
 use Rattle.operand_table.specs.declared.sources.Sources.{Sources}
 use Rattle.operand_table.specs.FieldTypes.{AreFieldTypes}
 

@@ -8,6 +8,7 @@ mod methods;
 mod sources;
 mod table;
 
+pub use array_classes::ArrayClasses;
 pub use field_types::FieldTypes;
 pub use sources::Sources;
 pub use table::OperandTable;

@@ -1,3 +1,5 @@
+//! The port that makes the steps on the words of the block.
+
 ghost use Rattle.std.specs.Prelude.{◌≡◌, ℕ, IfOk, IsOk, OnErr};
 ghost use Rattle.step_port.specs.declared.answer.Answer.{Answer};
 ghost use Rattle.step_port.specs.declared.step.Step.{Step};

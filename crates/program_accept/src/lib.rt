@@ -11,3 +11,4 @@ mod refusal;
 
 pub use program::{Program, accept};
 pub use refusal::{AcceptRefusal, Refusal, Stage};
+pub use subset_verify::World;

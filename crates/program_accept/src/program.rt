@@ -16,10 +16,9 @@ use crate::reading::check_files;
 use crate::refusal::{AcceptRefusal, link_refused, too_many, verify_refused};
 use code_decode::ClassUnit;
 use link_types::MethodId;
-use linker::{World, link};
 use std::alloc::Global;
 use std::marker::Model;
-use subset_verify::verify;
+use subset_verify::{World, link, verify};
 
 /// The most files that a program has.
 const MOST_FILES: usize = 1024;

@@ -1,3 +1,4 @@
+-- The exit status for each way in which a run of the program ends.
 use Rattle.std.specs.Prelude.{ℕ}
 use Rattle.program_answers.specs.declared.status.Status.{Status}
 use Rattle.program_answers.specs.declared.status.Status.TheVariants as statuses

@@ -1,3 +1,5 @@
+//! What the program answers: its status, and what goes to its outputs.
+
 use crate::status::Status;
 use rows::{Bytes, Rows};
 

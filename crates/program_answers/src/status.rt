@@ -1,3 +1,5 @@
+//! How a run of the program ended, and the exit status for it.
+
 ghost use Rattle.std.specs.Prelude.{◌≡◌};
 ghost use Rattle.program_answers.specs.Status.{number_of};
 

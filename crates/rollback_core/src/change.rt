@@ -1,3 +1,5 @@
+//! The changes that the answer of a step can make in a thread.
+
 use monitor_core::Why;
 use op_core::{Line, Reply};
 use thread_automaton::Stage;

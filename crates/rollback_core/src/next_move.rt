@@ -1,3 +1,5 @@
+//! The move that a thread makes next, and whether what its code wants is in range.
+
 ghost use Rattle.std.specs.Prelude.{◌≡◌, ◌↔◌, IsTrue, ◌+◌, ◌<◌, ◌^◌};
 ghost use Rattle.op_core.specs.declared.Next.{Next};
 ghost use Rattle.std.specs.Prelude.{if◌then◌else◌};

@@ -1,3 +1,5 @@
+//! A stack of items, for each of which room is made before it is put on top.
+
 ghost use Rattle.std.specs.Prelude.{◌≡◌, ◌+◌, ◌<◌, [], ◌∷◌, ◌==◌, OnOk, OnErr, drop, reverse, slice_get, length};
 ghost use Rattle.thread_automaton.specs.Monitors.{without};
 

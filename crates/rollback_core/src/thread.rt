@@ -1,3 +1,5 @@
+//! A Java thread with its printed lines and what it alone knows of its section.
+
 ghost use Rattle.std.specs.Prelude.{◌≡◌, [], length, map, reverse};
 ghost use Rattle.thread_automaton.specs.ThreadState.{first_state};
 ghost use Rattle.automaton_rows.specs.Fits.{IsFit};

@@ -1,3 +1,5 @@
+//! Owned bytes, which contracts see as a plain list.
+
 ghost use Rattle.std.specs.Prelude.{◌≡◌, ◌==◌, [], length, IfOk};
 
 use std::alloc::{AllocError, Global};

@@ -1,3 +1,5 @@
+//! Owned UTF-8 text, which contracts see as its bytes.
+
 ghost use Rattle.std.specs.Prelude.{◌≡◌, ◌==◌, [], length, IfOk, string_bytes};
 
 use std::alloc::{AllocError, Global};

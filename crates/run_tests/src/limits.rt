@@ -1,3 +1,5 @@
+//! Tests of the limits of frames, of a monitor's depth and of threads.
+
 use crate::setting::{AMPLE, printed, run, shown};
 use op_core::{Limits, Line, Op};
 use std::alloc::Global;

@@ -1,3 +1,5 @@
+//! Tests of what comes of scripts under an order and a seed: lines, ends of threads, limits and events.
+
 use crate::setting::{AMPLE, ended, printed, run, shown};
 use op_core::{Limits, Line, Op, Script};
 use schedules::OrderItem;

@@ -1,3 +1,5 @@
+//! The items of a schedule's order, the schedule itself, and what a turn can come to.
+
 ghost use Rattle.std.specs.Prelude.{◌≡◌};
 ghost use Rattle.schedules.specs.Schedule.{thread_of, has_turns, items_of, item_after};
 

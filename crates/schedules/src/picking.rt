@@ -1,3 +1,5 @@
+//! The numbers that a seed draws, and the thread that gets a turn which no item of an order gives.
+
 ghost use Rattle.std.specs.Prelude.{◌≡◌, ◌<◌, [], length, slice_get, MatchOption};
 ghost use Rattle.schedules.specs.Schedule.{next_of, place_of};
 

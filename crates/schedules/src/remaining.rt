@@ -1,3 +1,5 @@
+//! What is left of a schedule while a run follows it.
+
 ghost use Rattle.std.specs.Prelude.{◌≡◌, slice_get, drop};
 ghost use Rattle.std.specs.Option.{option_map};
 ghost use Rattle.schedules.specs.Schedule.{order_of, order_after, drawn, thread_of, rest_due};

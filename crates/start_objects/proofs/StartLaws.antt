@@ -11,7 +11,7 @@ use Rattle.code_decode.specs.declared.code.ClassUnit.{ClassUnit}
 use Rattle.link_rules.specs.Names.{program_names, string_number}
 use Rattle.link_rules.specs.FixedObjects.{class_words_of_unit}
 use Rattle.link_rules.specs.Readers.{static_value}
-use Rattle.link_laws.proofs.Lists.{Found, found_at}
+use Rattle.link_rules.proofs.Lists.{Found, found_at}
 use Rattle.string_literals.specs.declared.literals.StringLiterals.{StringLiterals}
 use Rattle.string_literals.specs.Literals.{literal_number, IsLiteralsOf}
 use Rattle.start_objects.specs.Start.{kept_word}

@@ -1,3 +1,5 @@
+//! One step made through a port, by the call of its kind.
+
 ghost use Rattle.std.specs.Prelude.{◌≡◌, ◌<◌};
 ghost use Rattle.step_port.specs.Steps.{effect_of, IsOwnStep, IsStore};
 ghost use Rattle.step_port.specs.Words.{exchanged, CanAnswer};

@@ -1,3 +1,5 @@
+//! The port through which threads make their steps on the shared words.
+
 ghost use Rattle.std.specs.Prelude.{◌≡◌, ℕ, IfOk, OnErr, nat_eq, not};
 ghost use Rattle.step_port.specs.Words.{exchanged};
 ghost use Rattle.step_port.specs.declared.answer.Answer.{Answer};

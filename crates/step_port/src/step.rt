@@ -1,3 +1,5 @@
+//! The kinds of steps on shared words: the word that each is made on, and what is done with it.
+
 ghost use Rattle.std.specs.Prelude.{◌≡◌, MatchOption};
 ghost use Rattle.step_port.specs.Steps.{place_of, effect_of, kind_of, IsTooFar};
 ghost use Rattle.heap_words.specs.Words.{pack};

@@ -6,7 +6,7 @@ use Rattle.std.proofs.lemmas.Bool.{cases_Bool}
 use Rattle.std.proofs.lemmas.List.{append-nil, length_push}
 use Rattle.std.proofs.lemmas.Option.{none-some}
 use Rattle.std.proofs.lemmas.Slice.Eq.{bytes_eq-Decides}
-use Rattle.link_laws.proofs.Lists.{position_stays, position_push}
+use Rattle.link_rules.proofs.Lists.{position_stays, position_push}
 use Rattle.string_literals.specs.Texts.{with_text, with_literal, HasNumber}
 
 -- a text that has a number is there, and one that has none isn't

@@ -3,4 +3,5 @@
 
 mod verifying;
 
+pub use linked_methods::{World, link};
 pub use verifying::verify;

@@ -1,3 +1,5 @@
+//! The saved places of a toy thread, the last one first.
+
 ghost use Rattle.std.specs.Prelude.{◌≡◌, ◌==◌, [], ◌∷◌, OnOk, OnErr, MatchOption};
 ghost use Rattle.std.specs.List.{list_any};
 

@@ -1,3 +1,5 @@
+//! Toy scripts: their steps, and where a thread stands in one.
+
 use op_core::Op;
 
 /// One step of a [`ToyScript`].

@@ -1,3 +1,5 @@
+//! The thread code that makes the steps of a toy script.
+
 ghost use Rattle.std.specs.Prelude.{◌≡◌, ◌+◌, ◌^◌, ◌<◌, [], slice_get};
 ghost use Rattle.toy_code.specs.Toy.{steps_of, place_of_first, is_return, half_of_wait, place_behind, waited, answered, place_after};
 

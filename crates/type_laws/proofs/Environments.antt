@@ -9,8 +9,8 @@ use Rattle.link_rules.specs.Classes.{NamedClass, NamedMember, classes_of, member
 use Rattle.link_rules.specs.Methods.{method_named, method_code}
 use Rattle.link_rules.specs.Names.{program_names}
 use Rattle.link_rules.specs.Operands.{operand}
-use Rattle.link_laws.proofs.Numbers.{file_class}
-use Rattle.link_laws.proofs.Objects.{unit_of_file}
+use Rattle.link_rules.proofs.Numbers.{file_class}
+use Rattle.link_rules.proofs.Objects.{unit_of_file}
 use Rattle.type_rules.specs.Environment.{Environment}
 use Rattle.type_rules.specs.Environments.{environment}
 use Rattle.type_rules.specs.VerifyRules.{method_type_rules, method_of_file, verify_rules}

@@ -11,8 +11,8 @@ use Rattle.link_types.specs.declared.types.ObjectType.TheVariants.{Class, Other,
 use Rattle.link_types.specs.Subtypes.{is_object_below, is_element_below}
 use Rattle.link_rules.specs.Classes.{classes_of}
 use Rattle.link_rules.specs.Supers.{superclasses}
-use Rattle.link_laws.specs.Linked.{IsLinked, IsClassNumber}
-use Rattle.link_laws.proofs.Upward.{superclasses_step}
+use Rattle.link_rules.specs.Linked.{IsLinked, IsClassNumber}
+use Rattle.link_rules.proofs.Upward.{superclasses_step}
 use Rattle.type_rules.specs.declared.types.VerificationType.{VerificationType}
 use Rattle.type_rules.specs.declared.types.VerificationType.TheVariants.{Top, Int, Float, Long, Double, Second, Null, UninitThis, Uninit, Object}
 use Rattle.type_rules.specs.Assignable.{Hierarchy, is_class_assignable, is_same_element, is_same_object, is_same_type}

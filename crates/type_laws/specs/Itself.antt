@@ -6,7 +6,7 @@ use Rattle.link_types.specs.declared.types.ElementType.TheVariants as elements
 use Rattle.link_types.specs.declared.types.ObjectType.{ObjectType}
 use Rattle.link_types.specs.declared.types.ObjectType.TheVariants.{Class, Array}
 use Rattle.link_rules.specs.Classes.{classes_of}
-use Rattle.link_laws.specs.Linked.{IsLinked, IsClassNumber}
+use Rattle.link_rules.specs.Linked.{IsLinked, IsClassNumber}
 use Rattle.type_rules.specs.declared.types.VerificationType.{VerificationType}
 use Rattle.type_rules.specs.declared.types.VerificationType.TheVariants.{Object}
 use Rattle.type_rules.specs.Assignable.{is_assignable}

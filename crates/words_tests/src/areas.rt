@@ -1,3 +1,5 @@
+//! Tests of where each area of the table of shared words begins and ends.
+
 use crate::setting::LIMITS;
 use heap_words::{Area, Areas};
 

@@ -1,3 +1,5 @@
+//! Tests of what a thread meets at a monitor that it wants: free, its own, to be revoked, or busy.
+
 use monitor_core::{Contend, Why, contend_with, decide, is_own};
 
 /// An answer as a word and its number.

@@ -1,3 +1,5 @@
+//! Tests of the undo log: what is noted last comes off first.
+
 ghost use Rattle.std.specs.Prelude.{◌≡◌, ◌∷◌, OnOk};
 
 use crate::setting::ample;

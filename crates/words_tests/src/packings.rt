@@ -1,3 +1,5 @@
+//! Tests of how heap words, headers, monitor words, wait words and class words are packed.
+
 use heap_words::{ClassWord, Header, HeapWord, WaitWord, notified};
 use monitor_core::MonitorWord;
 

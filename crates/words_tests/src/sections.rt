@@ -1,3 +1,5 @@
+//! Tests of the words of sections, and of which state of a section may follow which.
+
 use section_state::{SectionParts, State, may_follow, section_parts, section_word, with_state};
 
 const STATES: [State; 5] = [

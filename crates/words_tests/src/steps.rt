@@ -1,3 +1,5 @@
+//! Tests of the steps on shared words: their answers, those that are refused, and the words at first.
+
 use crate::setting::opened;
 use heap_words::Area;
 use plain_words::PlainWords;

@@ -1,3 +1,5 @@
+//! A folder in memory that holds its files.
+
 ghost use Rattle.std.specs.Prelude.{◌≡◌, ◌<◌, ◌≤◌, [], Some, None, map, IfOk, IfSome, IfNone, Contains, string_bytes, take, length, IsTrue, ◌↔◌};
 ghost use Rattle.jr_ports.specs.Folder.{AreDifferent, IsOneOf, names_of, most_read};
 ghost use Rattle.jr_ports.specs.Memory.{files_of, asked_of};

@@ -1,3 +1,5 @@
+//! Pieces of bytes in order, kept one by one and joined.
+
 ghost use Rattle.std.specs.Prelude.{◌≡◌, [], ◌∷◌, ◌++◌, OnOk, OnErr};
 ghost use Rattle.std.specs.List.{concat};
 

@@ -1,3 +1,5 @@
+//! A sink in memory that keeps what it is given.
+
 ghost use Rattle.std.specs.Prelude.{◌≡◌, [], ◌<◌, ◌≤◌, Some, OnOk, OnErr};
 ghost use Rattle.std.specs.List.{concat};
 ghost use Rattle.jr_ports.specs.Stream.{Gains, GainsPart};

@@ -1,3 +1,5 @@
+//! A source in memory that holds its bytes.
+
 ghost use Rattle.std.specs.Prelude.{◌≡◌, ◌<◌, ◌≤◌, [], Some, length, drop};
 
 use super::Calls;

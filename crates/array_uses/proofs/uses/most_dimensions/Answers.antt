@@ -2,7 +2,7 @@ use Rattle.std.proofs.Common.{◌≡◌, [], length, slice_get, Some, flat_map, 
 use Rattle.std.proofs.lemmas.List.{take_all}
 use Rattle.std.proofs.lemmas.Option.{slice_get_read}
 use Rattle.link_rules.specs.Arrays.{arguments_array, arrays_always, arrays_of_unit}
-use Rattle.link_laws.proofs.Named.{one_number}
+use Rattle.link_rules.proofs.Named.{one_number}
 use Rattle.array_uses.specs.Most.{IsMost}
 use Rattle.array_uses.specs.Uses.{IsFileOf}
 use Rattle.array_uses.proofs.Growing.{none_most, more_items}

@@ -1,7 +1,7 @@
 use Rattle.std.proofs.Common.{◌≡◌, ◌∙◌, ◌-◌, ◌++◌, ◌∷◌, [], ℕ, List, length, map, ap, arith}
 use Rattle.std.specs.List.{range_with_len}
 use Rattle.link_rules.specs.Classes.{classes_of}
-use Rattle.link_laws.proofs.Numbers.{class_count_is}
+use Rattle.link_rules.proofs.Numbers.{class_count_is}
 use Rattle.base_order.specs.Bases.{base_text, primitive_bases, class_base, class_type, text_of_base}
 use Rattle.base_order.proofs.BaseLaws.{texts_more, bases_right}
 use Rattle.base_order.proofs.bases.program_bases.Goals as goal

@@ -2,7 +2,7 @@ use Rattle.std.proofs.Common.{◌≡◌, ◌+◌, suc, length, sym, ap, subst, a
 use Rattle.std.proofs.lemmas.Option.{slice_get-get_or}
 use Rattle.link_rules.specs.Classes.{classes_of}
 use Rattle.link_rules.specs.Supers.{PutsSupersFirst}
-use Rattle.link_laws.proofs.Numbers.{class_count_is}
+use Rattle.link_rules.proofs.Numbers.{class_count_is}
 use Rattle.class_orders.proofs.OrderLaws.{none_yet, one_more, all_there}
 use Rattle.class_orders.proofs.orders.all_orders.Goals as goal
 

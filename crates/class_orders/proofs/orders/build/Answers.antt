@@ -1,7 +1,7 @@
 use Rattle.std.proofs.Common.{◌≡◌, ◌<◌, ◌≤◌, Some, slice_get, length, refl, sym, ◌∙◌, ap, subst, arith}
 use Rattle.std.proofs.lemmas.Option.{slice_get_read}
 use Rattle.link_rules.specs.Classes.{classes_of, superclass_of}
-use Rattle.link_laws.proofs.Numbers.{superclass_within}
+use Rattle.link_rules.proofs.Numbers.{superclass_within}
 use Rattle.class_orders.specs.Orders.{IsBuilt}
 use Rattle.class_orders.proofs.OrderLaws.{built_is_right, orders_at}
 use Rattle.class_orders.proofs.orders.build.Goals as goal

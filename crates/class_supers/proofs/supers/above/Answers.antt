@@ -1,7 +1,7 @@
 use Rattle.std.proofs.Common.{◌≡◌, length, ap, ◌∙◌, arith}
 use Rattle.std.proofs.lemmas.List.{length-map}
 use Rattle.link_rules.specs.Classes.{classes_of, class_number}
-use Rattle.link_laws.proofs.Numbers.{class_count_is}
+use Rattle.link_rules.proofs.Numbers.{class_count_is}
 use Rattle.class_supers.specs.Headers.{header_by}
 use Rattle.class_supers.proofs.HierarchyLaws.{headers_are_within, above_is}
 use Rattle.class_supers.proofs.supers.above.Goals as goal

@@ -1,6 +1,6 @@
 use Rattle.std.proofs.Common.{◌≡◌, ◌+◌, ◌-◌, ◌<◌, ◌≤◌, suc, length, slice_get, Some, sym, ◌∙◌, ap, subst, arith}
 use Rattle.link_rules.specs.Classes.{classes_of, superclass_of}
-use Rattle.link_laws.proofs.Numbers.{superclass_within}
+use Rattle.link_rules.proofs.Numbers.{superclass_within}
 use Rattle.java_rows.specs.Program.{initialized_with}
 use Rattle.java_program.proofs.ChainLaws.{class_of_file, class_built_in, past_classes, chain_few, super_of_named}
 use Rattle.java_program.proofs.initialized.initialized_at.Goals as goal

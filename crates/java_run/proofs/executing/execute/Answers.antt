@@ -2,7 +2,6 @@ use Rattle.std.proofs.Common.{◌≡◌, false, refl, subst, ap, ◌∙◌}
 use Rattle.std.proofs.lemmas.Result.{IfOk-weaker}
 use Rattle.ordinary_machine.specs.Start.{start_of}
 use Rattle.ordinary_runs.specs.ScheduledRun.{IsOutcome}
-use Rattle.program_accept.specs.Accepted.{Accepted}
 use Rattle.java_rows.specs.Start.{opening_of}
 use Rattle.java_rows.specs.Thread.{first_state, java_code}
 use Rattle.interp_calls.specs.Local.{local_of}
@@ -12,19 +11,18 @@ use Rattle.java_run.proofs.executing.execute.Goals as goal
 pub returns : goal.returns
 returns g c =
     let us = c.args.world.now in
-    let program : Accepted = record { units = us; main = c.args.main } in
     let outcome = c.in_ok-outcome.outcome in
     let code = c.in_ok-code.code in
     let first = c.in_ok-code.ensures.state ∙ ap (λ u. first_state u c.args.main) c.requires in
     let is = c.in_ok-machine.ensures
     ∙ ap (λ o. start_of o (local_of (g.P.Constants.units code.program.now) code.thread code.frames)) c.in_ok-opening.ensures.value
     ∙ ap (start_of (opening_of us)) first in
-    let ran : IsOutcome java_code (machine_at_start program) c.args.schedule.now c.args.limits.now false outcome =
+    let ran : IsOutcome java_code (machine_at_start us c.args.main) c.args.schedule.now c.args.limits.now false outcome =
     subst (λ m. IsOutcome java_code m c.args.schedule.now c.args.limits.now false outcome) is c.in_ok-outcome.ensures in
     IfOk-weaker c.answer_of.result _ _ (λ answer said. record {
       outcome = outcome;
       ran = ran;
-      executed = c.runs_are_executions.ensures (machine_at_start program) c.args.schedule.now c.args.limits.now false outcome refl ran;
-      stuck = λ is none. c.stuck_runs_are_stuck.ensures (machine_at_start program) c.args.schedule.now c.args.limits.now false outcome ran refl is none;
+      executed = c.runs_are_executions.ensures (machine_at_start us c.args.main) c.args.schedule.now c.args.limits.now false outcome refl ran;
+      stuck = λ is none. c.stuck_runs_are_stuck.ensures (machine_at_start us c.args.main) c.args.schedule.now c.args.limits.now false outcome ran refl is none;
       answered = said;
     }) c.answer_of.ensures

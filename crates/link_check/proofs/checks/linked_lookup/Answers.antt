@@ -1,7 +1,7 @@
 use Rattle.std.proofs.Common.{◌≡◌}
 use Rattle.class_texts.specs.Texts.{ProgramTexts}
 use Rattle.link_rules.specs.LinkRules.{link_rules}
-use Rattle.link_laws.proofs.Sharp.{sharp_link}
+use Rattle.link_rules.proofs.Sharp.{sharp_link}
 use Rattle.class_supers.proofs.RuleLaws.{broken_is_refused}
 use Rattle.link_check.proofs.checks.linked_lookup.Goals as goal
 

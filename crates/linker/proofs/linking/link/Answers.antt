@@ -1,6 +1,6 @@
 use Rattle.std.proofs.Common.{◌≡◌}
 use Rattle.link_rules.specs.LinkRules.{link_rules}
-use Rattle.link_laws.proofs.Sharp.{sharp_link}
+use Rattle.link_rules.proofs.Sharp.{sharp_link}
 use Rattle.linker.specs.Tables.{HasOrder}
 use Rattle.class_supers.proofs.RuleLaws.{broken_is_refused}
 use Rattle.linker.proofs.linking.link.Goals as goal

@@ -1,6 +1,6 @@
 use Rattle.std.proofs.Common.{◌≡◌, ◌+◌, ◌-◌, length, subst, ap, arith}
 use Rattle.link_rules.specs.Classes.{classes_of}
-use Rattle.link_laws.proofs.Numbers.{class_count_is}
+use Rattle.link_rules.proofs.Numbers.{class_count_is}
 use Rattle.member_lookup.specs.Rows.{AreTables}
 use Rattle.member_lookup.proofs.RowLaws.{tables_more}
 use Rattle.member_lookup.proofs.tables.member_tables.Goals as goal

@@ -5,7 +5,7 @@ use Rattle.link_rules.specs.Supers.{superclasses}
 use Rattle.link_rules.specs.Members.{signature_of}
 use Rattle.link_rules.specs.LinkRules.{is_closed}
 use Rattle.class_texts.specs.Texts.{ProgramTexts, entry_number, KnowsEntry}
-use Rattle.link_laws.proofs.Numbers.{superclass_within}
+use Rattle.link_rules.proofs.Numbers.{superclass_within}
 use Rattle.member_rules.proofs.MethodLaws.{have_texts}
 use Rattle.member_rules.proofs.methods.is_final_above.Goals as goal
 

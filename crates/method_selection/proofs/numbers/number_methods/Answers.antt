@@ -1,7 +1,7 @@
 use Rattle.std.proofs.Common.{◌<◌, length, ◌∙◌, ap, arith}
 use Rattle.class_texts.specs.Texts.{ProgramTexts}
 use Rattle.link_rules.specs.Classes.{classes_of}
-use Rattle.link_laws.proofs.Numbers.{class_count_is}
+use Rattle.link_rules.proofs.Numbers.{class_count_is}
 use Rattle.method_selection.proofs.NumberLaws.{all_classes}
 use Rattle.method_selection.proofs.numbers.number_methods.Goals as goal
 

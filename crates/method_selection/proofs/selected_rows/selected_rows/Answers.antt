@@ -2,7 +2,7 @@ use Rattle.std.proofs.Common.{◌≡◌, ◌≤◌, ◌<◌, suc, [], length, sl
 use Rattle.std.proofs.lemmas.List.FromFn.{length-map-range_with_len}
 use Rattle.std.proofs.lemmas.Option.{slice_get-get_or, slice_get_read, slice_get_within, get_or_from_slice_get}
 use Rattle.link_rules.specs.Classes.{classes_of, superclass_of}
-use Rattle.link_laws.proofs.Numbers.{superclass_within}
+use Rattle.link_rules.proofs.Numbers.{superclass_within}
 use Rattle.member_lookup.proofs.PlaceLaws.{numbered_at}
 use Rattle.shared_rows.specs.Rows.{number_at}
 use Rattle.method_selection.specs.Entries.{class_entries}

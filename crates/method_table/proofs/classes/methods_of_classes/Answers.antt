@@ -2,7 +2,7 @@ use Rattle.std.proofs.Common.{◌≡◌, suc, length, map, [], ◌∷◌, ◌++�
 use Rattle.std.specs.List.{range_with_len}
 use Rattle.std.proofs.lemmas.List.FromFn.{map-range_with_len_more}
 use Rattle.class_texts.specs.Texts.{ProgramTexts}
-use Rattle.link_laws.proofs.Numbers.{class_count_is}
+use Rattle.link_rules.proofs.Numbers.{class_count_is}
 use Rattle.link_rules.specs.Classes.{classes_of}
 use Rattle.method_table.specs.Rows.{class_methods}
 use Rattle.method_table.proofs.classes.methods_of_classes.Goals as goal

@@ -1,7 +1,7 @@
 use Rattle.std.proofs.Common.{refl, sym, subst}
 use Rattle.link_types.specs.declared.refusal.LinkRefusal.TheVariants as linking
 use Rattle.link_rules.specs.LinkRules.{link_rules}
-use Rattle.link_laws.proofs.Sharp.{sharp_link}
+use Rattle.link_rules.proofs.Sharp.{sharp_link}
 use Rattle.program_accept.specs.Accepted.{told}
 use Rattle.program_accept.specs.Answers.{Fails}
 use Rattle.program_accept.specs.Refusals.{link_refused}

@@ -1,6 +1,6 @@
 use Rattle.std.proofs.Common.{◌≡◌, length, sym, subst, ap, arith}
-use Rattle.link_laws.proofs.Numbers.{class_count_is}
-use Rattle.link_laws.proofs.Named.{one_number}
+use Rattle.link_rules.proofs.Numbers.{class_count_is}
+use Rattle.link_rules.proofs.Named.{one_number}
 use Rattle.array_uses.specs.Most.{IsMost, program_arrays}
 use Rattle.array_classes.proofs.ClassNames.{classes_named}
 use Rattle.array_classes.proofs.Few.{bases_few}

@@ -1,5 +1,5 @@
 use Rattle.std.proofs.Common.{◌≡◌, length, ap, subst, arith}
-use Rattle.link_laws.proofs.Numbers.{class_count_is}
+use Rattle.link_rules.proofs.Numbers.{class_count_is}
 use Rattle.base_order.specs.Places.{ArePlaces}
 use Rattle.base_order.proofs.order.BaseOrder.new.Goals as goal
 

@@ -1,6 +1,6 @@
 use Rattle.std.proofs.Common.{◌≡◌, ◌∙◌, ◌<◌, length, All, ap, sym, subst, arith}
 use Rattle.link_rules.specs.Classes.{classes_of}
-use Rattle.link_laws.proofs.Numbers.{class_count_is}
+use Rattle.link_rules.proofs.Numbers.{class_count_is}
 use Rattle.class_layout.specs.Objects.{ArePlacesOf}
 use Rattle.class_layout.proofs.ObjectLaws.{rows_few}
 use Rattle.class_layout.proofs.layout.ClassLayout.new.Goals as goal

@@ -3,7 +3,7 @@ use Rattle.link_rules.specs.Classes.{classes_of}
 use Rattle.std.proofs.lemmas.Bool.{ne_eqb}
 use Rattle.std.proofs.Math.Bool.{or-false}
 use Rattle.search_orders.specs.Orders.{has_number}
-use Rattle.link_laws.proofs.Numbers.{class_count_is}
+use Rattle.link_rules.proofs.Numbers.{class_count_is}
 use Rattle.class_relations.proofs.OrderLaws.{order_alone}
 use Rattle.class_relations.proofs.relations.ClassRelations.is_class_below.Goals as goal
 

@@ -2,7 +2,7 @@ use Rattle.std.proofs.Common.{◌==◌, sym, ◌∙◌, ap, arith}
 use Rattle.std.proofs.Math.Bool.{or-false}
 use Rattle.search_orders.specs.Orders.{has_number}
 use Rattle.link_rules.specs.Classes.{classes_of}
-use Rattle.link_laws.proofs.Numbers.{class_count_is}
+use Rattle.link_rules.proofs.Numbers.{class_count_is}
 use Rattle.class_relations.proofs.OrderLaws.{alone}
 use Rattle.class_relations.proofs.relations.ClassRelations.is_superclass.Goals as goal
 

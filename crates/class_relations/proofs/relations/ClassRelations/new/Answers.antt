@@ -1,7 +1,7 @@
 use Rattle.std.proofs.Common.{length, ◌∙◌, ap, arith}
 use Rattle.access_flags.specs.declared.TheConstants.{INTERFACE}
 use Rattle.link_rules.specs.Classes.{classes_of, class_has, superclass_of}
-use Rattle.link_laws.proofs.Numbers.{class_count_is}
+use Rattle.link_rules.proofs.Numbers.{class_count_is}
 use Rattle.class_relations.proofs.relations.ClassRelations.new.Goals as goal
 
 pub class_marks-requires-clause-count : goal.class_marks-requires-clause-count

@@ -1,5 +1,5 @@
 use Rattle.std.proofs.Common.{subst, arith}
-use Rattle.array_classes.specs.ArrayClasses.{AreArraysOf}
+use Rattle.operand_table.specs.Sources.{AreArraysOf}
 use Rattle.linker.proofs.world.World.layout.Goals as goal
 
 pub layout-requires : goal.layout-requires

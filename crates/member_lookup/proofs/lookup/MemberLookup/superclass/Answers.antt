@@ -1,7 +1,7 @@
 use Rattle.std.proofs.Common.{◌≤◌, length, sym, ◌∙◌, ap, subst}
 use Rattle.class_texts.specs.Texts.{ProgramTexts}
 use Rattle.link_rules.specs.Classes.{classes_of, superclass_of}
-use Rattle.link_laws.proofs.Numbers.{superclass_within}
+use Rattle.link_rules.proofs.Numbers.{superclass_within}
 use Rattle.member_lookup.proofs.lookup.MemberLookup.superclass.Goals as goal
 
 pub returns-clause-superclass : goal.returns-clause-superclass

@@ -1,5 +1,0 @@
-use Rattle.link_laws.proofs.Objects.{objects_row}
-use Rattle.link_laws.proofs.laws.fixed_objects_lie_in_a_row.Goals as goal
-
-pub returns : goal.returns
-returns c = objects_row

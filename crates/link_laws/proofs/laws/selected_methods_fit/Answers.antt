@@ -1,5 +1,0 @@
-use Rattle.link_laws.proofs.Looked.{selected_fits}
-use Rattle.link_laws.proofs.laws.selected_methods_fit.Goals as goal
-
-pub returns : goal.returns
-returns c = selected_fits
