@@ -168,6 +168,14 @@ impl Frames {
         self.here.stage
     }
 
+    /// The same, where the top frame keeps it.
+    #[inline(always)]
+    pub fn stage_here(&self) -> &Stage
+        ensures { result.now ≡ self.now.here.stage }
+    {
+        &self.here.stage
+    }
+
     /// The object that the top frame entered as it began, or 0.
     pub fn monitor(&self) -> u32
         ensures { result ≡ self.now.here.monitor }

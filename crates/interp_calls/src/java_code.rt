@@ -1,7 +1,12 @@
 //! A thread of a Java program.
 
-ghost use Rattle.std.specs.Prelude.{◌≡◌, [], IfOk};
+ghost use Rattle.std.specs.Prelude.{◌≡◌, [], IfOk, IfSome};
 ghost use Rattle.java_rows.specs.Thread.{first_state, java_code};
+ghost use Rattle.frame_snapshot.specs.declared.todo.Todo.{Todo};
+ghost use Rattle.op_core.specs.declared.Op.{Op};
+ghost use Rattle.op_core.specs.Replies.{FitsNext};
+ghost use Rattle.interp_plans.specs.Todos.{plan_at, plan_of};
+ghost use Rattle.interp_plans.specs.Uses.{frame_of};
 ghost use Rattle.interp_calls.specs.Local.{local_of, saved_locals};
 
 use crate::apply::{apply, todo_of};
@@ -53,6 +58,61 @@ impl<'p, P: JavaProgram> JavaCode<'p, P> {
             frames,
         })
     }
+
+    // What the thread does next, where that has to be found.
+    fn find_next(&self) -> Next
+        ensures { result ≡ java_code.next (local_of (P.units self.now.program.now) self.now.thread self.now.frames) }
+    {
+        match todo_of(self.program, self.thread, &self.frames) {
+            None => Next::Silent,
+            Some(Todo::Wants(op, _)) => Next::Want(op),
+            Some(Todo::Over | Todo::Stuck) => Next::Ended,
+            Some(_) => Next::Silent,
+        }
+    }
+
+    // What follows the reply to the operation that is wanted, where that is kept.
+    #[inline(always)]
+    fn kept_then(&self) -> Option<Then>
+        ensures { IfSome result (λ then. (op : Op) × (plan_at (P.units self.now.program.now) self.now.thread (frame_of self.now.frames.here) self.now.frames.here.stage
+            ≡ plan_of (P.units self.now.program.now) self.now.thread (frame_of self.now.frames.here) (Todo.Wants op then))) }
+    {
+        match self.frames.stage_here() {
+            Stage::Inside(Todo::Wants(_, then)) => Some(*then),
+            _ => None,
+        }
+    }
+
+    // Goes on with the reply to an operation, given what follows it.
+    fn go_on_with(&mut self, then: Then, reply: Reply)
+        ensures program { self.new.program ≡ self.old.program }
+        ensures thread { self.new.thread ≡ self.old.thread }
+        ensures state { (op : Op) → plan_at (P.units self.old.program.now) self.old.thread (frame_of self.old.frames.here) self.old.frames.here.stage
+            ≡ plan_of (P.units self.old.program.now) self.old.thread (frame_of self.old.frames.here) (Todo.Wants op then)
+            → local_of (P.units self.old.program.now) self.old.thread self.new.frames ≡ java_code.reply (local_of (P.units self.old.program.now) self.old.thread self.old.frames) reply }
+        ensures saves { self.new.frames.saves ≡ self.old.frames.saves }
+    {
+        let here = Here {
+            program: self.program,
+            thread: self.thread,
+            frames: &self.frames,
+        };
+        let reached = answer(&here, then, reply);
+        apply(self.program, self.thread, &mut self.frames, reached);
+    }
+
+    // The same where what follows has to be found.
+    fn find_reply(&mut self, reply: Reply)
+        requires { FitsNext (java_code.next (local_of (P.units self.old.program.now) self.old.thread self.old.frames)) reply }
+        ensures program { self.new.program ≡ self.old.program }
+        ensures thread { self.new.thread ≡ self.old.thread }
+        ensures state { local_of (P.units self.old.program.now) self.old.thread self.new.frames ≡ java_code.reply (local_of (P.units self.old.program.now) self.old.thread self.old.frames) reply }
+        ensures saves { self.new.frames.saves ≡ self.old.frames.saves }
+    {
+        if let Some(Todo::Wants(_, then)) = todo_of(self.program, self.thread, &self.frames) {
+            self.go_on_with(then, reply);
+        }
+    }
 }
 
 impl<'p, P: JavaProgram> ThreadCode for JavaCode<'p, P> {
@@ -67,12 +127,11 @@ impl<'p, P: JavaProgram> ThreadCode for JavaCode<'p, P> {
 
     ghost saved = { λ c. saved_locals (P.units c.program.now) c.thread c.frames };
 
+    #[inline(always)]
     fn next(&self) -> Next {
-        match todo_of(self.program, self.thread, &self.frames) {
-            None => Next::Silent,
-            Some(Todo::Wants(op, _)) => Next::Want(op),
-            Some(Todo::Over | Todo::Stuck) => Next::Ended,
-            Some(_) => Next::Silent,
+        match self.frames.stage_here() {
+            Stage::Inside(Todo::Wants(op, _)) => Next::Want(*op),
+            _ => self.find_next(),
         }
     }
 
@@ -92,14 +151,9 @@ impl<'p, P: JavaProgram> ThreadCode for JavaCode<'p, P> {
     }
 
     fn reply(&mut self, reply: Reply) {
-        if let Some(Todo::Wants(_, then)) = todo_of(self.program, self.thread, &self.frames) {
-            let here = Here {
-                program: self.program,
-                thread: self.thread,
-                frames: &self.frames,
-            };
-            let reached = answer(&here, then, reply);
-            apply(self.program, self.thread, &mut self.frames, reached);
+        match self.kept_then() {
+            Some(then) => self.go_on_with(then, reply),
+            None => self.find_reply(reply),
         }
     }
 

@@ -1,2 +1,1 @@
 pub mod KindLemmas
-mod RunLemmas

@@ -2,30 +2,30 @@
 
 ghost use Rattle.std.specs.Prelude.{◌≡◌, ◌≤◌, ◌<◌, ◌+◌, ◌++◌, ◌^◌, length, drop, slice_get};
 ghost use Rattle.instructions.specs.declared.operation.Test.{Test as tests};
-ghost use Rattle.java_rows.specs.LocalRows.{leaving, pushed, loaded, stored, local_access, incremented, plain_row, int_arithmetic, int_shift, jumps_if};
-ghost use Rattle.java_rows.specs.Program.{constant_at};
+ghost use Rattle.java_rows.specs.LocalRows.{leaving, loaded, stored, incremented, int_arithmetic, int_shift, jumps_if};
 ghost use Rattle.interp_local.specs.Effects.{words_of};
 ghost use Rattle.interp_local.specs.Frames.{frame_now};
 ghost use Rattle.interp_local.specs.Quick.{quick_row, branches_if};
 ghost use Rattle.interp_local.specs.Steps.{outcome, IsLocal, KeptUnlessMoved};
 
-use crate::apply::{apply, replace};
-use crate::constants::{self, Constants};
+use crate::apply::replace;
+use crate::constants::Constants;
 use crate::effect::Words;
+use crate::execute_others::{
+    branch_null, branch_same, compare_long, compute_long, duplicate, load_long, narrow,
+    push_constant, shift_long, store_long, widen,
+};
 use crate::numbers::{compare, int_result, shift_int};
 use crate::operands::{one, two};
 use crate::quick::Quick;
 use crate::step::LocalStep;
-use crate::{branches, locals, plain};
 use builtin_world::number::ARITHMETIC_EXCEPTION;
 use frame_snapshot::Frames;
-use instructions::{
-    Arithmetic, Condition, Conversion, LocalAccess, Plain, Shift, StackOperation, Target, Test,
-    ValueKind,
-};
+use instructions::{Arithmetic, Condition, Shift};
 
+/// So many words are taken off the stack, and these are pushed, if there is room.
 #[inline(always)]
-fn leave(frames: &mut Frames, taken: usize, words: Words) -> LocalStep
+pub fn leave(frames: &mut Frames, taken: usize, words: Words) -> LocalStep
     requires words { taken ≤ length frames.old.here.stack }
     requires step { frames.old.here.step + 1 < 2 ^ 64 }
     ensures row { leaving (frame_now frames.old) (words_of words ++ drop taken frames.old.here.stack) ≡ outcome result frames.new }
@@ -120,8 +120,9 @@ fn shift(frames: &mut Frames, op: Shift) -> LocalStep
     }
 }
 
+/// So many words are taken off the stack, and a branch is taken or not.
 #[inline(always)]
-fn jump_if(frames: &mut Frames, taken: usize, step: u32, holds: bool) -> LocalStep
+pub fn jump_if(frames: &mut Frames, taken: usize, step: u32, holds: bool) -> LocalStep
     requires words { taken ≤ length frames.old.here.stack }
     requires step { frames.old.here.step + 1 < 2 ^ 64 }
     ensures row { jumps_if (frame_now frames.old) (record { at = 0; step = step }) (drop taken frames.old.here.stack) holds ≡ outcome result frames.new }
@@ -163,53 +164,6 @@ fn branch_ints(frames: &mut Frames, condition: Condition, step: u32) -> LocalSte
     }
 }
 
-// A load or a store of a long.
-#[inline(always)]
-fn access_long(frames: &mut Frames, access: LocalAccess, local: u16) -> LocalStep
-    requires { frames.old.here.step + 1 < 2 ^ 64 }
-    ensures row { local_access (frame_now frames.old) access local frames.old.here.stack ≡ outcome result frames.new }
-    ensures kept { KeptUnlessMoved result frames.old frames.new }
-    ensures local { IsLocal frames.old frames.new }
-{
-    let effect = locals::access(frames, access, local);
-    apply(frames, effect)
-}
-
-#[inline(always)]
-fn push_constant<P: Constants>(program: &P, frames: &mut Frames, index: u16) -> LocalStep
-    requires { frames.old.here.step + 1 < 2 ^ 64 }
-    ensures row { pushed (frame_now frames.old) frames.old.here.stack (constant_at (P.units program.now) frames.old.here.method.class index) ≡ outcome result frames.new }
-    ensures kept { KeptUnlessMoved result frames.old frames.new }
-    ensures local { IsLocal frames.old frames.new }
-{
-    let constant = program.constant(frames.method().class, index);
-    let effect = constants::push(frames, constant);
-    apply(frames, effect)
-}
-
-#[inline(always)]
-fn execute_plain(frames: &mut Frames, op: Plain) -> LocalStep
-    requires { frames.old.here.step + 1 < 2 ^ 64 }
-    ensures row { plain_row (frame_now frames.old) op frames.old.here.stack ≡ outcome result frames.new }
-    ensures kept { KeptUnlessMoved result frames.old frames.new }
-    ensures local { IsLocal frames.old frames.new }
-{
-    let effect = plain::plain(frames, op);
-    apply(frames, effect)
-}
-
-// A branch that compares references.
-#[inline(always)]
-fn jump(frames: &mut Frames, test: Test, step: u32) -> LocalStep
-    requires { frames.old.here.step + 1 < 2 ^ 64 }
-    ensures row { branches_if (frame_now frames.old) test step ≡ outcome result frames.new }
-    ensures kept { KeptUnlessMoved result frames.old frames.new }
-    ensures local { IsLocal frames.old frames.new }
-{
-    let effect = branches::branch(frames, test, Target { at: 0, step });
-    apply(frames, effect)
-}
-
 /// Executes an instruction in the top frame; `Other` is left alone.
 #[inline(always)]
 pub fn execute<P: Constants>(program: &P, quick: Quick, frames: &mut Frames) -> LocalStep
@@ -222,42 +176,35 @@ pub fn execute<P: Constants>(program: &P, quick: Quick, frames: &mut Frames) -> 
         Quick::Load(local) => load(frames, usize::from(local)),
         Quick::Store(local) => store(frames, usize::from(local)),
         Quick::Increment(local, by) => increment(frames, usize::from(local), by),
-        Quick::LoadLong(local) => access_long(frames, LocalAccess::Load(ValueKind::Long), local),
-        Quick::StoreLong(local) => access_long(frames, LocalAccess::Store(ValueKind::Long), local),
+        Quick::LoadLong(local) => load_long(frames, usize::from(local)),
+        Quick::StoreLong(local) => store_long(frames, usize::from(local)),
         Quick::Push(word) => leave(frames, 0, Words::One(word)),
-        Quick::Constant(index) => push_constant(program, frames, index),
-        Quick::Duplicate => execute_plain(frames, Plain::Stack(StackOperation::Dup)),
+        Quick::Constant(index) => {
+            let constant = program.constant(frames.method().class, index);
+            push_constant(frames, constant)
+        }
+        Quick::Duplicate => duplicate(frames),
         Quick::Add => compute(frames, Arithmetic::Add),
         Quick::Subtract => compute(frames, Arithmetic::Subtract),
         Quick::Multiply => compute(frames, Arithmetic::Multiply),
-        Quick::Divide => compute(frames, Arithmetic::Divide),
-        Quick::Remainder => compute(frames, Arithmetic::Remainder),
         Quick::And => compute(frames, Arithmetic::And),
         Quick::Or => compute(frames, Arithmetic::Or),
         Quick::Xor => compute(frames, Arithmetic::Xor),
         Quick::ShiftLeft => shift(frames, Shift::Left),
         Quick::ShiftRight => shift(frames, Shift::Right),
         Quick::ShiftRightUnsigned => shift(frames, Shift::UnsignedRight),
-        Quick::AddLongs => execute_plain(frames, Plain::LongArithmetic(Arithmetic::Add)),
-        Quick::SubtractLongs => execute_plain(frames, Plain::LongArithmetic(Arithmetic::Subtract)),
-        Quick::MultiplyLongs => execute_plain(frames, Plain::LongArithmetic(Arithmetic::Multiply)),
-        Quick::DivideLongs => execute_plain(frames, Plain::LongArithmetic(Arithmetic::Divide)),
-        Quick::RemainderLongs => execute_plain(
-            frames,
-            Plain::LongArithmetic(Arithmetic::Remainder),
-        ),
-        Quick::AndLongs => execute_plain(frames, Plain::LongArithmetic(Arithmetic::And)),
-        Quick::OrLongs => execute_plain(frames, Plain::LongArithmetic(Arithmetic::Or)),
-        Quick::XorLongs => execute_plain(frames, Plain::LongArithmetic(Arithmetic::Xor)),
-        Quick::ShiftLongLeft => execute_plain(frames, Plain::LongShift(Shift::Left)),
-        Quick::ShiftLongRight => execute_plain(frames, Plain::LongShift(Shift::Right)),
-        Quick::ShiftLongRightUnsigned => execute_plain(
-            frames,
-            Plain::LongShift(Shift::UnsignedRight),
-        ),
-        Quick::CompareLongs => execute_plain(frames, Plain::LongCompare),
-        Quick::IntToLong => execute_plain(frames, Plain::Convert(Conversion::IntToLong)),
-        Quick::LongToInt => execute_plain(frames, Plain::Convert(Conversion::LongToInt)),
+        Quick::AddLongs => compute_long(frames, Arithmetic::Add),
+        Quick::SubtractLongs => compute_long(frames, Arithmetic::Subtract),
+        Quick::MultiplyLongs => compute_long(frames, Arithmetic::Multiply),
+        Quick::AndLongs => compute_long(frames, Arithmetic::And),
+        Quick::OrLongs => compute_long(frames, Arithmetic::Or),
+        Quick::XorLongs => compute_long(frames, Arithmetic::Xor),
+        Quick::ShiftLongLeft => shift_long(frames, Shift::Left),
+        Quick::ShiftLongRight => shift_long(frames, Shift::Right),
+        Quick::ShiftLongRightUnsigned => shift_long(frames, Shift::UnsignedRight),
+        Quick::CompareLongs => compare_long(frames),
+        Quick::IntToLong => widen(frames),
+        Quick::LongToInt => narrow(frames),
         Quick::IfEqual(step) => branch(frames, Condition::Equal, step),
         Quick::IfNotEqual(step) => branch(frames, Condition::NotEqual, step),
         Quick::IfLess(step) => branch(frames, Condition::Less, step),
@@ -270,10 +217,10 @@ pub fn execute<P: Constants>(program: &P, quick: Quick, frames: &mut Frames) -> 
         Quick::IfIntsGreaterOrEqual(step) => branch_ints(frames, Condition::GreaterOrEqual, step),
         Quick::IfIntsGreater(step) => branch_ints(frames, Condition::Greater, step),
         Quick::IfIntsLessOrEqual(step) => branch_ints(frames, Condition::LessOrEqual, step),
-        Quick::IfSame(step) => jump(frames, Test::Same, step),
-        Quick::IfDifferent(step) => jump(frames, Test::Different, step),
-        Quick::IfNull(step) => jump(frames, Test::Null, step),
-        Quick::IfNonNull(step) => jump(frames, Test::NonNull, step),
+        Quick::IfSame(step) => branch_same(frames, step, true),
+        Quick::IfDifferent(step) => branch_same(frames, step, false),
+        Quick::IfNull(step) => branch_null(frames, step, true),
+        Quick::IfNonNull(step) => branch_null(frames, step, false),
         Quick::Goto(step) => jump_if(frames, 0, step, true),
         Quick::Operation | Quick::Other => LocalStep::Other,
     }

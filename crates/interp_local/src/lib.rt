@@ -10,6 +10,7 @@ mod branches;
 mod constants;
 mod effect;
 mod execute;
+mod execute_others;
 mod locals;
 mod numbers;
 mod operands;

@@ -87,12 +87,8 @@ fn run_own<P: Constants>(
     (frames, run)
 }
 
-/// How many steps are made where the frames stand, before it pays to move them.
-const FEW: u64 = 12;
-
 /// Makes the steps that come next in the top frame, at most so many, each one what [`local_step`] makes, and says why
 /// it stopped. `quicks` are those of [`crate::make_quicks`]. Takes no memory.
-#[tactic(auto, using(crate::proofs::RunLemmas::runs_join))]
 pub fn run_local<P: Constants>(
     program: &P,
     steps: &[Instr<Target>],
@@ -106,15 +102,7 @@ pub fn run_local<P: Constants>(
     ensures full { (result.stop ≡ LocalStep.Moved) ↔ (result.steps ≡ most) }
     ensures stop { result.steps < most → result.stop ≡ kind_of (local_now (P.units program.now) steps.now frames.new) }
 {
-    let few = most.min(FEW);
-    let first = run_here(program, steps, quicks, frames, few);
-    if first.steps < few || few == most {
-        return first;
-    }
-    let (after, rest) = run_own(program, steps, quicks, frames.take(), most - few);
+    let (after, run) = run_own(program, steps, quicks, frames.take(), most);
     *frames = after;
-    LocalRun {
-        steps: few + rest.steps,
-        stop: rest.stop,
-    }
+    run
 }

@@ -3,7 +3,7 @@ use Rattle.java_rows.specs.Thread.{next_of}
 use Rattle.interp_plans.specs.Todos.{plan_at}
 use Rattle.interp_plans.specs.Uses.{frame_of}
 use Rattle.interp_calls.proofs.SilentLemmas.{begun_silent}
-use Rattle.interp_calls.proofs.java_code.JavaCodeThreadCode.next.Goals as goal
+use Rattle.interp_calls.proofs.java_code.JavaCode.find_next.Goals as goal
 
 pub returns-in-None : goal.returns-in-None
 returns-in-None g c =
