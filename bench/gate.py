@@ -2,8 +2,8 @@
 """Runs the merge gate and prints what each crate costs it, in seconds of a processor.
 
 usage: bench/gate.py [--anew]     at the top of the repository
-What an earlier run on this machine passed costs nothing; --anew proves and tries all again. The lines of `rt ci` go to
-the standard error. Linux only: the times are read from /proc, five times a second.
+With a kit that keeps what an earlier run on this machine passed, that costs nothing; --anew then proves and tries all
+again. Other kits don't know the word, and begin from nothing each time. The lines of `rt ci` go to the standard error. Linux only: the times are read from /proc, five times a second.
 """
 import os
 import resource

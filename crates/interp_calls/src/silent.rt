@@ -19,7 +19,7 @@ use crate::apply::{apply, go_on};
 use crate::calling::{MethodCall, call};
 use crate::ending::end;
 use frame_snapshot::{CallSite, Caller, Frames, PushRefusal, Stage, Todo, Value};
-use interp_local::local_step;
+use interp_local::run_step;
 use interp_plans::{Here, JavaProgram};
 use link_types::MethodId;
 use op_core::CodeStop;
@@ -168,8 +168,10 @@ pub fn move_on<P: JavaProgram>(program: &P, thread: u32, frames: &mut Frames)
         ≡ silent_of (P.units program.now) thread (begun (P.units program.now) thread (frame_of frames.old.here)) (waiting_below (P.units program.now) thread frames.old.below) }
     ensures saves { frames.new.saves ≡ frames.old.saves }
 {
-    if let Some(code) = program.code(frames.method()) {
-        let _step = local_step(program, code.steps.as_slice(), frames);
+    let method = frames.method();
+    if let Some(code) = program.code(method) {
+        let quicks = program.quicks(method);
+        let _step = run_step(program, code.steps.as_slice(), quicks, frames);
     }
 }
 

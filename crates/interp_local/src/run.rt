@@ -89,6 +89,7 @@ fn run_own<P: Constants>(
 
 /// Makes the steps that come next in the top frame, at most so many, each one what [`local_step`] makes, and says why
 /// it stopped. `quicks` are those of [`crate::make_quicks`]. Takes no memory.
+#[inline(never)]
 pub fn run_local<P: Constants>(
     program: &P,
     steps: &[Instr<Target>],
@@ -105,4 +106,19 @@ pub fn run_local<P: Constants>(
     let (after, run) = run_own(program, steps, quicks, frames.take(), most);
     *frames = after;
     run
+}
+
+/// Makes the next step, exactly as [`local_step`] does, by the loop of [`run_local`]: so a program has that code once.
+pub fn run_step<P: Constants>(
+    program: &P,
+    steps: &[Instr<Target>],
+    quicks: &[Quick],
+    frames: &mut Frames,
+) -> LocalStep
+    requires { quicks.now ≡ quicks_of steps.now }
+    ensures row { local_now (P.units program.now) steps.now frames.old ≡ outcome result frames.new }
+    ensures kept { KeptUnlessMoved result frames.old frames.new }
+    ensures local { IsLocal frames.old frames.new }
+{
+    run_local(program, steps, quicks, frames, 1).stop
 }

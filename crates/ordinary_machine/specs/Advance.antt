@@ -1,7 +1,7 @@
 -- What `advance` answers for one thread, and what it leaves.
 use Rattle.std.specs.Prelude.{◌≡◌, ℕ, suc, ◌+◌, ◌<◌, ◌≤◌, ◌⊎◌, Some}
 use Rattle.op_core.specs.declared.Op.{Op}
-use Rattle.op_core.specs.declared.Op.TheVariants.{ClassOf, Read, New, Enter, Start}
+use Rattle.op_core.specs.declared.Op.TheVariants.{New, Enter, Start}
 use Rattle.op_core.specs.declared.Reply.{Reply}
 use Rattle.op_core.specs.declared.Reply.TheVariants.{Made, Number}
 use Rattle.op_core.specs.declared.Next.TheVariants.{Want}
@@ -15,6 +15,12 @@ use Rattle.op_core.specs.OrdinaryState.{IsThere, IsOwner, count_of, live, HasEnd
 use Rattle.op_core.specs.OrdinaryStep.{CanStep, MayAnswer, IsFreeNumber, IsFreeReference, IsStep}
 use Rattle.ordinary_machine.specs.declared.advance.Advance.{Advance}
 use Rattle.ordinary_machine.specs.declared.advance.Advance.TheVariants.{Silent, Step, Waits, Halts, Ended, Spent}
+use Rattle.ordinary_machine.specs.declared.advance.OpOutcome.{OpOutcome}
+use Rattle.ordinary_machine.specs.declared.advance.OpOutcome.TheVariants.{Replied}
+use Rattle.ordinary_machine.specs.declared.advance.OpOutcome.TheVariants as outcome
+use Rattle.ordinary_machine.specs.declared.advance.Headway.{Headway}
+use Rattle.ordinary_machine.specs.declared.advance.Headway.TheVariants.{Blocked}
+use Rattle.ordinary_machine.specs.declared.advance.Headway.TheVariants as headway
 use Rattle.ordinary_machine.specs.Machine.{Machine, moved, with_thread_at, HasBegun}
 
 -- the object is there and has started no thread, and all thread numbers have been drawn
@@ -116,12 +122,31 @@ abbrev pub LacksNumber : {S : Type 0} → Machine S → Op → Type 0
 LacksNumber m (Start r p) = IsOutOfNumbers m r
 LacksNumber _ _ = ⊥
 
--- the operation changes nothing that threads share, and meets no limit
-abbrev pub IsLook : Op → Type 0
-IsLook (ClassOf r) = Unit {0}
-IsLook (Read r i) = Unit {0}
-IsLook _ = ⊥
-
 -- it has a step, with this reply
 abbrev pub IsGiven : {S : Type 0} → OrdinaryState S → ℕ → Op → Reply → Type 0
 IsGiven s t op reply = CanStep s t op × MayAnswer s t op reply
+
+-- what `advance` answers where this came of the operation that thread t wants, n silent steps after its last event
+abbrev pub answer_of : ℕ → ℕ → Op → OpOutcome → Advance
+answer_of t n op (Replied reply) = Step (record { thread = t; silent = n; op = op; reply = reply })
+answer_of t n op outcome.Waits = Waits
+answer_of t n op (outcome.Spent limit) = Spent limit
+
+-- whatever the limits are, this comes of the operation that thread t wants
+abbrev pub MakesWanted : {S : Type 0} → Code S → Machine S → ℕ → Op → OpOutcome → Machine S → Type 0
+MakesWanted code m t op outcome new = (limits : Limits) → Advances code m t limits (answer_of t (m.silents t) op outcome) new
+
+-- an answer of `advance`, with no word of the event
+abbrev pub headway_of : Advance → Headway
+headway_of Silent = headway.Made
+headway_of (Step e) = headway.Made
+headway_of Waits = Blocked
+headway_of Halts = Blocked
+headway_of Ended = Blocked
+headway_of (Spent limit) = headway.Spent limit
+
+-- the step of an answer that `advance` may give, with no word of the event
+pub record MakesHeadway {S : Type 0} (code : Code S) (m : Machine S) (t : ℕ) (limits : Limits) (headway : Headway) (new : Machine S) : Type 0 where
+  pub answer : Advance
+  pub advances : Advances code m t limits answer new
+  pub told : headway ≡ headway_of answer

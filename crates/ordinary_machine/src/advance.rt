@@ -6,7 +6,8 @@ ghost use Rattle.op_core.specs.OrdinaryStep.{CanStep, MayAnswer, IsFreeNumber};
 ghost use Rattle.ordinary_machine.specs.Machine.{machine_of, moved, with_thread_at, HasBegun, Wants, Awaits};
 ghost use Rattle.op_core.specs.declared.Limit.{Limit};
 ghost use Rattle.op_core.specs.declared.Limits.{Limits};
-ghost use Rattle.ordinary_machine.specs.Advance.{IsOutOfNumbers, IsGiven, IsLook, OpMeets, IsChosen, Advances, MayAdvance, LacksNumber, LacksReference};
+ghost use Rattle.op_core.specs.declared.Op.{Op};
+ghost use Rattle.ordinary_machine.specs.Advance.{IsOutOfNumbers, IsGiven, OpMeets, IsChosen, Advances, MayAdvance, LacksNumber, LacksReference, answer_of, headway_of, MakesWanted, MakesHeadway};
 
 use crate::Ordinary;
 use machine_tables::{ClassProgress, Standing};
@@ -31,7 +32,69 @@ pub enum Advance {
     Spent(Limit),
 }
 
+/// What `advance` answers, with no word of the event.
+#[derive(Clone, Copy)]
+pub enum Headway {
+    /// The thread made a step, silent or not.
+    Made,
+    /// It has none now: it waits, its code is at its end, or it has ended.
+    Blocked,
+    /// What it wants meets this limit.
+    Spent(Limit),
+}
+
+/// What came of the operation that a thread wants.
+#[derive(Clone, Copy)]
+pub(crate) enum OpOutcome {
+    /// Its step was made, with this reply.
+    Replied(Reply),
+    /// It has no step now.
+    Waits,
+    /// It meets this limit.
+    Spent(Limit),
+}
+
+// What `advance` answers where this came of the operation, with so many silent steps before it.
+#[inline(always)]
+fn answer_of(thread: u8, silent: u64, op: Op, outcome: OpOutcome) -> Advance
+    ensures { result ≡ answer_of thread silent op outcome }
+{
+    match outcome {
+        OpOutcome::Replied(reply) => Advance::Step(Event {
+            thread,
+            silent,
+            op,
+            reply,
+        }),
+        OpOutcome::Waits => Advance::Waits,
+        OpOutcome::Spent(limit) => Advance::Spent(limit),
+    }
+}
+
+// The headway of that answer.
+#[inline(always)]
+fn headway_of_outcome(outcome: OpOutcome) -> Headway
+    ensures { (thread silent : ℕ) → (op : Op) → result ≡ headway_of (answer_of thread silent op outcome) }
+{
+    match outcome {
+        OpOutcome::Replied(_) => Headway::Made,
+        OpOutcome::Waits => Headway::Blocked,
+        OpOutcome::Spent(limit) => Headway::Spent(limit),
+    }
+}
+
+fn headway_of(answer: Advance) -> Headway
+    ensures { result ≡ headway_of answer }
+{
+    match answer {
+        Advance::Silent | Advance::Step(_) => Headway::Made,
+        Advance::Waits | Advance::Halts | Advance::Ended => Headway::Blocked,
+        Advance::Spent(limit) => Headway::Spent(limit),
+    }
+}
+
 impl<C: ThreadCode + Drop> Ordinary<C> {
+    #[inline(always)]
     pub(crate) fn silent_steps(&self, thread: u8) -> u64
         ensures { result ≡ (machine_of C.state self.now).silents thread }
     {
@@ -254,48 +317,25 @@ impl<C: ThreadCode + Drop> Ordinary<C> {
         }
     }
 
-    // Makes the step of a thread that wants the operation.
-    fn answer(&mut self, thread: u8, op: Op) -> Result<Event, NoMemory>
+    // Makes the step of a thread that wants the operation, and gives what it is answered.
+    fn answer(&mut self, thread: u8, op: Op) -> Result<Reply, NoMemory>
         requires wants { Wants C.code (machine_of C.state self.old) thread op }
         requires can { CanStep (machine_of C.state self.old).now thread op }
-        ensures event { IfOk result (λ e. (e.thread ≡ thread) × (e.silent ≡ (machine_of C.state self.old).silents thread) × (e.op ≡ op)) }
-        ensures answered { IfOk result (λ e. MayAnswer (machine_of C.state self.old).now thread op e.reply) }
-        ensures chosen { IfOk result (λ e. IsChosen (machine_of C.state self.old) op e.reply) }
-        ensures leads { IfOk result (λ e. (l : C.State) → (machine_of C.state self.old).now.threads thread ≡ live l
-            → machine_of C.state self.new ≡ moved C.code (machine_of C.state self.old) thread l op e.reply) }
+        ensures answered { IfOk result (MayAnswer (machine_of C.state self.old).now thread op) }
+        ensures chosen { IfOk result (IsChosen (machine_of C.state self.old) op) }
+        ensures leads { IfOk result (λ reply. (l : C.State) → (machine_of C.state self.old).now.threads thread ≡ live l
+            → machine_of C.state self.new ≡ moved C.code (machine_of C.state self.old) thread l op reply) }
         ensures err { OnErr result (machine_of C.state self.new ≡ machine_of C.state self.old) }
     {
-        let silent = self.silent_steps(thread);
         let Some(reply) = self.choose(thread, op) else {
             return Err(NoMemory);
         };
         self.make(thread, op, reply)?;
-        Ok(Event {
-            thread,
-            silent,
-            op,
-            reply,
-        })
-    }
-
-    // Goes on with the reply to an operation that a thread wants, once all else that it changes is changed.
-    fn reply_with(&mut self, thread: u8, op: Op, reply: Reply) -> Event
-        requires { Awaits C.code (machine_of C.state self.old) thread reply }
-        ensures event { result ≡ record { thread = thread; silent = (machine_of C.state self.old).silents thread; op = op; reply = reply } }
-        ensures replied { (l : C.State) → (machine_of C.state self.old).now.threads thread ≡ live l
-            → machine_of C.state self.new ≡ with_thread_at (machine_of C.state self.old) thread (live (C.code.reply l reply)) 0 }
-    {
-        let silent = self.silent_steps(thread);
-        self.reply_to(thread, reply);
-        Event {
-            thread,
-            silent,
-            op,
-            reply,
-        }
+        Ok(reply)
     }
 
     // What a Read answers, or `None` where it has no step: one look at the object tells.
+    #[inline(always)]
     fn find_word(&self, thread: u8, reference: u32, place: u32) -> Option<Reply>
         ensures { MatchOption result (CanStep (machine_of C.state self.now).now thread (Op.Read reference place) → ⊥)
             (λ reply. IsGiven (machine_of C.state self.now).now thread (Op.Read reference place) reply) }
@@ -305,6 +345,7 @@ impl<C: ThreadCode + Drop> Ordinary<C> {
     }
 
     // What a ClassOf answers, or `None` where it has no step.
+    #[inline(always)]
     fn find_class(&self, thread: u8, reference: u32) -> Option<Reply>
         ensures { MatchOption result (CanStep (machine_of C.state self.now).now thread (Op.ClassOf reference) → ⊥)
             (λ reply. IsGiven (machine_of C.state self.now).now thread (Op.ClassOf reference) reply) }
@@ -313,68 +354,81 @@ impl<C: ThreadCode + Drop> Ordinary<C> {
         Some(Reply::Class(object.class, object.length))
     }
 
-    // What comes of an operation that a thread wants, that changes nothing and meets no limit, by what it answers.
-    fn look(&mut self, thread: u8, op: Op, found: Option<Reply>) -> Advance
-        requires wants { Wants C.code (machine_of C.state self.old) thread op }
-        requires looks { IsLook op }
-        requires found { MatchOption found (CanStep (machine_of C.state self.old).now thread op → ⊥) (λ reply. IsGiven (machine_of C.state self.old).now thread op reply) }
-        ensures { (limits : Limits) → Advances C.code (machine_of C.state self.old) thread limits result (machine_of C.state self.new) }
+    // What comes of a Read that a thread wants.
+    #[inline(always)]
+    fn make_read(&mut self, thread: u8, reference: u32, place: u32) -> OpOutcome
+        requires { Wants C.code (machine_of C.state self.old) thread (Op.Read reference place) }
+        ensures { MakesWanted C.code (machine_of C.state self.old) thread (Op.Read reference place) result (machine_of C.state self.new) }
     {
-        match found {
-            Some(reply) => Advance::Step(self.reply_with(thread, op, reply)),
-            None => Advance::Waits,
+        match self.find_word(thread, reference, place) {
+            Some(reply) => {
+                self.reply_to(thread, reply);
+                OpOutcome::Replied(reply)
+            }
+            None => OpOutcome::Waits,
+        }
+    }
+
+    // What comes of a ClassOf that a thread wants.
+    #[inline(always)]
+    fn make_class(&mut self, thread: u8, reference: u32) -> OpOutcome
+        requires { Wants C.code (machine_of C.state self.old) thread (Op.ClassOf reference) }
+        ensures { MakesWanted C.code (machine_of C.state self.old) thread (Op.ClassOf reference) result (machine_of C.state self.new) }
+    {
+        match self.find_class(thread, reference) {
+            Some(reply) => {
+                self.reply_to(thread, reply);
+                OpOutcome::Replied(reply)
+            }
+            None => OpOutcome::Waits,
         }
     }
 
     // What comes of a Write that a thread wants.
-    fn try_write(&mut self, thread: u8, reference: u32, place: u32, value: u32) -> Advance
+    #[inline(always)]
+    fn make_write(&mut self, thread: u8, reference: u32, place: u32, value: u32) -> OpOutcome
         requires { Wants C.code (machine_of C.state self.old) thread (Op.Write reference place value) }
-        ensures { (limits : Limits) → Advances C.code (machine_of C.state self.old) thread limits result (machine_of C.state self.new) }
+        ensures { MakesWanted C.code (machine_of C.state self.old) thread (Op.Write reference place value) result (machine_of C.state self.new) }
     {
         if self.write_word(reference, place, value) {
-            let op = Op::Write(reference, place, value);
-            Advance::Step(self.reply_with(thread, op, Reply::Done))
+            self.reply_to(thread, Reply::Done);
+            OpOutcome::Replied(Reply::Done)
         } else {
-            Advance::Waits
+            OpOutcome::Waits
         }
     }
 
     // What comes of the operation that a thread wants, with one lookup where it reads or writes an object.
-    fn try_operation(&mut self, thread: u8, op: Op, limits: &Limits) -> Result<Advance, NoMemory>
+    #[inline(always)]
+    fn make_wanted(&mut self, thread: u8, op: Op, limits: &Limits) -> Result<OpOutcome, NoMemory>
         requires { Wants C.code (machine_of C.state self.old) thread op }
-        ensures ok { IfOk result (λ advance. Advances C.code (machine_of C.state self.old) thread limits.now advance (machine_of C.state self.new)) }
+        ensures ok { IfOk result (λ outcome. Advances C.code (machine_of C.state self.old) thread limits.now (answer_of thread ((machine_of C.state self.old).silents thread) op outcome) (machine_of C.state self.new)) }
         ensures err { OnErr result (machine_of C.state self.new ≡ machine_of C.state self.old) }
     {
         match op {
-            Op::ClassOf(reference) => {
-                let found = self.find_class(thread, reference);
-                Ok(self.look(thread, op, found))
-            }
-            Op::Read(reference, place) => {
-                let found = self.find_word(thread, reference, place);
-                Ok(self.look(thread, op, found))
-            }
+            Op::ClassOf(reference) => Ok(self.make_class(thread, reference)),
+            Op::Read(reference, place) => Ok(self.make_read(thread, reference, place)),
             Op::Write(reference, place, value) => {
-                Ok(self.try_write(thread, reference, place, value))
+                Ok(self.make_write(thread, reference, place, value))
             }
-            _ => self.try_other(thread, op, limits),
+            _ => self.make_other(thread, op, limits),
         }
     }
 
     // The same for any operation.
-    fn try_other(&mut self, thread: u8, op: Op, limits: &Limits) -> Result<Advance, NoMemory>
+    fn make_other(&mut self, thread: u8, op: Op, limits: &Limits) -> Result<OpOutcome, NoMemory>
         requires { Wants C.code (machine_of C.state self.old) thread op }
-        ensures ok { IfOk result (λ advance. Advances C.code (machine_of C.state self.old) thread limits.now advance (machine_of C.state self.new)) }
+        ensures ok { IfOk result (λ outcome. Advances C.code (machine_of C.state self.old) thread limits.now (answer_of thread ((machine_of C.state self.old).silents thread) op outcome) (machine_of C.state self.new)) }
         ensures err { OnErr result (machine_of C.state self.new ≡ machine_of C.state self.old) }
     {
         if let Some(limit) = self.limit_of(thread, op, limits) {
-            return Ok(Advance::Spent(limit));
+            return Ok(OpOutcome::Spent(limit));
         }
         if !self.can_step(thread, op) {
-            return Ok(Advance::Waits);
+            return Ok(OpOutcome::Waits);
         }
-        let event = self.answer(thread, op)?;
-        Ok(Advance::Step(event))
+        let reply = self.answer(thread, op)?;
+        Ok(OpOutcome::Replied(reply))
     }
 
     /// Makes the next step of a thread that has begun, where it has one: a silent step, or that of the operation
@@ -392,8 +446,61 @@ impl<C: ThreadCode + Drop> Ordinary<C> {
         };
         match code.next() {
             Next::Silent => self.try_silent(thread, limits),
-            Next::Want(op) => self.try_operation(thread, op, limits),
+            Next::Want(op) => {
+                let silent = self.silent_steps(thread);
+                let outcome = self.make_wanted(thread, op, limits)?;
+                Ok(answer_of(thread, silent, op, outcome))
+            }
             Next::Ended => Ok(Advance::Halts),
+        }
+    }
+
+    // What comes of what a thread does next, whatever it is: apart, so that the callers of `make_headway` stay small.
+    #[inline(never)]
+    fn make_next(&mut self, thread: u8, next: Next, limits: &Limits) -> Result<Headway, NoMemory>
+        requires begun { HasBegun ((machine_of C.state self.old).now.threads thread) }
+        requires next { (l : C.State) × ((machine_of C.state self.old).now.threads thread ≡ live l) × (C.code.next l ≡ next) }
+        ensures ok { IfOk result (λ headway. MakesHeadway C.code (machine_of C.state self.old) thread limits.now headway (machine_of C.state self.new)) }
+        ensures err { OnErr result (machine_of C.state self.new ≡ machine_of C.state self.old) }
+    {
+        match next {
+            Next::Silent => {
+                let answer = self.try_silent(thread, limits)?;
+                Ok(headway_of(answer))
+            }
+            Next::Want(op) => {
+                let outcome = self.make_other(thread, op, limits)?;
+                Ok(headway_of_outcome(outcome))
+            }
+            Next::Ended => Ok(Headway::Blocked),
+        }
+    }
+
+    /// Makes the same step as `advance`, and tells no event of it: without one a Read, a Write or a ClassOf takes less
+    /// time. The machine is as before where no step was made, and after an error, which comes where `advance` has one.
+    #[inline(always)]
+    pub fn make_headway(&mut self, thread: u8, limits: &Limits) -> Result<Headway, NoMemory>
+        requires { HasBegun ((machine_of C.state self.old).now.threads thread) }
+        ensures ok { IfOk result (λ headway. MakesHeadway C.code (machine_of C.state self.old) thread limits.now headway (machine_of C.state self.new)) }
+        ensures err { OnErr result (machine_of C.state self.new ≡ machine_of C.state self.old) }
+    {
+        let Some(code) = self.live(thread) else {
+            return Ok(Headway::Blocked);
+        };
+        match code.next() {
+            Next::Want(Op::Read(reference, place)) => {
+                let outcome = self.make_read(thread, reference, place);
+                Ok(headway_of_outcome(outcome))
+            }
+            Next::Want(Op::Write(reference, place, value)) => {
+                let outcome = self.make_write(thread, reference, place, value);
+                Ok(headway_of_outcome(outcome))
+            }
+            Next::Want(Op::ClassOf(reference)) => {
+                let outcome = self.make_class(thread, reference);
+                Ok(headway_of_outcome(outcome))
+            }
+            next => self.make_next(thread, next, limits),
         }
     }
 }

@@ -35,6 +35,7 @@ impl<C: ThreadCode + Drop> Ordinary<C> {
     }
 
     // Writes a word, and says that it did: exactly where an object has it. Where none has, nothing changes.
+    #[inline(always)]
     pub(crate) fn write_word(&mut self, reference: u32, place: u32, value: u32) -> bool
         ensures has { IsTrue result ↔ HasWord (machine_of C.state self.old).now.objects reference place }
         ensures written { result ≡ true → machine_of C.state self.new ≡ with_word_at (machine_of C.state self.old) reference place value }
@@ -67,6 +68,7 @@ impl<C: ThreadCode + Drop> Ordinary<C> {
     }
 
     // Goes on with the reply to the operation that a thread wants.
+    #[inline(always)]
     pub(crate) fn reply_to(&mut self, thread: u8, reply: Reply)
         requires { Awaits C.code (machine_of C.state self.old) thread reply }
         ensures { (l : C.State) → (machine_of C.state self.old).now.threads thread ≡ live l

@@ -3,11 +3,11 @@
 //!
 //! An [`Ordinary`] holds what threads share and where each thread stands. [`Ordinary::step`] makes the
 //! step of one event of a journal, or says why the event is none; [`Ordinary::replay`] makes those of
-//! a list. [`Ordinary::advance`] makes a thread's next step of its own accord, and
-//! [`Ordinary::run_silent`] silent steps alone, many in one call. `specs/` says what the
-//! tables of `machine_tables` mean together: an ordinary state of `op_core`, with three counts beside
-//! it. [`laws`] says what follows: at most one thing comes of an event, `advance` has one answer, what it
-//! answers is an execution, and each execution is replayed.
+//! a list. [`Ordinary::advance`] makes a thread's next step of its own accord, [`Ordinary::make_headway`]
+//! the same one with no event of it, and [`Ordinary::run_silent`] silent steps alone, many in one call.
+//! `specs/` says what the tables of `machine_tables` mean together: an ordinary state of `op_core`, with
+//! three counts beside it. [`laws`] says what follows: at most one thing comes of an event, `advance` has
+//! one answer, what it answers is an execution, and each execution is replayed.
 #![tactic(auto)]
 
 mod advance;
@@ -19,7 +19,7 @@ mod replay;
 mod start;
 mod step;
 
-pub use advance::Advance;
+pub use advance::{Advance, Headway};
 pub use ordinary::Ordinary;
 pub use replay::ReplayRefusal;
 pub use step::StepRefusal;

@@ -13,10 +13,10 @@ use Rattle.ordinary_machine.specs.declared.advance.Advance.{Advance}
 use Rattle.ordinary_machine.specs.declared.advance.Advance.TheVariants as advance
 use Rattle.ordinary_machine.specs.Machine.{Machine, machine_of}
 use Rattle.ordinary_machine.specs.Advance.{Advances, MayAdvance}
-use Rattle.ordinary_machine.proofs.DecidedLemmas.{Decided, may_decided, begun_below, silent_may, wanting_may, limit_may}
-use Rattle.ordinary_runs.specs.Turns.{Progress, end_of, counted_after, events_after, GivesIfEnabled}
+use Rattle.ordinary_machine.proofs.DecidedLemmas.{Decided, may_decided, begun_below}
+use Rattle.ordinary_runs.specs.Turns.{Progress, end_of, counted_after, events_after, MakesTurn, GivesIfEnabled}
 use Rattle.ordinary_runs.proofs.EndLemmas.{none_listed, one_more_listed, no_more_listed, all_listed}
-use Rattle.ordinary_runs.proofs.SilentLemmas.{step_silent}
+use Rattle.ordinary_runs.proofs.TurnLemmas.{none_more}
 
 -- a list of the threads below n for which the fact holds
 listed_below : (fact : ℕ → Type 0) → ((t : ℕ) → Decided (fact t)) → (n : ℕ) → (ts : List ℕ) × AreThoseBelow fact n ts
@@ -46,15 +46,7 @@ lowest_picked code state machine t may none =
     let those = all_listed enabled 256 ts below (λ u does. begun_below state machine u does.begun) in
     record { threads = ts; those = those; at_place = lowest_first enabled ts t those may none }
 
--- What `advance` answers tells whether the thread is enabled.
-answered_may : {S : Type 0} (code : Code S) (m new : Machine S) (t : ℕ) (limits : Limits) (answer : Advance) → Advances code m t limits answer new → (end_of answer ≡ Blocked → ⊥) → MayAdvance code m t
-answered_may code m new t limits advance.Silent came unblocked = silent_may code m t came.from came.begun (step_silent code came.from came.behind came.quiet)
-answered_may code m new t limits (advance.Step e) came unblocked = wanting_may code m t came.place e.op came.begun came.step.wanted came.step.can
-answered_may code m new t limits advance.Waits came unblocked = absurd (unblocked refl)
-answered_may code m new t limits advance.Halts came unblocked = absurd (unblocked refl)
-answered_may code m new t limits advance.Ended came unblocked = absurd (unblocked refl)
-answered_may code m new t limits (advance.Spent limit) came unblocked = limit_may code m t limits limit came.0
-
+-- Where `advance` answers that a thread is blocked, it isn't enabled.
 blocked_never : {S : Type 0} (code : Code S) (m new : Machine S) (t : ℕ) (limits : Limits) (answer : Advance) → Advances code m t limits answer new → end_of answer ≡ Blocked → (MayAdvance code m t → ⊥) × (new ≡ m)
 blocked_never code m new t limits advance.Silent came blocked = absurd (cc)
 blocked_never code m new t limits (advance.Step e) came blocked = absurd (cc)
@@ -63,17 +55,18 @@ blocked_never code m new t limits advance.Halts came blocked = ((λ may. may.mor
 blocked_never code m new t limits advance.Ended came blocked = ((λ may. may.more (inl came.0)), came.1)
 blocked_never code m new t limits (advance.Spent limit) came blocked = absurd (cc)
 
--- So a turn that is blocked is none, and another one is given.
-pub blocked_gives : {S : Type 0} (code : Code S) (limits : Limits) (r : Progress S) (new : Machine S) (t : ℕ) (answer : Advance) → Advances code r.machine t limits answer new → Blocked ≡ end_of answer
-    → GivesIfEnabled code limits r t None (record { machine = new; counted = r.counted; events = r.events })
-blocked_gives code limits r new t answer came blocked =
-    let (never, same) = blocked_never code r.machine new t limits answer came (sym blocked) in
-    (never, λ i. record { machine = same i; counted = r.counted; events = r.events })
+-- So a turn that is blocked is none.
+blocked_same : {S : Type 0} (r : Progress S) (t : ℕ) (answer : Advance) → end_of answer ≡ Blocked → (counted_after t answer r.counted ≡ r.counted) × (events_after answer r.events ≡ r.events)
+blocked_same r t advance.Silent blocked = absurd (cc)
+blocked_same r t (advance.Step e) blocked = absurd (cc)
+blocked_same r t (advance.Spent limit) blocked = absurd (cc)
+blocked_same r t _ blocked = (refl, none_more r.events)
 
-pub answer_gives : {S : Type 0} (code : Code S) (limits : Limits) (r new : Progress S) (behind : Machine S) (t : ℕ) (answer : Advance) (end : TurnEnd) → r.counted t < limits.turns
-    → Advances code r.machine t limits answer behind → new.machine ≡ behind → end ≡ end_of answer → (end ≡ Blocked → ⊥) → new.counted ≡ counted_after t answer r.counted → new.events ≡ events_after answer r.events
-    → GivesIfEnabled code limits r t (Some end) new
-answer_gives code limits r new behind t answer end left came is comes unblocked counts kept = (
-  answered_may code r.machine behind t limits answer came (λ blocked. unblocked (comes ∙ blocked)),
-  inr (record { left = left; answer = answer; advances = subst (Advances code r.machine t limits answer) (sym is) came; comes = comes; counts = counts; kept = kept }),
-)
+pub blocked_gives : {S : Type 0} (code : Code S) (limits : Limits) (r new : Progress S) (t : ℕ) (end : TurnEnd) → MakesTurn code limits r t end new → end ≡ Blocked → GivesIfEnabled code limits r t None new
+blocked_gives code limits r new t end turn blocked =
+    let is : end_of turn.answer ≡ Blocked = sym turn.comes ∙ blocked in
+    let (never, machine) = blocked_never code r.machine new.machine t limits turn.answer turn.advances is in
+    let (counted, events) = blocked_same r t turn.answer is in
+    let counts = turn.counts ∙ counted in
+    let kept = turn.kept ∙ events in
+    (never, λ i. record { machine = machine i; counted = counts i; events = kept i })

@@ -11,6 +11,7 @@ use Rattle.schedules.specs.declared.order.TurnEnd.TheVariants.{Made, Other, Bloc
 use Rattle.schedules.specs.Schedule.{Rest}
 use Rattle.schedules.specs.Run.{Run}
 use Rattle.schedules.proofs.RunLemmas.{go_on}
+use Rattle.ordinary_machine.specs.declared.ordinary.Ordinary.{Ordinary}
 use Rattle.ordinary_machine.specs.Machine.{Machine, machine_of, with_thread_at}
 use Rattle.ordinary_machine.specs.Advance.{MayAdvance}
 use Rattle.ordinary_runs.specs.declared.turns.CountedMachine.{CountedMachine}
@@ -27,6 +28,11 @@ none_left = record { order = []; number = None }
 -- no thread below t is enabled
 abbrev pub NoneBelow : {S : Type 0} → Code S → Machine S → ℕ → Type 0
 NoneBelow code m t = (u : ℕ) → u < t → MayAdvance code m u → ⊥
+
+-- no thread has number 0
+pub none_below_1 : {C S : Type 0} (code : Code S) (state : C → S) (machine : Ordinary C) → NoneBelow code (machine_of state machine) 1
+none_below_1 code state machine zero below may = may.begun
+none_below_1 code state machine (suc u) below may = omega (arith, below)
 
 goes_join : {S : Type 0} (code : Code S) (limits : Limits) (run next last : Run (Progress S)) → GoesOn code limits run next → GoesOn code limits next last → GoesOn code limits run last
 goes_join {S} code limits run next last first later = record {

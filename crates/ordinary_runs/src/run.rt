@@ -114,14 +114,14 @@ impl<'a, C: ThreadCode + Drop> ScheduledRun<'a, C> {
         Ok(how_at(thread, end))
     }
 
-    // Gives the lowest enabled thread its silent turns at once, and the turn behind them. Each lower one is asked by
-    // trying it, so that nobody is listed.
+    // Gives the lowest enabled thread its silent turns at once, and the turn behind them. Each lower one from 1 on is
+    // asked by trying it, so that nobody is listed.
     fn give_lowest(&mut self) -> Result<Option<How>, NoMemory>
         requires { self.old.rest ≡ record { order = []; number = None } }
         ensures limits { self.new.turns.limits ≡ self.old.turns.limits }
         ensures goes { IfOk result (λ how. GoesOnOrEnds C.code self.old.turns.limits (run_of C.state self.old) how (run_of C.state self.new)) }
     {
-        for number in 0..self.turns.highest() as u16 + 1 {
+        for number in 1..self.turns.highest() as u16 + 1 {
             let thread = number as u8;
             let made = self.turns.run_silent(thread, u64::MAX);
             let end = self.turns.turn_if_enabled(thread)?;

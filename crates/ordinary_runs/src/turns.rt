@@ -3,17 +3,18 @@
 ghost use Rattle.std.specs.Prelude.{◌≡◌, ◌+◌, ◌<◌, ◌≤◌, ◌^◌, ℕ, true, false, [], ◌∷◌, ◌++◌, IfOk, IfSome, IfNone, OnOk, Some, None};
 ghost use Rattle.op_core.specs.declared.Limit.{Limit};
 ghost use Rattle.op_core.specs.OrdinaryState.{unused, ended};
-ghost use Rattle.ordinary_machine.specs.Machine.{machine_of};
-ghost use Rattle.ordinary_machine.specs.Advance.{MayAdvance};
+ghost use Rattle.ordinary_machine.specs.declared.advance.Advance.{Advance};
+ghost use Rattle.ordinary_machine.specs.Machine.{machine_of, HasBegun};
+ghost use Rattle.ordinary_machine.specs.Advance.{MayAdvance, headway_of};
 ghost use Rattle.schedules.specs.declared.order.TurnEnd.{TurnEnd};
 ghost use Rattle.schedules.specs.Schedule.{Rest};
 ghost use Rattle.schedules.specs.Run.{AreThose, EndsBy};
-ghost use Rattle.ordinary_runs.specs.Turns.{count_in, progress_of, is_live, end_of, counted_after, events_after, machine_turns, IsSilentFor, GivesIfEnabled};
+ghost use Rattle.ordinary_runs.specs.Turns.{count_in, progress_of, is_live, end_of, counted_after, events_after, machine_turns, IsSilentFor, MakesTurn, GivesIfEnabled};
 ghost use Rattle.ordinary_runs.specs.ScheduledRun.{AreEnds};
 
 use crate::counts::TurnCounts;
 use op_core::{Event, How, Limit, Limits, NoMemory, Outcome, Rows, ThreadCode, ThreadEnd};
-use ordinary_machine::{Advance, Ordinary};
+use ordinary_machine::{Advance, Headway, Ordinary};
 use schedules::{LiveThreads, TurnEnd};
 use std::alloc::Global;
 
@@ -44,6 +45,7 @@ fn add(threads: &mut Vec<u8>, thread: u8) -> Result<(), NoMemory>
 }
 
 // What a turn comes to for a schedule.
+#[inline(always)]
 fn end_of(answer: Advance) -> TurnEnd
     ensures { result ≡ end_of answer }
 {
@@ -51,6 +53,18 @@ fn end_of(answer: Advance) -> TurnEnd
         Advance::Silent | Advance::Step(_) => TurnEnd::Other,
         Advance::Waits | Advance::Halts | Advance::Ended => TurnEnd::Blocked,
         Advance::Spent(limit) => TurnEnd::Spent(limit),
+    }
+}
+
+// The same, where the event isn't told.
+#[inline(always)]
+fn end_behind(headway: Headway) -> TurnEnd
+    ensures { (answer : Advance) → headway ≡ headway_of answer → result ≡ end_of answer }
+{
+    match headway {
+        Headway::Made => TurnEnd::Other,
+        Headway::Blocked => TurnEnd::Blocked,
+        Headway::Spent(limit) => TurnEnd::Spent(limit),
     }
 }
 
@@ -68,21 +82,23 @@ impl<C: ThreadCode + Drop> CountedMachine<C> {
         }
     }
 
-    // Counts the turn that was answered this.
-    fn count(&mut self, thread: u8, answer: Advance)
+    // Counts a turn that came to this.
+    #[inline(always)]
+    fn count(&mut self, thread: u8, end: TurnEnd)
         requires { count_in self.old.counts thread + 1 < 2 ^ 64 }
         ensures machine { self.new.machine ≡ self.old.machine }
         ensures events { self.new.events ≡ self.old.events }
         ensures limits { self.new.limits ≡ self.old.limits }
-        ensures counts { count_in self.new.counts ≡ counted_after thread answer (count_in self.old.counts) }
+        ensures counts { (answer : Advance) → end ≡ end_of answer → count_in self.new.counts ≡ counted_after thread answer (count_in self.old.counts) }
     {
-        match answer {
-            Advance::Silent | Advance::Step(_) => self.counts.add(thread, 1),
+        match end {
+            TurnEnd::Other => self.counts.add(thread, 1),
             _ => {}
         }
     }
 
     // Keeps the step of the turn that was answered this, where steps are kept.
+    #[inline(always)]
     fn keep(&mut self, answer: Advance) -> Result<(), NoMemory>
         ensures machine { self.new.machine ≡ self.old.machine }
         ensures counts { self.new.counts ≡ self.old.counts }
@@ -95,6 +111,52 @@ impl<C: ThreadCode + Drop> CountedMachine<C> {
         Ok(())
     }
 
+    // Gives a thread that has turns left its next one, and keeps the step.
+    fn turn_kept(&mut self, thread: u8) -> Result<TurnEnd, NoMemory>
+        requires begun { HasBegun ((progress_of C.state self.old).machine.now.threads thread) }
+        requires left { count_in self.old.counts thread < self.old.limits.turns }
+        requires room { count_in self.old.counts thread + 1 < 2 ^ 64 }
+        ensures limits { self.new.limits ≡ self.old.limits }
+        ensures makes { IfOk result (λ end. MakesTurn C.code self.old.limits (progress_of C.state self.old) thread end (progress_of C.state self.new)) }
+    {
+        let answer = self.machine.advance(thread, &self.limits)?;
+        self.keep(answer)?;
+        let end = end_of(answer);
+        self.count(thread, end);
+        Ok(end)
+    }
+
+    // The same where no steps are kept.
+    #[inline(always)]
+    fn turn_untold(&mut self, thread: u8) -> Result<TurnEnd, NoMemory>
+        requires begun { HasBegun ((progress_of C.state self.old).machine.now.threads thread) }
+        requires left { count_in self.old.counts thread < self.old.limits.turns }
+        requires room { count_in self.old.counts thread + 1 < 2 ^ 64 }
+        requires untold { self.old.events ≡ None }
+        ensures limits { self.new.limits ≡ self.old.limits }
+        ensures makes { IfOk result (λ end. MakesTurn C.code self.old.limits (progress_of C.state self.old) thread end (progress_of C.state self.new)) }
+    {
+        let headway = self.machine.make_headway(thread, &self.limits)?;
+        let end = end_behind(headway);
+        self.count(thread, end);
+        Ok(end)
+    }
+
+    // Gives a thread that has turns left its next one.
+    #[inline(always)]
+    fn next_turn(&mut self, thread: u8) -> Result<TurnEnd, NoMemory>
+        requires begun { HasBegun ((progress_of C.state self.old).machine.now.threads thread) }
+        requires left { count_in self.old.counts thread < self.old.limits.turns }
+        requires room { count_in self.old.counts thread + 1 < 2 ^ 64 }
+        ensures limits { self.new.limits ≡ self.old.limits }
+        ensures makes { IfOk result (λ end. MakesTurn C.code self.old.limits (progress_of C.state self.old) thread end (progress_of C.state self.new)) }
+    {
+        match self.events {
+            Some(_) => self.turn_kept(thread),
+            None => self.turn_untold(thread),
+        }
+    }
+
     /// Gives a live thread a turn, and says what it came to. After an error the run can't go on.
     pub(crate) fn turn(&mut self, thread: u8) -> Result<TurnEnd, NoMemory>
         requires { is_live ((progress_of C.state self.old).machine.now.threads thread) ≡ true }
@@ -105,10 +167,7 @@ impl<C: ThreadCode + Drop> CountedMachine<C> {
         if self.counts.of(thread) >= most {
             return Ok(TurnEnd::Spent(Limit::Turns));
         }
-        let answer = self.machine.advance(thread, &self.limits)?;
-        self.keep(answer)?;
-        self.count(thread, answer);
-        Ok(end_of(answer))
+        self.next_turn(thread)
     }
 
     /// Gives a thread a turn where it is enabled, and says what the turn came to; `None` where it isn't, and then
@@ -123,14 +182,9 @@ impl<C: ThreadCode + Drop> CountedMachine<C> {
         if self.counts.of(thread) >= self.limits.turns {
             return Ok(self.spent_turn(thread));
         }
-        let answer = self.machine.advance(thread, &self.limits)?;
-        match end_of(answer) {
+        match self.next_turn(thread)? {
             TurnEnd::Blocked => Ok(None),
-            end => {
-                self.keep(answer)?;
-                self.count(thread, answer);
-                Ok(Some(end))
-            }
+            end => Ok(Some(end)),
         }
     }
 

@@ -1,4 +1,4 @@
-use Rattle.std.proofs.Common.{ℕ, ◌<◌, None, rules, sym, ◌∙◌, ap, subst, arith}
+use Rattle.std.proofs.Common.{ℕ, ◌<◌, None, rules, refl, sym, ◌∙◌, ap, subst, arith}
 use Rattle.op_core.specs.declared.Limits.{Limits}
 use Rattle.schedules.specs.Schedule.{Rest}
 use Rattle.schedules.specs.Run.{Run, EndsBy}
@@ -7,8 +7,15 @@ use Rattle.ordinary_machine.specs.Advance.{MayAdvance}
 use Rattle.ordinary_runs.specs.Turns.{Progress, progress_of, machine_turns, GivesIfEnabled}
 use Rattle.ordinary_runs.specs.ScheduledRun.{run_of, GoesOnOrEnds}
 use Rattle.ordinary_runs.proofs.RunLemmas.{begun_within}
-use Rattle.ordinary_runs.proofs.LowestLemmas.{lowest_made, lowest_passed, lowest_came, stands_so}
+use Rattle.ordinary_runs.proofs.LowestLemmas.{none_below_1, lowest_made, lowest_passed, lowest_came, stands_so}
 use Rattle.ordinary_runs.proofs.run.ScheduledRun.give_lowest.Goals as goal
+
+pub loop-number-init : goal.loop-number-init
+loop-number-init g c = record {
+  limits = refl;
+  same = refl;
+  none = none_below_1 g.C.ThreadCode.code g.C.ThreadCode.state c.args.self.now.turns.machine;
+}
 
 pub returns-then-made-gt0-clause-goes : goal.returns-then-made-gt0-clause-goes
 returns-then-made-gt0-clause-goes g c =

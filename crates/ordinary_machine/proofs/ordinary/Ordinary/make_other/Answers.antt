@@ -1,7 +1,7 @@
 use Rattle.std.proofs.Common.{refl}
 use Rattle.ordinary_machine.specs.Machine.{machine_of}
 use Rattle.ordinary_machine.proofs.EnabledLemmas.{limit_met}
-use Rattle.ordinary_machine.proofs.ordinary.Ordinary.try_other.Goals as goal
+use Rattle.ordinary_machine.proofs.ordinary.Ordinary.make_other.Goals as goal
 
 pub returns-in-Some-clause-ok : goal.returns-in-Some-clause-ok
 returns-in-Some-clause-ok g c =
