@@ -1,5 +1,5 @@
--- A run of one step at most.
-use Rattle.std.proofs.Common.{◌≡◌, ◌↔◌, ◌≤◌, ◌<◌, ℕ, zero, suc, List, refl, sym, ap, subst, ◌∙◌, arith}
+-- Runs of local steps: one behind the other, and of one step at most.
+use Rattle.std.proofs.Common.{◌≡◌, ◌↔◌, ◌≤◌, ◌<◌, ◌+◌, ℕ, zero, suc, List, refl, sym, ap, subst, ◌∙◌, arith}
 use Rattle.code_decode.specs.declared.code.ClassUnit.{ClassUnit}
 use Rattle.instructions.specs.declared.what.Instr.{Instr}
 use Rattle.instructions.specs.declared.what.Target.{Target}
@@ -9,6 +9,30 @@ use Rattle.interp_local.specs.declared.step.LocalStep.{LocalStep}
 use Rattle.interp_local.specs.declared.step.LocalStep.TheVariants.{Moved, Throw, Other}
 use Rattle.interp_local.specs.Runs.{IsLocalRun, IsLocalStep}
 use Rattle.interp_local.specs.Steps.{local_now, kind_of, outcome, IsLocal, KeptUnlessMoved}
+
+pub runs_join : (us : List ClassUnit) (steps : List (Instr Target)) (a b : ℕ) (old middle new : FrameStack)
+    → IsLocalRun us steps a old middle → IsLocalRun us steps b middle new → IsLocalRun us steps (a + b) old new
+runs_join us steps a zero old middle new first rest =
+    let count : a + 0 ≡ a = omega arith in
+    subst (λ n. IsLocalRun us steps n old new) (sym count) (subst (IsLocalRun us steps a old) (sym rest) first)
+runs_join us steps a (suc n) old middle new first rest =
+    let count : a + suc n ≡ suc (a + n) = omega arith in
+    subst (λ k. IsLocalRun us steps k old new) (sym count) (rest.0, runs_join us steps a n old middle rest.0 first rest.1, rest.2)
+
+-- a run and one step more
+pub run_of_one : (us : List ClassUnit) (steps : List (Instr Target)) (n : ℕ) (stop : LocalStep) (old middle new : FrameStack)
+    → IsLocalRun us steps n old middle → stop ≡ Moved → local_now us steps middle ≡ outcome stop new → IsLocal middle new → IsLocalRun us steps (n + 1) old new
+run_of_one us steps n stop old middle new run is row local =
+    let count : n + 1 ≡ suc n = omega arith in
+    let step : IsLocalStep us steps middle new = record { moved = row ∙ ap (λ k. outcome k new) is; local = local } in
+    subst (λ k. IsLocalRun us steps k old new) (sym count) (middle, run, step)
+
+-- a step that isn't made says why
+pub stop_is : (us : List ClassUnit) (steps : List (Instr Target)) (stop : LocalStep) (old new : FrameStack)
+    → (stop ≡ Moved → ⊥) → local_now us steps old ≡ outcome stop new → KeptUnlessMoved stop old new → stop ≡ kind_of (local_now us steps new)
+stop_is us steps Moved old new moves_not row kept = absurd (moves_not refl)
+stop_is us steps (Throw c) old new moves_not row kept = sym (ap (λ s. kind_of (local_now us steps s)) kept ∙ ap kind_of row)
+stop_is us steps Other old new moves_not row kept = sym (ap (λ s. kind_of (local_now us steps s)) kept ∙ ap kind_of row)
 
 -- what one step comes to
 pub record IsOneStep (us : List ClassUnit) (steps : List (Instr Target)) (stop : LocalStep) (old new : FrameStack) : Type 0 where

@@ -31,19 +31,21 @@ abbrev pub quick_arithmetic : Arithmetic → Quick
 quick_arithmetic ops.Add = quicks.Add
 quick_arithmetic ops.Subtract = quicks.Subtract
 quick_arithmetic ops.Multiply = quicks.Multiply
+quick_arithmetic ops.Divide = quicks.Divide
+quick_arithmetic ops.Remainder = quicks.Remainder
 quick_arithmetic ops.And = quicks.And
 quick_arithmetic ops.Or = quicks.Or
 quick_arithmetic ops.Xor = quicks.Xor
-quick_arithmetic _ = quicks.Other
 
 abbrev pub quick_long_arithmetic : Arithmetic → Quick
 quick_long_arithmetic ops.Add = quicks.AddLongs
 quick_long_arithmetic ops.Subtract = quicks.SubtractLongs
 quick_long_arithmetic ops.Multiply = quicks.MultiplyLongs
+quick_long_arithmetic ops.Divide = quicks.DivideLongs
+quick_long_arithmetic ops.Remainder = quicks.RemainderLongs
 quick_long_arithmetic ops.And = quicks.AndLongs
 quick_long_arithmetic ops.Or = quicks.OrLongs
 quick_long_arithmetic ops.Xor = quicks.XorLongs
-quick_long_arithmetic _ = quicks.Other
 
 abbrev pub quick_shift : Shift → Quick
 quick_shift shifts.Left = quicks.ShiftLeft
@@ -141,6 +143,8 @@ quick_row us f quicks.Duplicate = stack_row f (rearranged stack_operations.Dup f
 quick_row us f quicks.Add = int_arithmetic f ops.Add f.stack
 quick_row us f quicks.Subtract = int_arithmetic f ops.Subtract f.stack
 quick_row us f quicks.Multiply = int_arithmetic f ops.Multiply f.stack
+quick_row us f quicks.Divide = int_arithmetic f ops.Divide f.stack
+quick_row us f quicks.Remainder = int_arithmetic f ops.Remainder f.stack
 quick_row us f quicks.And = int_arithmetic f ops.And f.stack
 quick_row us f quicks.Or = int_arithmetic f ops.Or f.stack
 quick_row us f quicks.Xor = int_arithmetic f ops.Xor f.stack
@@ -150,6 +154,8 @@ quick_row us f quicks.ShiftRightUnsigned = int_shift f shifts.UnsignedRight f.st
 quick_row us f quicks.AddLongs = long_arithmetic f ops.Add f.stack
 quick_row us f quicks.SubtractLongs = long_arithmetic f ops.Subtract f.stack
 quick_row us f quicks.MultiplyLongs = long_arithmetic f ops.Multiply f.stack
+quick_row us f quicks.DivideLongs = long_arithmetic f ops.Divide f.stack
+quick_row us f quicks.RemainderLongs = long_arithmetic f ops.Remainder f.stack
 quick_row us f quicks.AndLongs = long_arithmetic f ops.And f.stack
 quick_row us f quicks.OrLongs = long_arithmetic f ops.Or f.stack
 quick_row us f quicks.XorLongs = long_arithmetic f ops.Xor f.stack

@@ -1,12 +1,12 @@
 //! One instruction that one look tells, executed where it stands.
 
-ghost use Rattle.std.specs.Prelude.{◌≡◌, ◌≤◌, ◌<◌, ◌+◌, ◌++◌, ◌^◌, length, drop, slice_get};
+ghost use Rattle.std.specs.Prelude.{◌≡◌, true, false, ◌≤◌, ◌<◌, ◌+◌, ◌++◌, ◌^◌, length, drop, slice_get};
 ghost use Rattle.instructions.specs.declared.operation.Test.{Test as tests};
-ghost use Rattle.java_rows.specs.LocalRows.{leaving, loaded, stored, incremented, int_arithmetic, int_shift, jumps_if};
+ghost use Rattle.java_rows.specs.LocalRows.{moves, leaving, loaded, stored, incremented, int_arithmetic, int_shift, jumps_if};
 ghost use Rattle.interp_local.specs.Effects.{words_of};
 ghost use Rattle.interp_local.specs.Frames.{frame_now};
 ghost use Rattle.interp_local.specs.Quick.{quick_row, branches_if};
-ghost use Rattle.interp_local.specs.Steps.{outcome, IsLocal, KeptUnlessMoved};
+ghost use Rattle.interp_local.specs.Steps.{IsLocal};
 
 use crate::apply::replace;
 use crate::constants::Constants;
@@ -18,69 +18,67 @@ use crate::execute_others::{
 use crate::numbers::{compare, int_result, shift_int};
 use crate::operands::{one, two};
 use crate::quick::Quick;
-use crate::step::LocalStep;
-use builtin_world::number::ARITHMETIC_EXCEPTION;
 use frame_snapshot::Frames;
 use instructions::{Arithmetic, Condition, Shift};
 
 /// So many words are taken off the stack, and these are pushed, if there is room.
 #[inline(always)]
-pub fn leave(frames: &mut Frames, taken: usize, words: Words) -> LocalStep
+pub fn leave(frames: &mut Frames, taken: usize, words: Words) -> bool
     requires words { taken ≤ length frames.old.here.stack }
     requires step { frames.old.here.step + 1 < 2 ^ 64 }
-    ensures row { leaving (frame_now frames.old) (words_of words ++ drop taken frames.old.here.stack) ≡ outcome result frames.new }
-    ensures kept { KeptUnlessMoved result frames.old frames.new }
+    ensures row { result ≡ true → leaving (frame_now frames.old) (words_of words ++ drop taken frames.old.here.stack) ≡ moves (frame_now frames.new) }
+    ensures kept { result ≡ false → frames.new ≡ frames.old }
     ensures local { IsLocal frames.old frames.new }
 {
     let count = words.len();
     if count <= taken || frames.has_room(count - taken) {
         replace(frames, taken, words);
-        LocalStep::Moved
+        true
     } else {
-        LocalStep::Other
+        false
     }
 }
 
 #[inline(always)]
-fn load(frames: &mut Frames, local: usize) -> LocalStep
+fn load(frames: &mut Frames, local: usize) -> bool
     requires { frames.old.here.step + 1 < 2 ^ 64 }
-    ensures row { loaded (frame_now frames.old) frames.old.here.stack (slice_get frames.old.here.locals local) ≡ outcome result frames.new }
-    ensures kept { KeptUnlessMoved result frames.old frames.new }
+    ensures row { result ≡ true → loaded (frame_now frames.old) frames.old.here.stack (slice_get frames.old.here.locals local) ≡ moves (frame_now frames.new) }
+    ensures kept { result ≡ false → frames.new ≡ frames.old }
     ensures local { IsLocal frames.old frames.new }
 {
     if !frames.has_local(local) {
-        return LocalStep::Other;
+        return false;
     }
     let word = frames.local(local);
     leave(frames, 0, Words::One(word))
 }
 
 #[inline(always)]
-fn store(frames: &mut Frames, local: usize) -> LocalStep
+fn store(frames: &mut Frames, local: usize) -> bool
     requires { frames.old.here.step + 1 < 2 ^ 64 }
-    ensures row { stored (frame_now frames.old) local frames.old.here.stack ≡ outcome result frames.new }
-    ensures kept { KeptUnlessMoved result frames.old frames.new }
+    ensures row { result ≡ true → stored (frame_now frames.old) local frames.old.here.stack ≡ moves (frame_now frames.new) }
+    ensures kept { result ≡ false → frames.new ≡ frames.old }
     ensures local { IsLocal frames.old frames.new }
 {
     match one(frames) {
         Some(word) if frames.has_local(local) => {
             frames.set_local(local, word);
             replace(frames, 1, Words::None);
-            LocalStep::Moved
+            true
         }
-        _ => LocalStep::Other,
+        _ => false,
     }
 }
 
 #[inline(always)]
-fn increment(frames: &mut Frames, local: usize, by: i16) -> LocalStep
+fn increment(frames: &mut Frames, local: usize, by: i16) -> bool
     requires { frames.old.here.step + 1 < 2 ^ 64 }
-    ensures row { incremented (frame_now frames.old) local by frames.old.here.stack (slice_get frames.old.here.locals local) ≡ outcome result frames.new }
-    ensures kept { KeptUnlessMoved result frames.old frames.new }
+    ensures row { result ≡ true → incremented (frame_now frames.old) local by frames.old.here.stack (slice_get frames.old.here.locals local) ≡ moves (frame_now frames.new) }
+    ensures kept { result ≡ false → frames.new ≡ frames.old }
     ensures local { IsLocal frames.old frames.new }
 {
     if !frames.has_local(local) {
-        return LocalStep::Other;
+        return false;
     }
     let sum = frames
         .local(local)
@@ -88,45 +86,45 @@ fn increment(frames: &mut Frames, local: usize, by: i16) -> LocalStep
         .wrapping_add(i32::from(by));
     frames.set_local(local, sum.cast_unsigned());
     replace(frames, 0, Words::None);
-    LocalStep::Moved
+    true
 }
 
 #[inline(always)]
-fn compute(frames: &mut Frames, op: Arithmetic) -> LocalStep
+fn compute(frames: &mut Frames, op: Arithmetic) -> bool
     requires { frames.old.here.step + 1 < 2 ^ 64 }
-    ensures row { int_arithmetic (frame_now frames.old) op frames.old.here.stack ≡ outcome result frames.new }
-    ensures kept { KeptUnlessMoved result frames.old frames.new }
+    ensures row { result ≡ true → int_arithmetic (frame_now frames.old) op frames.old.here.stack ≡ moves (frame_now frames.new) }
+    ensures kept { result ≡ false → frames.new ≡ frames.old }
     ensures local { IsLocal frames.old frames.new }
 {
     match two(frames) {
         Some((b, a)) => match int_result(op, a, b) {
             Some(word) => leave(frames, 2, Words::One(word)),
-            None => LocalStep::Throw(ARITHMETIC_EXCEPTION),
+            None => false,
         },
-        None => LocalStep::Other,
+        None => false,
     }
 }
 
 #[inline(always)]
-fn shift(frames: &mut Frames, op: Shift) -> LocalStep
+fn shift(frames: &mut Frames, op: Shift) -> bool
     requires { frames.old.here.step + 1 < 2 ^ 64 }
-    ensures row { int_shift (frame_now frames.old) op frames.old.here.stack ≡ outcome result frames.new }
-    ensures kept { KeptUnlessMoved result frames.old frames.new }
+    ensures row { result ≡ true → int_shift (frame_now frames.old) op frames.old.here.stack ≡ moves (frame_now frames.new) }
+    ensures kept { result ≡ false → frames.new ≡ frames.old }
     ensures local { IsLocal frames.old frames.new }
 {
     match two(frames) {
         Some((by, a)) => leave(frames, 2, Words::One(shift_int(op, a, by))),
-        None => LocalStep::Other,
+        None => false,
     }
 }
 
 /// So many words are taken off the stack, and a branch is taken or not.
 #[inline(always)]
-pub fn jump_if(frames: &mut Frames, taken: usize, step: u32, holds: bool) -> LocalStep
+pub fn jump_if(frames: &mut Frames, taken: usize, step: u32, holds: bool) -> bool
     requires words { taken ≤ length frames.old.here.stack }
     requires step { frames.old.here.step + 1 < 2 ^ 64 }
-    ensures row { jumps_if (frame_now frames.old) (record { at = 0; step = step }) (drop taken frames.old.here.stack) holds ≡ outcome result frames.new }
-    ensures kept { KeptUnlessMoved result frames.old frames.new }
+    ensures row { result ≡ true → jumps_if (frame_now frames.old) (record { at = 0; step = step }) (drop taken frames.old.here.stack) holds ≡ moves (frame_now frames.new) }
+    ensures kept { result ≡ false → frames.new ≡ frames.old }
     ensures local { IsLocal frames.old frames.new }
 {
     if holds {
@@ -135,41 +133,42 @@ pub fn jump_if(frames: &mut Frames, taken: usize, step: u32, holds: bool) -> Loc
     } else {
         replace(frames, taken, Words::None);
     }
-    LocalStep::Moved
+    true
 }
 
 #[inline(always)]
-fn branch(frames: &mut Frames, condition: Condition, step: u32) -> LocalStep
+fn branch(frames: &mut Frames, condition: Condition, step: u32) -> bool
     requires { frames.old.here.step + 1 < 2 ^ 64 }
-    ensures row { branches_if (frame_now frames.old) (tests.Zero condition) step ≡ outcome result frames.new }
-    ensures kept { KeptUnlessMoved result frames.old frames.new }
+    ensures row { result ≡ true → branches_if (frame_now frames.old) (tests.Zero condition) step ≡ moves (frame_now frames.new) }
+    ensures kept { result ≡ false → frames.new ≡ frames.old }
     ensures local { IsLocal frames.old frames.new }
 {
     match one(frames) {
         Some(a) => jump_if(frames, 1, step, compare(condition, a, 0)),
-        None => LocalStep::Other,
+        None => false,
     }
 }
 
 #[inline(always)]
-fn branch_ints(frames: &mut Frames, condition: Condition, step: u32) -> LocalStep
+fn branch_ints(frames: &mut Frames, condition: Condition, step: u32) -> bool
     requires { frames.old.here.step + 1 < 2 ^ 64 }
-    ensures row { branches_if (frame_now frames.old) (tests.Ints condition) step ≡ outcome result frames.new }
-    ensures kept { KeptUnlessMoved result frames.old frames.new }
+    ensures row { result ≡ true → branches_if (frame_now frames.old) (tests.Ints condition) step ≡ moves (frame_now frames.new) }
+    ensures kept { result ≡ false → frames.new ≡ frames.old }
     ensures local { IsLocal frames.old frames.new }
 {
     match two(frames) {
         Some((b, a)) => jump_if(frames, 2, step, compare(condition, a, b)),
-        None => LocalStep::Other,
+        None => false,
     }
 }
 
-/// Executes an instruction in the top frame; `Other` is left alone.
+/// Executes an instruction in the top frame, and says that it did. It doesn't where the instruction isn't told by one look,
+/// where an operand, a local or room is missing, and where a divisor is zero; then nothing is changed.
 #[inline(always)]
-pub fn execute<P: Constants>(program: &P, quick: Quick, frames: &mut Frames) -> LocalStep
+pub fn execute<P: Constants>(program: &P, quick: Quick, frames: &mut Frames) -> bool
     requires { frames.old.here.step + 1 < 2 ^ 64 }
-    ensures row { quick_row (P.units program.now) (frame_now frames.old) quick ≡ outcome result frames.new }
-    ensures kept { KeptUnlessMoved result frames.old frames.new }
+    ensures row { result ≡ true → quick_row (P.units program.now) (frame_now frames.old) quick ≡ moves (frame_now frames.new) }
+    ensures kept { result ≡ false → frames.new ≡ frames.old }
     ensures local { IsLocal frames.old frames.new }
 {
     match quick {
@@ -187,6 +186,8 @@ pub fn execute<P: Constants>(program: &P, quick: Quick, frames: &mut Frames) -> 
         Quick::Add => compute(frames, Arithmetic::Add),
         Quick::Subtract => compute(frames, Arithmetic::Subtract),
         Quick::Multiply => compute(frames, Arithmetic::Multiply),
+        Quick::Divide => compute(frames, Arithmetic::Divide),
+        Quick::Remainder => compute(frames, Arithmetic::Remainder),
         Quick::And => compute(frames, Arithmetic::And),
         Quick::Or => compute(frames, Arithmetic::Or),
         Quick::Xor => compute(frames, Arithmetic::Xor),
@@ -196,6 +197,8 @@ pub fn execute<P: Constants>(program: &P, quick: Quick, frames: &mut Frames) -> 
         Quick::AddLongs => compute_long(frames, Arithmetic::Add),
         Quick::SubtractLongs => compute_long(frames, Arithmetic::Subtract),
         Quick::MultiplyLongs => compute_long(frames, Arithmetic::Multiply),
+        Quick::DivideLongs => compute_long(frames, Arithmetic::Divide),
+        Quick::RemainderLongs => compute_long(frames, Arithmetic::Remainder),
         Quick::AndLongs => compute_long(frames, Arithmetic::And),
         Quick::OrLongs => compute_long(frames, Arithmetic::Or),
         Quick::XorLongs => compute_long(frames, Arithmetic::Xor),
@@ -222,6 +225,6 @@ pub fn execute<P: Constants>(program: &P, quick: Quick, frames: &mut Frames) -> 
         Quick::IfNull(step) => branch_null(frames, step, true),
         Quick::IfNonNull(step) => branch_null(frames, step, false),
         Quick::Goto(step) => jump_if(frames, 0, step, true),
-        Quick::Operation | Quick::Other => LocalStep::Other,
+        Quick::Operation | Quick::Other => false,
     }
 }

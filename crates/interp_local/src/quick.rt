@@ -28,6 +28,8 @@ pub enum Quick {
     Add,
     Subtract,
     Multiply,
+    Divide,
+    Remainder,
     And,
     Or,
     Xor,
@@ -37,6 +39,8 @@ pub enum Quick {
     AddLongs,
     SubtractLongs,
     MultiplyLongs,
+    DivideLongs,
+    RemainderLongs,
     AndLongs,
     OrLongs,
     XorLongs,
@@ -79,10 +83,11 @@ fn make_arithmetic(op: Arithmetic) -> Quick
         Arithmetic::Add => Quick::Add,
         Arithmetic::Subtract => Quick::Subtract,
         Arithmetic::Multiply => Quick::Multiply,
+        Arithmetic::Divide => Quick::Divide,
+        Arithmetic::Remainder => Quick::Remainder,
         Arithmetic::And => Quick::And,
         Arithmetic::Or => Quick::Or,
         Arithmetic::Xor => Quick::Xor,
-        Arithmetic::Divide | Arithmetic::Remainder => Quick::Other,
     }
 }
 
@@ -93,10 +98,11 @@ fn make_long_arithmetic(op: Arithmetic) -> Quick
         Arithmetic::Add => Quick::AddLongs,
         Arithmetic::Subtract => Quick::SubtractLongs,
         Arithmetic::Multiply => Quick::MultiplyLongs,
+        Arithmetic::Divide => Quick::DivideLongs,
+        Arithmetic::Remainder => Quick::RemainderLongs,
         Arithmetic::And => Quick::AndLongs,
         Arithmetic::Or => Quick::OrLongs,
         Arithmetic::Xor => Quick::XorLongs,
-        Arithmetic::Divide | Arithmetic::Remainder => Quick::Other,
     }
 }
 

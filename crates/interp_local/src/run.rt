@@ -1,8 +1,11 @@
 //! Many steps in one call.
 
-ghost use Rattle.std.specs.Prelude.{◌≡◌, ◌≤◌, ◌<◌, ◌↔◌};
+ghost use Rattle.std.specs.Prelude.{◌≡◌, ◌≢◌, ◌≤◌, ◌<◌, ◌↔◌, true, false, List};
+ghost use Rattle.code_decode.specs.declared.code.ClassUnit.{ClassUnit};
+ghost use Rattle.java_rows.specs.LocalRows.{no_row};
+ghost use Rattle.interp_local.specs.declared.step.LocalStep.{LocalStep};
 ghost use Rattle.interp_local.specs.Quick.{quicks_of};
-ghost use Rattle.interp_local.specs.Runs.{IsLocalRun};
+ghost use Rattle.interp_local.specs.Runs.{IsLocalRun, IsLocalStep};
 ghost use Rattle.interp_local.specs.Steps.{local_now, kind_of, outcome, IsLocal, KeptUnlessMoved};
 
 use crate::constants::Constants;
@@ -21,75 +24,98 @@ pub struct LocalRun {
     pub stop: LocalStep,
 }
 
-// What `local_step` does, by one look where that tells the instruction.
+// Whether the instruction needs an operation, or there is none.
 #[inline(always)]
-fn next_step<P: Constants>(
+fn needs_operation(_steps: &[Instr<Target>], quicks: &[Quick], frames: &Frames) -> bool
+    requires { quicks.now ≡ quicks_of _steps.now }
+    ensures { (us : List ClassUnit) → result ≡ true → local_now us _steps.now frames.now ≡ no_row }
+{
+    matches!(quicks.get(frames.step()), None | Some(Quick::Operation))
+}
+
+// One step where one look tells the instruction. Says whether it was made.
+#[inline(always)]
+fn quick_step<P: Constants>(
     program: &P,
-    steps: &[Instr<Target>],
+    _steps: &[Instr<Target>],
     quicks: &[Quick],
     frames: &mut Frames,
-) -> LocalStep
-    requires { quicks.now ≡ quicks_of steps.now }
-    ensures row { local_now (P.units program.now) steps.now frames.old ≡ outcome result frames.new }
-    ensures kept { KeptUnlessMoved result frames.old frames.new }
-    ensures local { IsLocal frames.old frames.new }
+) -> bool
+    requires { quicks.now ≡ quicks_of _steps.now }
+    ensures made { result ≡ true → IsLocalStep (P.units program.now) _steps.now frames.old frames.new }
+    ensures kept { result ≡ false → frames.new ≡ frames.old }
 {
     match quicks.get(frames.step()) {
-        None => LocalStep::Other,
-        Some(Quick::Other) => local_step(program, steps, frames),
         Some(quick) => execute(program, *quick, frames),
+        None => false,
     }
 }
 
-// The steps that come next, where the frames stand.
-#[inline(always)]
-fn run_here<P: Constants>(
+// Such steps, of frames that are nowhere else meanwhile, so that the place of the top frame stays in registers. Says how
+// many.
+#[inline(never)]
+fn run_quick<P: Constants>(
+    program: &P,
+    steps: &[Instr<Target>],
+    quicks: &[Quick],
+    mut frames: Frames,
+    most: u64,
+) -> (Frames, u64)
+    requires { quicks.now ≡ quicks_of steps.now }
+    ensures run { IsLocalRun (P.units program.now) steps.now result.1 frames result.0 }
+    ensures most { result.1 ≤ most }
+{
+    for made in 0..most {
+        if !quick_step(program, steps, quicks, &mut frames) {
+            return (frames, made);
+        }
+    }
+    (frames, most)
+}
+
+// Such steps, and one behind them where that is told by no look. `Moved` where there may be more.
+#[tactic(auto, using(crate::proofs::RunLemmas::runs_join, crate::proofs::RunLemmas::run_of_one, crate::proofs::RunLemmas::stop_is))]
+fn run_stretch<P: Constants>(
     program: &P,
     steps: &[Instr<Target>],
     quicks: &[Quick],
     frames: &mut Frames,
     most: u64,
 ) -> LocalRun
-    requires { quicks.now ≡ quicks_of steps.now }
+    requires quicks { quicks.now ≡ quicks_of steps.now }
+    requires some { 0 < most }
     ensures run { IsLocalRun (P.units program.now) steps.now result.steps frames.old frames.new }
     ensures most { result.steps ≤ most }
-    ensures full { (result.stop ≡ LocalStep.Moved) ↔ (result.steps ≡ most) }
-    ensures stop { result.steps < most → result.stop ≡ kind_of (local_now (P.units program.now) steps.now frames.new) }
+    ensures some { result.stop ≡ LocalStep.Moved → 0 < result.steps }
+    ensures less { result.stop ≢ LocalStep.Moved → result.steps < most }
+    ensures stop { result.stop ≢ LocalStep.Moved → result.stop ≡ kind_of (local_now (P.units program.now) steps.now frames.new) }
 {
-    for made in 0..most {
-        match next_step(program, steps, quicks, frames) {
-            LocalStep::Moved => {}
-            stop => return LocalRun { steps: made, stop },
-        }
+    if needs_operation(steps, quicks, frames) {
+        return LocalRun {
+            steps: 0,
+            stop: LocalStep::Other,
+        };
     }
-    LocalRun {
-        steps: most,
-        stop: LocalStep::Moved,
+    let (after, made) = run_quick(program, steps, quicks, frames.take(), most);
+    *frames = after;
+    if made == most {
+        return LocalRun {
+            steps: made,
+            stop: LocalStep::Moved,
+        };
     }
-}
-
-// Steps of frames that are nowhere else meanwhile, so that the place of the top frame stays in registers.
-#[inline(always)]
-fn run_own<P: Constants>(
-    program: &P,
-    steps: &[Instr<Target>],
-    quicks: &[Quick],
-    mut frames: Frames,
-    most: u64,
-) -> (Frames, LocalRun)
-    requires { quicks.now ≡ quicks_of steps.now }
-    ensures run { IsLocalRun (P.units program.now) steps.now result.1.steps frames result.0 }
-    ensures most { result.1.steps ≤ most }
-    ensures full { (result.1.stop ≡ LocalStep.Moved) ↔ (result.1.steps ≡ most) }
-    ensures stop { result.1.steps < most → result.1.stop ≡ kind_of (local_now (P.units program.now) steps.now result.0) }
-{
-    let run = run_here(program, steps, quicks, &mut frames, most);
-    (frames, run)
+    let stop = local_step(program, steps, frames);
+    let steps = if matches!(&stop, LocalStep::Moved) {
+        made + 1
+    } else {
+        made
+    };
+    LocalRun { steps, stop }
 }
 
 /// Makes the steps that come next in the top frame, at most so many, each one what [`local_step`] makes, and says why
 /// it stopped. `quicks` are those of [`crate::make_quicks`]. Takes no memory.
-#[inline(never)]
+#[tactic(auto, using(crate::proofs::RunLemmas::runs_join))]
 pub fn run_local<P: Constants>(
     program: &P,
     steps: &[Instr<Target>],
@@ -103,9 +129,24 @@ pub fn run_local<P: Constants>(
     ensures full { (result.stop ≡ LocalStep.Moved) ↔ (result.steps ≡ most) }
     ensures stop { result.steps < most → result.stop ≡ kind_of (local_now (P.units program.now) steps.now frames.new) }
 {
-    let (after, run) = run_own(program, steps, quicks, frames.take(), most);
-    *frames = after;
-    run
+    let mut made = 0;
+    for _stretch in 0..most {
+        if made == most {
+            break;
+        }
+        let run = run_stretch(program, steps, quicks, frames, most - made);
+        made += run.steps;
+        if !matches!(&run.stop, LocalStep::Moved) {
+            return LocalRun {
+                steps: made,
+                stop: run.stop,
+            };
+        }
+    }
+    LocalRun {
+        steps: most,
+        stop: LocalStep::Moved,
+    }
 }
 
 /// Makes the next step, exactly as [`local_step`] does, by the loop of [`run_local`]: so a program has that code once.

@@ -101,6 +101,7 @@ pub(crate) fn silent_at<C: ThreadCode>(place: &mut Option<Seat<C>>) -> Result<bo
     Ok(made)
 }
 
+#[inline(always)]
 fn reply_from<C: ThreadCode>(standing: &mut Standing<C>, reply: Reply)
     requires { StandingAwaits C.code C.state standing.old reply }
     ensures { StandingReplies C.code C.state reply standing.old standing.new }
@@ -110,6 +111,7 @@ fn reply_from<C: ThreadCode>(standing: &mut Standing<C>, reply: Reply)
     }
 }
 
+#[inline(always)]
 pub(crate) fn reply_at<C: ThreadCode>(place: &mut Option<Seat<C>>, reply: Reply)
     requires { AwaitsReply C.code C.state place.old reply }
     ensures { SeatReplies C.code C.state reply place.old place.new }

@@ -103,6 +103,7 @@ impl<C: Drop> Threads<C> {
     }
 
     /// The seat of a thread, or `None` where it has not begun. There is no thread 0.
+    #[inline(always)]
     pub fn get(&self, thread: u8) -> Option<&Seat<C>>
         ensures { option_copied result ≡ seat_at self.now thread }
     {
@@ -237,6 +238,7 @@ impl<C: Drop> Threads<C> {
     }
 
     // The place of a thread in the table, where the table has one.
+    #[inline(always)]
     fn place_of(&self, thread: u8) -> Option<usize>
         ensures { MatchOption result (seat_at self.now thread ≡ None) (λ place. (place ≡ thread) × (0 < thread) × (thread < length self.now.seats.items)) }
     {
@@ -316,6 +318,7 @@ impl<C: ThreadCode + Drop> Threads<C> {
 
     /// Goes on with the reply to the operation that a thread wants, where it stands. It has then made no silent
     /// step since its last event. Takes no memory.
+    #[inline(always)]
     pub fn reply(&mut self, thread: u8, reply: Reply)
         requires { AwaitsReply C.code C.state (seat_at self.old thread) reply }
         ensures replies { SeatReplies C.code C.state reply (seat_at self.old thread) (seat_at self.new thread) }
