@@ -1,4 +1,3 @@
-use Rattle.std.proofs.Common.{◌≡◌}
 use Rattle.interp_local.proofs.RunLemmas.{one_step}
 use Rattle.interp_local.proofs.run.run_step.Goals as goal
 
