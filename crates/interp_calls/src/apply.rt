@@ -21,6 +21,7 @@ use interp_plans::{Here, JavaProgram, Reached};
 use op_core::Op;
 
 /// The top frame goes on with what is to be done.
+#[inline(always)]
 pub fn go_on(frames: &mut Frames, todo: Todo)
     ensures { frames.new ≡ with_stage frames.old (Stage.Inside todo) }
 {
@@ -48,6 +49,7 @@ pub fn todo_of<P: JavaProgram>(program: &P, thread: u32, frames: &Frames) -> Opt
     }
 }
 
+#[inline(always)]
 fn push_value(frames: &mut Frames, value: Value)
     requires { length (value_words value) ≤ frames.old.here.free }
     ensures { frames.new ≡ with_words frames.old (value_words value) }
@@ -62,6 +64,7 @@ fn push_value(frames: &mut Frames, value: Value)
     }
 }
 
+#[inline(always)]
 fn value_len(value: Value) -> usize
     ensures { result ≡ length (value_words value) }
 {
@@ -72,7 +75,7 @@ fn value_len(value: Value) -> usize
     }
 }
 
-/// Whether there is an instruction behind the one at which the top frame stands, or none so far behind the end.
+/// How many instructions the method of the top frame has.
 fn steps_len<P: JavaProgram>(program: &P, frames: &Frames) -> usize
     ensures { result ≡ length (steps_of (P.units program.now) frames.now.here.method) }
 {
@@ -83,7 +86,8 @@ fn steps_len<P: JavaProgram>(program: &P, frames: &Frames) -> usize
 }
 
 /// The instruction is complete: words are taken off the stack, those of a value are pushed, and the next one follows.
-fn complete<P: JavaProgram>(
+#[inline(always)]
+pub fn complete<P: JavaProgram>(
     program: &P,
     thread: u32,
     frames: &mut Frames,
@@ -94,10 +98,11 @@ fn complete<P: JavaProgram>(
         ≡ settled (P.units program.now) thread (completes (frame_of frames.old.here) (value_words value ++ drop operands frames.old.here.stack)) (waiting_below (P.units program.now) thread frames.old.below) }
     ensures saves { frames.new.saves ≡ frames.old.saves }
 {
-    let step = frames.step();
-    if step >= steps_len(program, frames) {
+    let Some(next) = frames.step().checked_add(1) else {
+        // No method is as long.
+        let _length = steps_len(program, frames);
         return go_on(frames, Todo::Stuck);
-    }
+    };
     let taken = usize::from(operands).min(frames.stack_len());
     let count = value_len(value);
     if count > taken && !frames.has_room(count - taken) {
@@ -105,7 +110,7 @@ fn complete<P: JavaProgram>(
     }
     frames.drop_words(taken);
     push_value(frames, value);
-    frames.set_step(step + 1);
+    frames.set_step(next);
     frames.set_stage(Stage::Begun);
 }
 
@@ -166,6 +171,7 @@ fn find_run<P: JavaProgram>(
 }
 
 /// The top frame, or the launch of the thread, goes on.
+#[inline(always)]
 #[tactic(auto, using(crate::proofs::SettleLemmas::todo_settles))]
 pub fn apply<P: JavaProgram>(program: &P, thread: u32, frames: &mut Frames, reached: Reached)
     ensures state { local_of (P.units program.now) thread frames.new

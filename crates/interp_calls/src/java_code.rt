@@ -9,13 +9,13 @@ ghost use Rattle.interp_plans.specs.Todos.{plan_at, plan_of};
 ghost use Rattle.interp_plans.specs.Uses.{frame_of};
 ghost use Rattle.interp_calls.specs.Local.{local_of, saved_locals};
 
-use crate::apply::{apply, todo_of};
+use crate::apply::todo_of;
+use crate::behind::{go_on_behind, go_on_behind_any};
 use crate::running::run;
 use crate::silent::{ends_frame, move_on, step};
 use builtin_world::number::THREAD;
 use frame_snapshot::{CallSite, Caller, Frames, Stage, Then, Todo};
 use interp_plans::{Here, JavaProgram};
-use interp_replies::answer;
 use link_types::MethodId;
 use op_core::{CodeStop, Next, NoMemory, Op, Reply, ThreadCode};
 use std::alloc::Global;
@@ -84,6 +84,7 @@ impl<'p, P: JavaProgram> JavaCode<'p, P> {
     }
 
     // Goes on with the reply to an operation, given what follows it.
+    #[inline(always)]
     fn go_on_with(&mut self, then: Then, reply: Reply)
         ensures program { self.new.program ≡ self.old.program }
         ensures thread { self.new.thread ≡ self.old.thread }
@@ -92,13 +93,7 @@ impl<'p, P: JavaProgram> JavaCode<'p, P> {
             → local_of (P.units self.old.program.now) self.old.thread self.new.frames ≡ java_code.reply (local_of (P.units self.old.program.now) self.old.thread self.old.frames) reply }
         ensures saves { self.new.frames.saves ≡ self.old.frames.saves }
     {
-        let here = Here {
-            program: self.program,
-            thread: self.thread,
-            frames: &self.frames,
-        };
-        let reached = answer(&here, then, reply);
-        apply(self.program, self.thread, &mut self.frames, reached);
+        go_on_behind(self.program, self.thread, &mut self.frames, then, reply);
     }
 
     // The same where what follows has to be found.
@@ -110,7 +105,7 @@ impl<'p, P: JavaProgram> JavaCode<'p, P> {
         ensures saves { self.new.frames.saves ≡ self.old.frames.saves }
     {
         if let Some(Todo::Wants(_, then)) = todo_of(self.program, self.thread, &self.frames) {
-            self.go_on_with(then, reply);
+            go_on_behind_any(self.program, self.thread, &mut self.frames, then, reply);
         }
     }
 }

@@ -5,6 +5,7 @@
 #![tactic(auto)]
 
 mod apply;
+mod behind;
 mod calling;
 mod ending;
 mod java_code;

@@ -11,11 +11,20 @@ ghost use Rattle.interp_calls.specs.Local.{local_of, saved_locals};
 
 use crate::apply::go_on;
 use frame_snapshot::{Frames, Stage};
+use instructions::{Instr, Target};
 use interp_local::{LocalStep, run_local};
 use interp_plans::{Here, JavaProgram};
 
 // Keeps in the top frame what is to be done at its instruction, where the step there isn't a local one that moves.
-fn keep_next<P: JavaProgram>(program: &P, thread: u32, frames: &mut Frames, step: LocalStep)
+#[inline(always)]
+fn keep_next<P: JavaProgram>(
+    program: &P,
+    thread: u32,
+    frames: &mut Frames,
+    steps: &[Instr<Target>],
+    step: LocalStep,
+)
+    requires steps { steps.now ≡ steps_of (P.units program.now) frames.old.here.method }
     requires begun { frames.old.here.stage ≡ Stage.Begun }
     requires step { step ≢ LocalStep.Moved → step ≡ kind_of (local_now (P.units program.now) (steps_of (P.units program.now) frames.old.here.method) frames.old) }
     ensures state { local_of (P.units program.now) thread frames.new ≡ local_of (P.units program.now) thread frames.old }
@@ -29,7 +38,7 @@ fn keep_next<P: JavaProgram>(program: &P, thread: u32, frames: &mut Frames, step
         thread,
         frames,
     };
-    if let Some(todo) = here.begin_by(step) {
+    if let Some(todo) = here.begin_by(steps, step) {
         go_on(frames, todo);
     }
 }
@@ -50,8 +59,9 @@ pub fn run<P: JavaProgram>(program: &P, thread: u32, frames: &mut Frames, most: 
     match program.code(method) {
         Some(code) => {
             let quicks = program.quicks(method);
-            let run = run_local(program, code.steps.as_slice(), quicks, frames, most);
-            keep_next(program, thread, frames, run.stop);
+            let steps = code.steps.as_slice();
+            let run = run_local(program, steps, quicks, frames, most);
+            keep_next(program, thread, frames, steps, run.stop);
             run.steps
         }
         None => 0,

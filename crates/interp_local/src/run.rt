@@ -9,7 +9,7 @@ ghost use Rattle.interp_local.specs.Runs.{IsLocalRun, IsLocalStep};
 ghost use Rattle.interp_local.specs.Steps.{local_now, kind_of, outcome, IsLocal, KeptUnlessMoved};
 
 use crate::constants::Constants;
-use crate::execute::execute;
+use crate::execute::{execute, execute_frequent};
 use crate::quick::Quick;
 use crate::step::{LocalStep, local_step};
 use frame_snapshot::Frames;
@@ -51,10 +51,52 @@ fn quick_step<P: Constants>(
     }
 }
 
-// Such steps, of frames that are nowhere else meanwhile, so that the place of the top frame stays in registers. Says how
-// many.
+// One step of a frequent instruction. Says whether it was made.
+#[inline(always)]
+fn frequent_step<P: Constants>(
+    program: &P,
+    _steps: &[Instr<Target>],
+    quicks: &[Quick],
+    frames: &mut Frames,
+) -> bool
+    requires { quicks.now ≡ quicks_of _steps.now }
+    ensures made { result ≡ true → IsLocalStep (P.units program.now) _steps.now frames.old frames.new }
+    ensures kept { result ≡ false → frames.new ≡ frames.old }
+{
+    match quicks.get(frames.step()) {
+        Some(quick) => execute_frequent(program, *quick, frames),
+        None => false,
+    }
+}
+
+// How many steps are made where the frames are, before they are taken out for more.
+const FEW: u64 = 8;
+
+// A few steps of frequent instructions, where the frames are. Says how many.
 #[inline(never)]
-fn run_quick<P: Constants>(
+fn run_few<P: Constants>(
+    program: &P,
+    steps: &[Instr<Target>],
+    quicks: &[Quick],
+    frames: &mut Frames,
+    most: u64,
+) -> u64
+    requires { quicks.now ≡ quicks_of steps.now }
+    ensures run { IsLocalRun (P.units program.now) steps.now result frames.old frames.new }
+    ensures most { result ≤ most }
+{
+    for made in 0..most {
+        if !frequent_step(program, steps, quicks, frames) {
+            return made;
+        }
+    }
+    most
+}
+
+// Steps that one look tells, of frames that are nowhere else meanwhile, so that the place of the top frame stays in
+// registers. Says how many.
+#[inline(never)]
+fn run_many<P: Constants>(
     program: &P,
     steps: &[Instr<Target>],
     quicks: &[Quick],
@@ -73,8 +115,30 @@ fn run_quick<P: Constants>(
     (frames, most)
 }
 
+// Steps that one look tells. Most runs are short, so the frames are taken out behind the first few steps. Says how many.
+#[tactic(auto, using(crate::proofs::RunLemmas::runs_join))]
+fn run_quick<P: Constants>(
+    program: &P,
+    steps: &[Instr<Target>],
+    quicks: &[Quick],
+    frames: &mut Frames,
+    most: u64,
+) -> u64
+    requires { quicks.now ≡ quicks_of steps.now }
+    ensures run { IsLocalRun (P.units program.now) steps.now result frames.old frames.new }
+    ensures most { result ≤ most }
+{
+    let few = run_few(program, steps, quicks, frames, most.min(FEW));
+    if few == most || needs_operation(steps, quicks, frames) {
+        return few;
+    }
+    let (after, more) = run_many(program, steps, quicks, frames.take(), most - few);
+    *frames = after;
+    few + more
+}
+
 // Such steps, and one behind them where that is told by no look. `Moved` where there may be more.
-#[tactic(auto, using(crate::proofs::RunLemmas::runs_join, crate::proofs::RunLemmas::run_of_one, crate::proofs::RunLemmas::stop_is))]
+#[tactic(auto, using(crate::proofs::RunLemmas::run_of_one, crate::proofs::RunLemmas::stop_is))]
 fn run_stretch<P: Constants>(
     program: &P,
     steps: &[Instr<Target>],
@@ -90,18 +154,17 @@ fn run_stretch<P: Constants>(
     ensures less { result.stop ≢ LocalStep.Moved → result.steps < most }
     ensures stop { result.stop ≢ LocalStep.Moved → result.stop ≡ kind_of (local_now (P.units program.now) steps.now frames.new) }
 {
-    if needs_operation(steps, quicks, frames) {
-        return LocalRun {
-            steps: 0,
-            stop: LocalStep::Other,
-        };
-    }
-    let (after, made) = run_quick(program, steps, quicks, frames.take(), most);
-    *frames = after;
+    let made = run_quick(program, steps, quicks, frames, most);
     if made == most {
         return LocalRun {
             steps: made,
             stop: LocalStep::Moved,
+        };
+    }
+    if needs_operation(steps, quicks, frames) {
+        return LocalRun {
+            steps: made,
+            stop: LocalStep::Other,
         };
     }
     let stop = local_step(program, steps, frames);

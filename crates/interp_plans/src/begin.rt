@@ -14,7 +14,7 @@ ghost use Rattle.instructions.specs.declared.what.What.{What};
 use crate::here::Here;
 use crate::program::JavaProgram;
 use frame_snapshot::Todo;
-use instructions::{Call, ClassUse, FieldAccess, Plain, Target, What};
+use instructions::{Call, ClassUse, FieldAccess, Instr, Plain, Target, What};
 use interp_local::{LocalStep, look_ahead};
 
 impl<'a, P: JavaProgram> Here<'a, P> {
@@ -88,11 +88,12 @@ impl<'a, P: JavaProgram> Here<'a, P> {
         }
     }
 
-    /// What is to be done at the instruction's beginning, given what a local step there would come to; `None` where it
-    /// needs no operation.
+    /// What is to be done at the instruction's beginning, given the instructions of the frame's method and what a local
+    /// step there would come to; `None` where it needs no operation.
     #[tactic(auto, using(crate::proofs::BeginLemmas::begun_none, crate::proofs::BeginLemmas::begun_other))]
-    pub fn begin_by(&self, step: LocalStep) -> Option<Todo>
-        requires { step ≡ kind_of (local_now (P.units self.now.program.now) (steps_of (P.units self.now.program.now) self.now.frames.now.here.method) self.now.frames.now) }
+    pub fn begin_by(&self, steps: &[Instr<Target>], step: LocalStep) -> Option<Todo>
+        requires steps { steps.now ≡ steps_of (P.units self.now.program.now) self.now.frames.now.here.method }
+        requires step { step ≡ kind_of (local_now (P.units self.now.program.now) (steps_of (P.units self.now.program.now) self.now.frames.now.here.method) self.now.frames.now) }
         ensures some { IfSome result (λ todo. begun (P.units self.now.program.now) self.now.thread (frame_of self.now.frames.now.here)
             ≡ plan_of (P.units self.now.program.now) self.now.thread (frame_of self.now.frames.now.here) todo) }
         ensures none { IsNone result → step ≡ LocalStep.Moved }
@@ -100,7 +101,7 @@ impl<'a, P: JavaProgram> Here<'a, P> {
         match step {
             LocalStep::Moved => None,
             LocalStep::Throw(class) => Some(self.fail(class)),
-            LocalStep::Other => match self.instruction() {
+            LocalStep::Other => match self.instruction_among(steps) {
                 Some(instruction) => Some(self.with_operations(&instruction.what)),
                 None => Some(Todo::Stuck),
             },
@@ -113,6 +114,7 @@ impl<'a, P: JavaProgram> Here<'a, P> {
             ≡ plan_of (P.units self.now.program.now) self.now.thread (frame_of self.now.frames.now.here) todo) }
         ensures none { IsNone result → kind_of (local_now (P.units self.now.program.now) (steps_of (P.units self.now.program.now) self.now.frames.now.here.method) self.now.frames.now) ≡ LocalStep.Moved }
     {
-        self.begin_by(look_ahead(self.program, self.steps(), self.frames))
+        let steps = self.steps();
+        self.begin_by(steps, look_ahead(self.program, steps, self.frames))
     }
 }

@@ -40,6 +40,7 @@ fn kept_element<P: JavaProgram>(here: &Here<'_, P>, kind: ElementKind, class: u3
 }
 
 /// An element is read.
+#[inline(always)]
 pub fn loads<P: JavaProgram>(here: &Here<'_, P>, kind: ElementKind, reply: Reply) -> Reached
     ensures { loads_then (frame_of here.now.frames.now.here) kind here.now.frames.now.here.stack reply
         ≡ plan_reached (P.units here.now.program.now) here.now.thread (frame_of here.now.frames.now.here) result }
@@ -59,6 +60,7 @@ pub fn loads<P: JavaProgram>(here: &Here<'_, P>, kind: ElementKind, reply: Reply
     }
 }
 
+#[inline(always)]
 fn stores_word<P: JavaProgram>(here: &Here<'_, P>, kind: ElementKind, reply: Reply) -> Reached
     ensures { stores_word_then (P.units here.now.program.now) (frame_of here.now.frames.now.here) kind here.now.frames.now.here.stack reply
         ≡ plan_reached (P.units here.now.program.now) here.now.thread (frame_of here.now.frames.now.here) result }
@@ -113,6 +115,7 @@ fn stores_reference<P: JavaProgram>(here: &Here<'_, P>, reply: Reply) -> Reached
 }
 
 /// An element is written.
+#[inline(always)]
 pub fn stores<P: JavaProgram>(here: &Here<'_, P>, kind: ElementKind, reply: Reply) -> Reached
     ensures { stores_then (P.units here.now.program.now) (frame_of here.now.frames.now.here) kind here.now.frames.now.here.stack reply
         ≡ plan_reached (P.units here.now.program.now) here.now.thread (frame_of here.now.frames.now.here) result }

@@ -1,4 +1,5 @@
-//! How a Java thread goes on with the reply to an operation (JVMS 6.5): [`answer`] tells what is to be done then.
+//! How a Java thread goes on with the reply to an operation (JVMS 6.5): [`answer`] tells what is to be done then;
+//! [`loads`] and [`stores`] tell it of elements alone.
 #![tactic(auto)]
 
 mod classes;
@@ -8,4 +9,5 @@ mod replying;
 mod threads;
 mod values;
 
+pub use elements::{loads, stores};
 pub use replying::answer;

@@ -15,6 +15,16 @@ keep_next-requires-clause-begun g c =
     let run : IsLocalRun us (steps_of us old.here.method) c.run_local-run.result.steps old c.run_local-run.new.frames = search rules in
     (run_stays us (steps_of us old.here.method) c.run_local-run.result.steps old c.run_local-run.new.frames is run).stage
 
+pub keep_next-requires-clause-steps : goal.keep_next-requires-clause-steps
+keep_next-requires-clause-steps g c =
+    let us = g.P.Constants.units c.args.program.now in
+    let old = c.args.frames.now in
+    let new = c.run_local-run.new.frames in
+    let is : old.here.stage ≡ Begun = search rules in
+    let run : IsLocalRun us (steps_of us old.here.method) c.run_local-run.result.steps old new = search rules in
+    let those : c.as_slice-steps.result.now ≡ steps_of us old.here.method = search rules in
+    those ∙ steps_stay us old new (run_stays us (steps_of us old.here.method) c.run_local-run.result.steps old new is run)
+
 pub keep_next-requires-clause-step : goal.keep_next-requires-clause-step
 keep_next-requires-clause-step g c moves_not =
     let us = g.P.Constants.units c.args.program.now in
