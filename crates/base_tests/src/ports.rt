@@ -23,7 +23,7 @@ fn folder(rt: &impl Abort, alloc: Global, fail: Vec<u32>) -> Result<MemDir, Fail
     Ok(MemDir::new(alloc, files, fail))
 }
 
-/// What a folder gave or refused, as a number.
+/// How many bytes a folder gave: 0 also where there was no memory, `None` where the file couldn't be read.
 fn length_of(answer: Result<Vec<u8>, DirFault>) -> Option<usize> {
     match answer {
         Ok(bytes) => Some(bytes.len()),
@@ -83,7 +83,7 @@ fn the_second_call_of_a_folder_fails_where_it_is_named(rt: HostRuntime) -> Resul
     Ok(())
 }
 
-/// What two bytes at most are taken as, or `None` where the source fails.
+/// What is taken of at most two bytes: nothing also where there is no memory, `None` where the source fails.
 fn taken(alloc: Global, source: &mut MemSource) -> Option<Vec<u8>> {
     match source.take(alloc, 2) {
         Ok(bytes) => Some(bytes),
