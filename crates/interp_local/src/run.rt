@@ -115,6 +115,24 @@ fn run_many<P: Constants>(
     (frames, most)
 }
 
+// The same, of frames that are taken out for the steps: apart, since most runs don't come here.
+#[inline(never)]
+fn run_taken<P: Constants>(
+    program: &P,
+    steps: &[Instr<Target>],
+    quicks: &[Quick],
+    frames: &mut Frames,
+    most: u64,
+) -> u64
+    requires { quicks.now ≡ quicks_of steps.now }
+    ensures run { IsLocalRun (P.units program.now) steps.now result frames.old frames.new }
+    ensures most { result ≤ most }
+{
+    let (after, made) = run_many(program, steps, quicks, frames.take(), most);
+    *frames = after;
+    made
+}
+
 // Steps that one look tells. Most runs are short, so the frames are taken out behind the first few steps. Says how many.
 #[tactic(auto, using(crate::proofs::RunLemmas::runs_join))]
 fn run_quick<P: Constants>(
@@ -132,9 +150,17 @@ fn run_quick<P: Constants>(
     if few == most || needs_operation(steps, quicks, frames) {
         return few;
     }
-    let (after, more) = run_many(program, steps, quicks, frames.take(), most - few);
-    *frames = after;
-    few + more
+    few + run_taken(program, steps, quicks, frames, most - few)
+}
+
+// The step of any instruction: apart, as the steps of frames that are taken out.
+#[inline(never)]
+fn step_apart<P: Constants>(program: &P, steps: &[Instr<Target>], frames: &mut Frames) -> LocalStep
+    ensures row { local_now (P.units program.now) steps.now frames.old ≡ outcome result frames.new }
+    ensures kept { KeptUnlessMoved result frames.old frames.new }
+    ensures local { IsLocal frames.old frames.new }
+{
+    local_step(program, steps, frames)
 }
 
 // Such steps, and one behind them where that is told by no look. `Moved` where there may be more.
@@ -167,7 +193,7 @@ fn run_stretch<P: Constants>(
             stop: LocalStep::Other,
         };
     }
-    let stop = local_step(program, steps, frames);
+    let stop = step_apart(program, steps, frames);
     let steps = if matches!(&stop, LocalStep::Moved) {
         made + 1
     } else {

@@ -90,6 +90,7 @@ impl<'a, P: JavaProgram> Here<'a, P> {
 
     /// What is to be done at the instruction's beginning, given the instructions of the frame's method and what a local
     /// step there would come to; `None` where it needs no operation.
+    #[inline(always)]
     #[tactic(auto, using(crate::proofs::BeginLemmas::begun_none, crate::proofs::BeginLemmas::begun_other))]
     pub fn begin_by(&self, steps: &[Instr<Target>], step: LocalStep) -> Option<Todo>
         requires steps { steps.now ≡ steps_of (P.units self.now.program.now) self.now.frames.now.here.method }
