@@ -124,7 +124,15 @@ impl<'p, P: JavaProgram> ThreadCode for JavaCode<'p, P> {
 
     #[inline(always)]
     fn next(&self) -> Next {
+        // Frequent operations are read part by part: as a whole they would wait for the parts that were just written.
         match self.frames.stage_here() {
+            Stage::Inside(Todo::Wants(Op::Read(object, place), _)) => {
+                Next::Want(Op::Read(*object, *place))
+            }
+            Stage::Inside(Todo::Wants(Op::Write(object, place, word), _)) => {
+                Next::Want(Op::Write(*object, *place, *word))
+            }
+            Stage::Inside(Todo::Wants(Op::ClassOf(object), _)) => Next::Want(Op::ClassOf(*object)),
             Stage::Inside(Todo::Wants(op, _)) => Next::Want(*op),
             _ => self.find_next(),
         }

@@ -72,6 +72,7 @@ impl<'a, P: JavaProgram> Here<'a, P> {
         }
     }
 
+    #[inline(always)]
     fn with_operations(&self, what: &What<Target>) -> Todo
         requires { instruction_at (P.units self.now.program.now) (frame_of self.now.frames.now.here) ≡ Some what.now }
         ensures { row_with_operations (P.units self.now.program.now) self.now.thread (frame_of self.now.frames.now.here) what.now
