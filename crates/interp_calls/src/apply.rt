@@ -87,7 +87,7 @@ fn steps_len<P: JavaProgram>(program: &P, frames: &Frames) -> usize
 
 /// The instruction is complete: words are taken off the stack, those of a value are pushed, and the next one follows.
 #[inline(always)]
-pub fn complete<P: JavaProgram>(
+fn complete<P: JavaProgram>(
     program: &P,
     thread: u32,
     frames: &mut Frames,

@@ -6,11 +6,10 @@ ghost use Rattle.interp_plans.specs.Uses.{frame_of};
 ghost use Rattle.java_rows.specs.Thread.{settled};
 ghost use Rattle.interp_calls.specs.Local.{local_of, waiting_below};
 
-use crate::apply::{apply, go_on};
-use crate::silent::finish;
-use frame_snapshot::{Frames, Then, Todo, Value};
+use crate::apply::apply;
+use frame_snapshot::{Frames, Then};
 use interp_plans::{Here, JavaProgram};
-use interp_replies::{answer, loads, stores};
+use interp_replies::{answer, done, high_read, loads, low_read, low_written, read, stores};
 use op_core::{Op, Reply};
 
 /// The top frame goes on with the reply to an operation, given what follows it.
@@ -34,9 +33,9 @@ pub fn go_on_behind_any<P: JavaProgram>(
     apply(program, thread, frames, reached);
 }
 
-// The same, with replies about elements of arrays told apart first.
+/// The same, with replies about fields and elements told apart first.
 #[inline(always)]
-fn go_on_behind_element<P: JavaProgram>(
+pub fn go_on_behind<P: JavaProgram>(
     program: &P,
     thread: u32,
     frames: &mut Frames,
@@ -53,57 +52,23 @@ fn go_on_behind_element<P: JavaProgram>(
         frames,
     };
     let reached = match then {
+        Then::Read(site) => read(&here, site, reply),
+        Then::Done(site) => done(&here, site, reply),
+        Then::LowRead {
+            site,
+            object,
+            place,
+        } => low_read(&here, site, object, place, reply),
+        Then::HighRead { site, low } => high_read(&here, site, low, reply),
+        Then::LowWritten {
+            site,
+            object,
+            place,
+            high,
+        } => low_written(&here, site, Op::Write(object, place, high), reply),
         Then::Loads(kind) => loads(&here, kind, reply),
         Then::Stores(kind) => stores(&here, kind, reply),
         _ => return go_on_behind_any(program, thread, frames, then, reply),
     };
     apply(program, thread, frames, reached);
-}
-
-/// The same, with replies about fields and elements told apart first.
-#[inline(always)]
-pub fn go_on_behind<P: JavaProgram>(
-    program: &P,
-    thread: u32,
-    frames: &mut Frames,
-    then: Then,
-    reply: Reply,
-)
-    ensures state { local_of (P.units program.now) thread frames.new
-        ≡ settled (P.units program.now) thread (then_of (P.units program.now) thread (frame_of frames.old.here) then reply) (waiting_below (P.units program.now) thread frames.old.below) }
-    ensures saves { frames.new.saves ≡ frames.old.saves }
-{
-    match (then, reply) {
-        (Then::Read(site), Reply::Value(word)) => {
-            finish(program, thread, frames, site, Value::Word(word))
-        }
-        (Then::Done(site), Reply::Done) => finish(program, thread, frames, site, Value::None),
-        (
-            Then::LowRead {
-                site,
-                object,
-                place,
-            },
-            Reply::Value(low),
-        ) => {
-            let then = Then::HighRead { site, low };
-            go_on(frames, Todo::Wants(Op::Read(object, place), then))
-        }
-        (Then::HighRead { site, low }, Reply::Value(high)) => {
-            finish(program, thread, frames, site, Value::Long { high, low })
-        }
-        (
-            Then::LowWritten {
-                site,
-                object,
-                place,
-                high,
-            },
-            Reply::Done,
-        ) => go_on(
-            frames,
-            Todo::Wants(Op::Write(object, place, high), Then::Done(site)),
-        ),
-        _ => go_on_behind_element(program, thread, frames, then, reply),
-    }
 }

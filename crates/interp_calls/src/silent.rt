@@ -15,14 +15,14 @@ ghost use Rattle.interp_plans.specs.Todos.{plan_at, plan_of};
 ghost use Rattle.interp_plans.specs.Uses.{frame_of, use_at, value_words};
 ghost use Rattle.interp_calls.specs.Local.{local_of, waiting_below};
 
-use crate::apply::{complete, go_on};
+use crate::apply::{apply, go_on};
 use crate::calling::{MethodCall, call};
 use crate::ending::end;
-use frame_snapshot::{CallSite, Caller, Frames, PushRefusal, Stage, Then, Todo, Value};
+use frame_snapshot::{CallSite, Caller, Frames, PushRefusal, Stage, Todo, Value};
 use interp_local::run_step;
 use interp_plans::{Here, JavaProgram};
 use link_types::MethodId;
-use op_core::{CodeStop, Op};
+use op_core::CodeStop;
 
 // A handler, which begins at an instruction, takes a thrown object.
 fn catch<P: JavaProgram>(program: &P, thread: u32, frames: &mut Frames, entry: u32, object: u32)
@@ -40,9 +40,8 @@ fn catch<P: JavaProgram>(program: &P, thread: u32, frames: &mut Frames, entry: u
     frames.set_stage(Stage::Begun);
 }
 
-/// An instruction, or the launch of the thread, is complete with a value.
-#[inline(always)]
-pub fn finish<P: JavaProgram>(
+// An instruction, or the launch of the thread, is complete with a value.
+fn finish<P: JavaProgram>(
     program: &P,
     thread: u32,
     frames: &mut Frames,
@@ -53,10 +52,13 @@ pub fn finish<P: JavaProgram>(
         ≡ settled (P.units program.now) thread ((use_at (frame_of frames.old.here) site).value (value_words value)) (waiting_below (P.units program.now) thread frames.old.below) }
     ensures saves { frames.new.saves ≡ frames.old.saves }
 {
-    match site.caller {
-        Caller::Instruction => complete(program, thread, frames, site.operands, value),
-        Caller::Launch => go_on(frames, Todo::Wants(Op::End(None), Then::Ended)),
-    }
+    let here = Here {
+        program,
+        thread,
+        frames,
+    };
+    let reached = here.value(site, value);
+    apply(program, thread, frames, reached);
 }
 
 // The frame of a method is made.

@@ -1,5 +1,5 @@
 //! How a Java thread goes on with the reply to an operation (JVMS 6.5): [`answer`] tells what is to be done then;
-//! [`loads`] and [`stores`] tell it of elements alone.
+//! [`read`], [`loads`] and others tell it of one way to go on.
 #![tactic(auto)]
 
 mod classes;
@@ -11,3 +11,4 @@ mod values;
 
 pub use elements::{loads, stores};
 pub use replying::answer;
+pub use values::{done, high_read, low_read, low_written, read};

@@ -15,6 +15,7 @@ use op_core::{Op, Reply};
 pub const STUCK: Reached = Reached::Goes(Todo::Stuck);
 
 /// Nothing is to be told.
+#[inline(always)]
 pub fn done<P: JavaProgram>(here: &Here<'_, P>, site: CallSite, reply: Reply) -> Reached
     ensures { then_of (P.units here.now.program.now) here.now.thread (frame_of here.now.frames.now.here) (Then.Done site) reply
         ≡ plan_reached (P.units here.now.program.now) here.now.thread (frame_of here.now.frames.now.here) result }
@@ -26,6 +27,7 @@ pub fn done<P: JavaProgram>(here: &Here<'_, P>, site: CallSite, reply: Reply) ->
 }
 
 /// A word was read.
+#[inline(always)]
 pub fn read<P: JavaProgram>(here: &Here<'_, P>, site: CallSite, reply: Reply) -> Reached
     ensures { then_of (P.units here.now.program.now) here.now.thread (frame_of here.now.frames.now.here) (Then.Read site) reply
         ≡ plan_reached (P.units here.now.program.now) here.now.thread (frame_of here.now.frames.now.here) result }
@@ -37,6 +39,7 @@ pub fn read<P: JavaProgram>(here: &Here<'_, P>, site: CallSite, reply: Reply) ->
 }
 
 /// The low half of a long was read.
+#[inline(always)]
 pub fn low_read<P: JavaProgram>(
     here: &Here<'_, P>,
     site: CallSite,
@@ -57,6 +60,7 @@ pub fn low_read<P: JavaProgram>(
 }
 
 /// The high half of a long was read.
+#[inline(always)]
 pub fn high_read<P: JavaProgram>(
     here: &Here<'_, P>,
     site: CallSite,
@@ -73,6 +77,7 @@ pub fn high_read<P: JavaProgram>(
 }
 
 /// The low half of a long was written.
+#[inline(always)]
 pub fn low_written<P: JavaProgram>(
     here: &Here<'_, P>,
     site: CallSite,
