@@ -1,10 +1,9 @@
 -- A program has few bases.
-use Rattle.std.proofs.Common.{◌≡◌, ℕ, zero, suc, ◌+◌, ◌*◌, ◌^◌, ◌<◌, ◌≤◌, replicate, Bool, true, false, List, [], ◌∷◌, ◌++◌, length, map, Contains, bytes_eq, inl, inr, refl, sym, ap, subst, ◌∙◌, arith}
+use Rattle.std.proofs.Common.{◌≡◌, ℕ, ◌+◌, ◌*◌, ◌^◌, ◌<◌, ◌≤◌, replicate, Bool, true, false, List, [], ◌∷◌, ◌++◌, length, map, Contains, bytes_eq, refl, sym, ap, subst, ◌∙◌, arith}
 use Rattle.std.specs.List.{AllByRecursion, range_with_len}
 use Rattle.std.specs.List.{IsDistinct}
 use Rattle.std.specs.Cmp.{IsEquivalence}
 use Rattle.std.specs.Set.{is_member}
-use Rattle.std.proofs.lemmas.Bool.{cases_lt}
 use Rattle.std.proofs.lemmas.List.{length-map, length-replicate}
 use Rattle.std.proofs.lemmas.List.Elements.{Contains-append_right}
 use Rattle.std.proofs.lemmas.List.FromFn.{length-range_with_len}
@@ -14,20 +13,20 @@ use Rattle.code_decode.specs.declared.code.ClassUnit.{ClassUnit}
 use Rattle.link_types.specs.declared.types.ElementType.{ElementType}
 use Rattle.link_types.specs.declared.types.ElementType.TheVariants.{Boolean, Byte, Char, Short, Int, Long, Float, Double, Class, Other}
 use Rattle.link_rules.specs.Classes.{NamedClass, classes_of}
-use Rattle.link_rules.proofs.Lists.{contains_head, contains_tail, contains_cases, contains_none, contains_at}
+use Rattle.link_rules.proofs.Lists.{contains_head, contains_tail, contains_at}
 use Rattle.array_order.specs.Order.{StandInOrder}
 use Rattle.array_order.specs.Order.{arrays_in_order}
 use Rattle.array_order.proofs.Arrays.{arrays_few}
 use Rattle.array_order.proofs.Texts.{Before, not_itself}
 use Rattle.array_table.specs.Places.{places_in_order}
 use Rattle.array_table.specs.Descriptors.{descriptor_at}
-use Rattle.array_table.proofs.Descriptors.{arrays_map}
+use Rattle.array_table.proofs.Descriptors.{arrays_map, same_tests}
 use Rattle.array_classes.specs.declared.arrays.ArrayNumbers.{ArrayNumbers}
 use Rattle.array_classes.specs.Numbers.{AreNumbersOf}
 use Rattle.base_order.specs.declared.order.BaseOrder.{BaseOrder}
 use Rattle.base_order.specs.Bases.{base_text, IsBase}
 use Rattle.base_order.specs.Order.{IsOrderOf}
-use Rattle.array_uses.proofs.Places.{contains_map}
+use Rattle.base_order.proofs.BaseLaws.{within_numbers, map_contains, contains_map}
 
 all_from : {X : Type 0} (P : X → Type 0) (xs : List X) → ((x : X) → Contains xs x → P x) → AllByRecursion P xs
 all_from P [] each = tt
@@ -41,26 +40,6 @@ distinct (x ∷ xs) sorted = (all_from (λ y. bytes_eq x y ≡ false) xs (λ y h
     other : (y : List ℕ) (b : Bool) → bytes_eq x y ≡ b → Before x y → b ≡ false
     other y false is before = refl
     other y true is before = absurd (not_itself y (subst (λ z. Before z y) ((bytes_eq-Decides x y).0 is) before))
-
-in_range : (a n x : ℕ) → a ≤ x → x < a + n → Contains (range_with_len a n) x
-in_range a zero x low high = absurd (omega arith)
-in_range a (suc n) x low high = elim (cases_lt a x) [
-  | inl less ↦ contains_tail a (range_with_len (a + 1) n) x (in_range (a + 1) n x (omega arith) (omega arith))
-  | inr same ↦ (let is : a ≡ x = omega arith in subst (Contains (range_with_len a (suc n))) is (contains_head a (range_with_len (a + 1) n)))
-]
-
-map_contains : {X Y : Type 0} (f : X → Y) (xs : List X) (x : X) → Contains xs x → Contains (map f xs) (f x)
-map_contains f [] x h = absurd (contains_none x h)
-map_contains f (y ∷ xs) x h = elim (contains_cases y xs x h) [
-  | inl same ↦ subst (λ z. Contains (f y ∷ map f xs) (f z)) same (contains_head (f y) (map f xs))
-  | inr later ↦ contains_tail (f y) (map f xs) (f x) (map_contains f xs x later)
-]
-
-same_tests : (b t : Bool) → (b ≡ true → t ≡ true) → (t ≡ true → b ≡ true) → b ≡ t
-same_tests true true one other = refl
-same_tests true false one other = sym (one refl)
-same_tests false true one other = other refl
-same_tests false false one other = refl
 
 texts_compare : IsEquivalence bytes_eq
 texts_compare = record {
@@ -89,7 +68,7 @@ base_among cs Float is = contains_at (all_bases (length cs)) 6 Float refl
 base_among cs Double is = contains_at (all_bases (length cs)) 7 Double refl
 base_among cs (Class c) is =
     Contains-append_right primitives (map class_at (range_with_len 1 (length cs))) (Class c)
-    (map_contains class_at (range_with_len 1 (length cs)) c (in_range 1 (length cs) c (let some = is.0 in omega (arith, some)) (let le = is.1 in omega arith)))
+    (map_contains class_at (range_with_len 1 (length cs)) c (within_numbers 1 (length cs) c (let some = is.0 in omega (arith, some)) (let le = is.1 in omega arith)))
 base_among cs (Other n) is = absurd is
 
 pub bases_few : (us : List ClassUnit) (order : BaseOrder) → IsOrderOf us order → length order.bases.items ≤ 8 + length (classes_of us)

@@ -22,12 +22,12 @@ use Rattle.array_table.proofs.Descriptors.{arrays_map, number_is_place}
 use Rattle.base_order.specs.declared.order.BaseOrder.{BaseOrder}
 use Rattle.base_order.specs.Bases.{base_text}
 use Rattle.base_order.specs.Order.{IsOrderOf}
+use Rattle.base_order.proofs.BaseLaws.{contains_map}
 use Rattle.array_kinds.specs.declared.kind.ArrayKind.{ArrayKind}
 use Rattle.array_kinds.specs.Kinds.{array_kind}
 use Rattle.array_uses.specs.Most.{IsArrayIn, IsMost, base_texts, program_arrays}
 use Rattle.array_classes.specs.declared.arrays.ArrayNumbers.{ArrayNumbers}
 use Rattle.array_classes.specs.Numbers.{AreNumbersOf, IsKindOf}
-use Rattle.array_uses.proofs.Places.{contains_map}
 
 -- ---- places
 

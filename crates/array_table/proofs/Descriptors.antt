@@ -6,6 +6,7 @@ use Rattle.std.proofs.lemmas.List.{map-append, get_or_at, length_push}
 use Rattle.std.proofs.lemmas.List.Elements.{Contains-append_cases}
 use Rattle.std.proofs.lemmas.Option.{none-some, same_Some, slice_get-get_or, get_or_from_slice_get}
 use Rattle.std.proofs.lemmas.Slice.Eq.{bytes_eq-Decides}
+use Rattle.std.proofs.lemmas.Bool.{and_parts}
 use Rattle.link_rules.proofs.Lists.{contains_head, contains_tail, contains_cases, contains_none, contains_at}
 use Rattle.array_order.specs.Order.{array_text, StandInOrder, AreBases, arrays_of_dimensions, arrays_from, arrays_in_order}
 use Rattle.array_order.proofs.Texts.{Before, not_itself}
@@ -103,16 +104,11 @@ one_place (y ∷ bases) zero (suc j) x sorted at there = absurd (not_itself x (s
 one_place (y ∷ bases) (suc i) zero x sorted at there = absurd (not_itself x (subst (λ z. Before z x) (same_Some y x there) (sorted.0 x (contains_at bases i x at))))
 one_place (y ∷ bases) (suc i) (suc j) x sorted at there = ap (λ k. suc k) (one_place bases i j x sorted.1 at there)
 
-same_tests : (b t : Bool) → (b ≡ true → t ≡ true) → (t ≡ true → b ≡ true) → b ≡ t
+pub same_tests : (b t : Bool) → (b ≡ true → t ≡ true) → (t ≡ true → b ≡ true) → b ≡ t
 same_tests true true one other = refl
 same_tests true false one other = sym (one refl)
 same_tests false true one other = other refl
 same_tests false false one other = refl
-
-and_both : (x y : Bool) → (x && y) ≡ true → (x ≡ true) × (y ≡ true)
-and_both true true e = (refl, refl)
-and_both true false e = absurd cc
-and_both false y e = absurd cc
 
 pub number_is_place : (bases : List (List ℕ)) (most : List ℕ) (base : List ℕ) (d i : ℕ) → AreBases bases → length most ≡ length bases → slice_get bases i ≡ Some base
     → position_from (bytes_eq (array_text d base)) 0 (arrays_in_order bases most) ≡ number_in (places_in_order most) d i
@@ -143,7 +139,7 @@ number_is_place bases most base d i are count at =
 
         other : is_place d i p ≡ true → bytes_eq (array_text d base) (descriptor_at bases p) ≡ true
         other is =
-            let parts = and_both (p.dimensions == d) (p.base == i) is in
+            let parts = and_parts (p.dimensions == d) (p.base == i) is in
             let depth : p.dimensions ≡ d = eqb-true p.dimensions d parts.0 in
             let place : p.base ≡ i = eqb-true p.base i parts.1 in
             let base_is : get_or bases p.base [] ≡ base = ap (λ k. get_or bases k []) place ∙ get_or_from_slice_get bases i base [] at in

@@ -6,8 +6,8 @@ use Rattle.std.proofs.lemmas.Bool.{cases_lt, cases_eq}
 use Rattle.std.proofs.lemmas.List.{append-nil, length_push, length-take-le}
 use Rattle.std.proofs.lemmas.Option.{none-some, slice_get_past, slice_get_within}
 use Rattle.class_read.proofs.FindLaws.{take_next}
-use Rattle.link_rules.proofs.Lists.{position_stays}
-use Rattle.class_supers.proofs.AboveLaws.{last_at, before_at}
+use Rattle.link_rules.proofs.Lists.{position_stays, before_at}
+use Rattle.class_supers.proofs.AboveLaws.{last_at}
 use Rattle.array_table.specs.declared.place.ArrayPlace.{ArrayPlace}
 use Rattle.array_table.specs.Places.{place_of, places_of_dimensions, is_place, number_in}
 use Rattle.array_table.specs.Row.{kept_in_row, IsRowOf}

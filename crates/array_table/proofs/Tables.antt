@@ -4,8 +4,8 @@ use Rattle.std.specs.Option.{option_map, option_and_then}
 use Rattle.std.proofs.lemmas.Bool.{cases_lt, cases_eq}
 use Rattle.std.proofs.lemmas.List.{length_push}
 use Rattle.std.proofs.lemmas.Option.{slice_get_past}
-use Rattle.link_rules.proofs.Lists.{position_stays}
-use Rattle.class_supers.proofs.AboveLaws.{last_at, before_at}
+use Rattle.link_rules.proofs.Lists.{position_stays, before_at}
+use Rattle.class_supers.proofs.AboveLaws.{last_at}
 use Rattle.array_table.specs.declared.place.ArrayPlace.{ArrayPlace}
 use Rattle.array_table.specs.declared.table.ArrayTable.{ArrayTable}
 use Rattle.array_table.specs.Places.{places_of_dimensions, places_from, places_in_order, is_place, number_in}

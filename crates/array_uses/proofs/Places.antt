@@ -1,5 +1,5 @@
 -- The bases of arrays have places.
-use Rattle.std.proofs.Common.{◌≡◌, ◌≢◌, ℕ, zero, suc, ◌-◌, ◌≤◌, cond, nat_eq, List, [], ◌∷◌, ◌++◌, length, map, take, Contains, Option, None, Some, inl, inr, refl, sym, ap, subst, ◌∙◌, length-append, arith}
+use Rattle.std.proofs.Common.{◌≡◌, ◌≢◌, ℕ, zero, suc, ◌-◌, ◌≤◌, cond, nat_eq, List, [], ◌∷◌, ◌++◌, length, take, Contains, Option, None, Some, inl, inr, refl, sym, ap, subst, ◌∙◌, length-append, arith}
 use Rattle.std.specs.Option.{option_map_or}
 use Rattle.std.proofs.lemmas.List.{take-append-le, take_all}
 use Rattle.std.proofs.lemmas.Option.{slice_get_cases, none-some}
@@ -8,17 +8,10 @@ use Rattle.link_types.specs.declared.types.ElementType.{ElementType}
 use Rattle.link_types.specs.declared.types.ElementType.TheVariants.{Boolean, Byte, Char, Short, Int, Long, Float, Double, Class, Other}
 use Rattle.link_rules.specs.Classes.{NamedClass, classes_of, class_number, class_numbered}
 use Rattle.link_rules.specs.Laws.{NamesHaveOneNumber}
-use Rattle.link_rules.proofs.Lists.{contains_head, contains_tail, contains_cases, contains_none}
 use Rattle.base_order.specs.declared.order.BaseOrder.{BaseOrder}
 use Rattle.base_order.specs.Bases.{name_of, base_text, IsBase}
 use Rattle.base_order.specs.Order.{IsOrderOf}
-
-pub contains_map : {X Y : Type 0} (f : X → Y) (xs : List X) (y : Y) → Contains (map f xs) y → (x : X) × Contains xs x × (f x ≡ y)
-contains_map f [] y h = absurd (contains_none y h)
-contains_map {X} f (x ∷ xs) y h = elim (contains_cases (f x) (map f xs) y h) [
-  | inl same ↦ (x, contains_head x xs, same)
-  | inr later ↦ (let more : (z : X) × Contains xs z × (f z ≡ y) = contains_map f xs y later in (more.0, contains_tail x xs more.0 more.1, more.2))
-]
+use Rattle.base_order.proofs.BaseLaws.{contains_map}
 
 -- the base of a descriptor
 base_of : List NamedClass → List ℕ → ElementType

@@ -1,10 +1,10 @@
 -- Texts that are known, and labels.
-use Rattle.std.proofs.Common.{◌≡◌, ℕ, suc, ◌+◌, ◌-◌, ◌<◌, ◌≤◌, Bool, true, false, cond, eqb, leb, List, [], ◌∷◌, ◌++◌, ◌⊎◌, ◌&&◌, ◌||◌, length, take, drop, get_or, Some, None, refl, sym, ap, ◌∙◌, inl, inr, arith, codes, eq-eqb}
+use Rattle.std.proofs.Common.{◌≡◌, ℕ, suc, ◌+◌, ◌-◌, ◌<◌, ◌≤◌, Bool, true, false, cond, eqb, leb, List, [], ◌∷◌, ◌++◌, ◌&&◌, ◌||◌, length, take, drop, get_or, Some, None, refl, sym, ap, ◌∙◌, inl, inr, arith, codes, eq-eqb}
 use Rattle.std.specs.Str.{bytes_eq}
 use Rattle.std.proofs.lemmas.Option.{same_Some}
 use Rattle.std.proofs.lemmas.List.{take-append-drop, length-take-le, drop_all}
 use Rattle.std.proofs.Math.Seq.{take-append_seam, drop-cons}
-use Rattle.std.proofs.lemmas.Bool.{and_parts, leb-true, le-leb, eqb-true}
+use Rattle.std.proofs.lemmas.Bool.{and_parts, leb-true, le-leb, eqb-true, or_cases}
 use Rattle.assembler_lines.specs.Lines.{IsIntDescriptor}
 use Rattle.assembler_lines.specs.ReadingLine.{is_int_descriptor, label_of}
 use Rattle.class_names.proofs.Cases.{chosen}
@@ -38,10 +38,6 @@ int_again descriptor h =
       | inr a ↦ elim a [ inl t ↦ ap is_int_descriptor t | inr b ↦ elim b [ inl t ↦ ap is_int_descriptor t | inr c ↦ elim c [ inl t ↦ ap is_int_descriptor t | inr t ↦ ap is_int_descriptor t ] ] ]
     ]
 
-or_true : (a b : Bool) → (a || b) ≡ true → (a ≡ true) ⊎ (b ≡ true)
-or_true true b e = inl refl
-or_true false b e = inr e
-
 pub int_takes : (descriptor : List ℕ) → is_int_descriptor descriptor ≡ true → IsIntDescriptor descriptor
 int_takes descriptor e =
     let i = bytes_eq descriptor (codes "I") in
@@ -49,10 +45,10 @@ int_takes descriptor e =
     let c = bytes_eq descriptor (codes "C") in
     let b = bytes_eq descriptor (codes "B") in
     let z = bytes_eq descriptor (codes "Z") in
-    elim (or_true (i || s || c || b) z e) [
-      | inl t4 ↦ elim (or_true (i || s || c) b t4) [
-        | inl t3 ↦ elim (or_true (i || s) c t3) [
-          | inl t2 ↦ elim (or_true i s t2) [
+    elim (or_cases (i || s || c || b) z e) [
+      | inl t4 ↦ elim (or_cases (i || s || c) b t4) [
+        | inl t3 ↦ elim (or_cases (i || s) c t3) [
+          | inl t2 ↦ elim (or_cases i s t2) [
             | inl t ↦ inl (text_same descriptor (codes "I") t)
             | inr t ↦ inr (inl (text_same descriptor (codes "S") t))
           ]

@@ -3,6 +3,8 @@ use Rattle.std.proofs.Common.{◌≡◌, ℕ, ◌+◌, ◌<◌, ◌&&◌, not, B
 use Rattle.std.specs.Prelude.{nat_lt, if◌then◌else◌}
 use Rattle.std.proofs.lemmas.Grind.{common_steps}
 use Rattle.std.proofs.lemmas.Bool.Decides.{nat_tests}
+use Rattle.std.proofs.Math.Bool.{and-false}
+use Rattle.std.proofs.lemmas.Bool.{and_parts}
 use Rattle.op_core.specs.declared.Op.{Op}
 use Rattle.op_core.specs.declared.Op.TheVariants.{Read, Write, Enter, Wait, Rewake, Start, Init}
 use Rattle.op_core.specs.declared.Next.{Next}
@@ -30,17 +32,9 @@ use Rattle.automaton_rows.proofs.RowLemmas.{answers_are_rows}
 
 -- ---- tests
 
-shut_after : (a : Bool) → (a && false) ≡ false
-shut_after true = refl
-shut_after false = refl
-
 no_saves : (S : Type 0) (a : Bool) → HasSaves {S = S} (a && false) [] []
 no_saves S true = tt
 no_saves S false = tt
-
-first_of_both : (a c : Bool) → (a && c) ≡ true → a ≡ true
-first_of_both true c both = refl
-first_of_both false c both = both
 
 above_zero : (n : ℕ) → nat_lt 0 (n + 1) ≡ true
 above_zero n = grind (arith, common_steps, nat_tests)
@@ -123,10 +117,10 @@ module _ {S : Type 0} (code : Code S) (b : Bounds) (th : ThreadState S) where
   seen_pinned next c s = record th { pinned = true; log = []; saved = []; marks = []; stage = behind_pin th next; counted = c; silents = s }
 
   behind_fits : (next : Next) (c s : ℕ) → StageFits (seen_pinned next c s) next (behind_pin th next)
-  behind_fits (Want (Wait r)) c s = (shut_after (nat_lt 0 th.section), refl, refl)
-  behind_fits (Want (Op.Notify r)) c s = (shut_after (nat_lt 0 th.section), omega arith, omega arith)
-  behind_fits (Want (Start r p)) c s = shut_after (nat_lt 0 th.section)
-  behind_fits (Want (Init r)) c s = (shut_after (nat_lt 0 th.section), refl, refl)
+  behind_fits (Want (Wait r)) c s = (and-false (nat_lt 0 th.section), refl, refl)
+  behind_fits (Want (Op.Notify r)) c s = (and-false (nat_lt 0 th.section), omega arith, omega arith)
+  behind_fits (Want (Start r p)) c s = and-false (nat_lt 0 th.section)
+  behind_fits (Want (Init r)) c s = (and-false (nat_lt 0 th.section), refl, refl)
   behind_fits next c s = tt
 
   -- while it is undone
@@ -218,7 +212,7 @@ module _ {S : Type 0} (code : Code S) (b : Bounds) (th : ThreadState S) where
   keeps_fit (not_owner needs other) is rest c s = record { stage = tt; saves = rest.saves; log = rest.log; held = rest.held }
   keeps_fit (exits_inner {m = m} own deep) is rest c s = goes_to _ _ c s is rest (refl, (_, refl))
   keeps_fit (exits_last {m = m} own last only) is rest c s =
-      goes_to _ _ c s is rest (first_of_both (nat_lt 0 th.section) _ own, refl, only, refl)
+      goes_to _ _ c s is rest ((and_parts (nat_lt 0 th.section) _ own).0, refl, only, refl)
   keeps_fit (exits_one own last more) is rest c s = goes_to _ _ c s is rest refl
   keeps_fit (left_once depth) is rest c s = record { stage = tt; saves = rest.saves; log = rest.log; held = rest.held }
   keeps_fit (section_committed above only) is rest c s = goes_to _ _ c s is rest refl

@@ -37,13 +37,13 @@ shut_there (class_settled shut) is tells = shut
 shut_there row is tells = absurd tells
 
 -- an answer that isn't lost
-abbrev usual : Effect → Answer
+abbrev pub usual : Effect → Answer
 usual Load = Found 0
 usual (Store v) = Answer.Done
 usual (Exchange old new) = Answer.Done
 usual (Add k) = Found 0
 
-usual_can : (effect : Effect) → CanAnswer effect (usual effect)
+pub usual_can : (effect : Effect) → CanAnswer effect (usual effect)
 usual_can Load = tt
 usual_can (Store v) = tt
 usual_can (Exchange old new) = tt

@@ -1,8 +1,7 @@
 -- Each next step of a thread, with each answer, is a row.
-use Rattle.std.proofs.Common.{◌≡◌, ℕ, ◌+◌, ◌<◌, ◌&&◌, ◌||◌, not, Bool, true, false, List, [], ◌∷◌, nat_eq, refl, sym, ap, subst, arith}
+use Rattle.std.proofs.Common.{◌≡◌, ℕ, ◌+◌, ◌<◌, ◌&&◌, ◌||◌, not, Bool, true, false, List, [], ◌∷◌, nat_eq, refl, sym, ap, subst}
 use Rattle.std.specs.Prelude.{nat_lt, nat_le, if◌then◌else◌}
-use Rattle.std.proofs.lemmas.Grind.{common_steps}
-use Rattle.std.proofs.lemmas.Bool.Decides.{nat_tests}
+use Rattle.std.proofs.lemmas.Bool.{and_parts, eq-eqb}
 use Rattle.op_core.specs.declared.Limit.TheVariants.{Turns}
 use Rattle.op_core.specs.declared.Op.{Op}
 use Rattle.op_core.specs.declared.Op.TheVariants.{ClassOf, Read, Write, New, Enter, Exit, Wait, Rewake, Print, Start, Join, Init, InitDone, End}
@@ -44,20 +43,9 @@ use Rattle.automaton_rows.specs.Laws.{CanAnswer, WordsAnswer, AnswersHaveRows}
 
 -- ---- tests
 
-by_if : {A : Type 0} (P : A → Type 0) (t : Bool) (x y : A) → (t ≡ true → P x) → (t ≡ false → P y) → P (if t then x else y)
+pub by_if : {A : Type 0} (P : A → Type 0) (t : Bool) (x y : A) → (t ≡ true → P x) → (t ≡ false → P y) → P (if t then x else y)
 by_if P true x y when other = when refl
 by_if P false x y when other = other refl
-
-same_number : (n : ℕ) → nat_eq n n ≡ true
-same_number n = grind (arith, common_steps, nat_tests)
-
-first_true : (a c : Bool) → (a && c) ≡ true → a ≡ true
-first_true true c both = refl
-first_true false c both = both
-
-second_true : (a c : Bool) → (a && c) ≡ true → c ≡ true
-second_true true c both = both
-second_true false c both = cc
 
 none_true : (a c d : Bool) → not (a || c || d) ≡ true → c ≡ false
 none_true true c d none = cc
@@ -128,7 +116,7 @@ module _ {S : Type 0} (code : Code S) (b : Bounds) (th : ThreadState S) where
 
   pin_rows : (next : Next) → Lasts code th next → is_open th ≡ true → Rows next (own_pin th)
   pin_rows next lasts unpinned =
-      (subst (λ t. Row code b th next (own_pin th) Answer.Done (if t then sees_pinned (behind_pin th next) else knows th.section)) (sym (same_number th.section)) (pins unpinned lasts), λ v. is_lost)
+      (subst (λ t. Row code b th next (own_pin th) Answer.Done (if t then sees_pinned (behind_pin th next) else knows th.section)) (sym (eq-eqb th.section th.section refl)) (pins unpinned lasts), λ v. is_lost)
 
   own_pin_rows : (next : Next) (s w : ℕ) → Lasts code th next → IsOwnPin th s w → Rows next (Pin s w)
   own_pin_rows next s w lasts fits =
@@ -421,7 +409,7 @@ module _ {S : Type 0} (code : Code S) (b : Bounds) (th : ThreadState S) where
   silent_rows towards step rows =
       by_if (λ m. m ≡ Make step → Rows Silent step) (is_open th && leaves_any code th.saved th.local) (Make towards) Quiet
       (λ both makes. subst (Rows Silent) (ap (made step) makes)
-      (rows (first_true (is_open th) (leaves_any code th.saved th.local) both) (second_true (is_open th) (leaves_any code th.saved th.local) both)))
+      (rows (and_parts (is_open th) (leaves_any code th.saved th.local) both).0 (and_parts (is_open th) (leaves_any code th.saved th.local) both).1))
       (λ stays makes. cc)
 
   begin_rows : (op : Op) (step : Step) → th.stage ≡ Begin

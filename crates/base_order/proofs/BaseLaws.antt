@@ -63,21 +63,21 @@ numbers_within a (suc n) x h = elim (contains_cases a (range_with_len (a + 1) n)
   | inr later ↦ (let more = numbers_within (a + 1) n x later in let low = more.0 in let high = more.1 in (omega arith, omega arith))
 ]
 
-within_numbers : (a n x : ℕ) → a ≤ x → x < a + n → Contains (range_with_len a n) x
+pub within_numbers : (a n x : ℕ) → a ≤ x → x < a + n → Contains (range_with_len a n) x
 within_numbers a zero x low high = absurd (omega arith)
 within_numbers a (suc n) x low high = elim (cases_lt a x) [
   | inl less ↦ contains_tail a (range_with_len (a + 1) n) x (within_numbers (a + 1) n x (omega arith) (omega arith))
   | inr same ↦ (let is : a ≡ x = omega arith in subst (Contains (range_with_len a (suc n))) is (contains_head a (range_with_len (a + 1) n)))
 ]
 
-map_contains : {X Y : Type 0} (f : X → Y) (xs : List X) (x : X) → Contains xs x → Contains (map f xs) (f x)
+pub map_contains : {X Y : Type 0} (f : X → Y) (xs : List X) (x : X) → Contains xs x → Contains (map f xs) (f x)
 map_contains f [] x h = absurd (contains_none x h)
 map_contains f (y ∷ xs) x h = elim (contains_cases y xs x h) [
   | inl same ↦ subst (λ z. Contains (f y ∷ map f xs) (f z)) same (contains_head (f y) (map f xs))
   | inr later ↦ contains_tail (f y) (map f xs) (f x) (map_contains f xs x later)
 ]
 
-contains_map : {X Y : Type 0} (f : X → Y) (xs : List X) (y : Y) → Contains (map f xs) y → (x : X) × Contains xs x × (f x ≡ y)
+pub contains_map : {X Y : Type 0} (f : X → Y) (xs : List X) (y : Y) → Contains (map f xs) y → (x : X) × Contains xs x × (f x ≡ y)
 contains_map f [] y h = absurd (contains_none y h)
 contains_map {X} f (x ∷ xs) y h = elim (contains_cases (f x) (map f xs) y h) [
   | inl same ↦ (x, contains_head x xs, same)

@@ -11,7 +11,8 @@ use Rattle.access_flags.specs.Flags.{has}
 use Rattle.class_read.proofs.FindLaws.{take_next}
 use Rattle.link_rules.specs.Classes.{NamedMember}
 use Rattle.link_rules.specs.Layout.{is_stored, field_words, own_words}
-use Rattle.class_supers.proofs.AboveLaws.{last_at, before_at}
+use Rattle.link_rules.proofs.Lists.{before_at}
+use Rattle.class_supers.proofs.AboveLaws.{last_at}
 use Rattle.class_layout.specs.declared.row.ClassRow.{ClassRow}
 use Rattle.class_layout.specs.Row.{IsJustPlaced, place_among, ArePlaced}
 

@@ -13,12 +13,14 @@ use Rattle.link_rules.specs.Layout.{static_words}
 use Rattle.link_rules.specs.FixedObjects.{class_object, class_object_size}
 use Rattle.link_rules.specs.Units.{AreUnits}
 use Rattle.link_rules.proofs.Objects.{range_more}
-use Rattle.class_supers.proofs.AboveLaws.{last_at, before_at}
+use Rattle.link_rules.proofs.Numbers.{past_all}
+use Rattle.link_rules.proofs.Lists.{before_at}
+use Rattle.class_supers.proofs.AboveLaws.{last_at}
 use Rattle.class_layout.specs.declared.row.ClassRow.{ClassRow}
 use Rattle.class_layout.specs.Rows.{AreRowsOf}
 use Rattle.class_layout.specs.declared.object_places.ObjectPlaces.{ObjectPlaces}
 use Rattle.class_layout.specs.Objects.{object_size, behind, ArePlacesOf}
-use Rattle.class_layout.proofs.RowLaws.{past_all, no_statics, statics_few}
+use Rattle.class_layout.proofs.RowLaws.{no_statics, statics_few}
 
 pub behind_more : (rows : List ClassRow) (i : ℕ) (r : ClassRow) → slice_get rows i ≡ Some r → behind rows (i + 1) ≡ behind rows i + (2 + r.static_words)
 behind_more rows i r at =

@@ -3,7 +3,7 @@ use Rattle.std.proofs.Common.{◌≡◌, ◌≢◌, ◌⊎◌, ℕ, zero, suc, �
 use Rattle.std.specs.List.{range_with_len, list_all}
 use Rattle.std.specs.Option.{option_map, option_map_or}
 use borrow.Author.Tests.{eqb-true}
-use Rattle.std.proofs.lemmas.Bool.{cases_lt, cases_eq, leb-true, le-leb, lt-leb}
+use Rattle.std.proofs.lemmas.Bool.{cases_lt, cases_eq, leb-true, le-leb, lt-leb, and_parts}
 use Rattle.std.proofs.lemmas.Option.{slice_get_past, slice_get_within, slice_get_cases, same_Some, none-some}
 use Rattle.builtin_world.specs.BuiltinClass.{ClassRow as LibraryRow, rows, row_numbered as library_row, shown_class}
 use Rattle.builtin_world.specs.Library.{library}
@@ -16,7 +16,7 @@ use Rattle.link_rules.specs.Classes.{NamedClass, NamedMember, classes_of, class_
 use Rattle.link_rules.specs.Layout.{is_built_in, built_in_words, added_words, own_words, instance_words, static_words, field_place}
 use Rattle.link_rules.specs.Supers.{superclasses_within, PutsSupersFirst}
 use Rattle.link_rules.specs.Units.{AreUnits}
-use Rattle.link_rules.proofs.Numbers.{in_library, is_file, class_count_is}
+use Rattle.link_rules.proofs.Numbers.{in_library, is_file, class_count_is, past_all}
 use Rattle.link_rules.proofs.Upward.{up_none}
 use Rattle.link_rules.proofs.Fields.{words_of_file, library_words_are, library_stays}
 use Rattle.link_rules.proofs.Objects.{fields_of_file}
@@ -26,10 +26,6 @@ use Rattle.class_layout.specs.Rows.{row_numbered, instance_in, place_numbered, e
 use Rattle.class_layout.proofs.FieldLaws.{own_few}
 
 -- ---- what is no class
-
-pub past_all : (cs : List NamedClass) (c : ℕ) → length cs < c → class_numbered cs c ≡ None
-past_all cs zero lt = refl
-past_all cs (suc i) lt = slice_get_past cs i (omega arith)
 
 no_fields : (cs : List NamedClass) (c : ℕ) → class_numbered cs c ≡ None → fields_of cs c ≡ []
 no_fields cs c none = ap (λ o. option_map_or (λ (k : NamedClass). k.fields) o []) none
@@ -85,14 +81,9 @@ library_words : map (λ c. option_map_or (λ (r : LibraryRow). r.words) (library
 unfolding rows library
 library_words = refl
 
-and_both : (x y : Bool) → (x && y) ≡ true → (x ≡ true) × (y ≡ true)
-and_both true true e = (refl, refl)
-and_both true false e = absurd cc
-and_both false y e = absurd cc
-
 words_of_library : (c : ℕ) → c ≤ 27 → (option_map_or (λ (r : LibraryRow). r.words) (library_row c) 0 ≡ built_in_words c) × (built_in_words c ≤ 3)
 words_of_library c low =
-    let both = and_both (option_map_or (λ (r : LibraryRow). r.words) (library_row c) 0 == built_in_words c) (nat_le (built_in_words c) 3)
+    let both = and_parts (option_map_or (λ (r : LibraryRow). r.words) (library_row c) 0 == built_in_words c) (nat_le (built_in_words c) 3)
     (in_library 0 28 (λ c. option_map_or (λ (r : LibraryRow). r.words) (library_row c) 0 == built_in_words c && nat_le (built_in_words c) 3) (λ _. true) library_words c (omega arith) (omega arith)) in
     (eqb-true (option_map_or (λ (r : LibraryRow). r.words) (library_row c) 0) (built_in_words c) both.0, leb-true (built_in_words c) 3 both.1)
 
@@ -103,13 +94,13 @@ library_fields us = refl
 first_place : (cs : List NamedClass) (c i : ℕ) (fs : List NamedMember) → fields_of cs c ≡ fs → length fs ≤ 1 → list_all (λ (f : NamedMember). has f.flags STATIC) fs ≡ true → option_map_or (field_place cs c i) (slice_get fs i) 0 ≡ 0
 first_place cs c i [] are few static = refl
 first_place cs c zero (f ∷ fs) are few static =
-    let kind : has f.flags STATIC ≡ true = (and_both (has f.flags STATIC) (list_all (λ (f : NamedMember). has f.flags STATIC) fs) static).0 in
+    let kind : has f.flags STATIC ≡ true = (and_parts (has f.flags STATIC) (list_all (λ (f : NamedMember). has f.flags STATIC) fs) static).0 in
     ap (λ b. cond b (own_words true (take 0 (fields_of cs c))) (instance_words cs (superclass_of cs c) + own_words false (take 0 (fields_of cs c)))) kind
 first_place cs c (suc i) (f ∷ fs) are few static = ap (λ o. option_map_or (field_place cs c (suc i)) o 0) (slice_get_past fs i (omega arith))
 
 library_places : (us : List ClassUnit) (c i : ℕ) → c ≤ 27 → place_numbered (classes_of us) c i ≡ 0
 library_places us c i low =
-    let both = and_both (nat_le (length (fields_of (classes_of us) c)) 1) (list_all (λ (f : NamedMember). has f.flags STATIC) (fields_of (classes_of us) c))
+    let both = and_parts (nat_le (length (fields_of (classes_of us) c)) 1) (list_all (λ (f : NamedMember). has f.flags STATIC) (fields_of (classes_of us) c))
     (in_library 0 28 (λ c. nat_le (length (fields_of (classes_of us) c)) 1 && list_all (λ (f : NamedMember). has f.flags STATIC) (fields_of (classes_of us) c)) (λ _. true) (library_fields us) c (omega arith) (omega arith)) in
     first_place (classes_of us) c i (fields_of (classes_of us) c) refl (leb-true (length (fields_of (classes_of us) c)) 1 both.0) both.1
 

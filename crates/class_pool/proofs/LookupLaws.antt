@@ -1,12 +1,10 @@
 -- What is found at an index stands there, and what stands there is found.
 use Rattle.std.proofs.Common.{◌≡◌, ◌↔◌, ℕ, List, Option, Some, None, slice_get, refl, subst}
+use Rattle.std.proofs.lemmas.Option.{same_Some}
 use Rattle.class_walk.specs.declared.class.Constant.{Constant}
 use Rattle.class_walk.specs.declared.class.Constant.TheVariants as constants
 use Rattle.class_pool.specs.Pool.{IsUtf8At, IsClassAt, IsPairAt}
 use Rattle.class_pool.specs.Lookup.{utf8_of, class_name_of, both_texts, name_and_type_of}
-
-some_is : {A : Type 0} (x y : A) → Some x ≡ Some y → x ≡ y
-some_is x y e = cc
 
 pub text_is : (c : Option Constant) (text : List ℕ) → utf8_of c ≡ Some text → c ≡ Some (constants.Utf8 text)
 text_is (Some (constants.Utf8 t)) text e = cc
@@ -15,7 +13,7 @@ text_is _ text e = absurd cc
 both_are : (a b : Option (List ℕ)) (x : List ℕ × List ℕ) → both_texts a b ≡ Some x → (a ≡ Some x.0) × (b ≡ Some x.1)
 both_are None b x e = absurd cc
 both_are (Some a) None x e = absurd cc
-both_are (Some a) (Some b) x e = subst (λ (y : List ℕ × List ℕ). (Some a ≡ Some y.0) × (Some b ≡ Some y.1)) (some_is (a, b) x e) (refl, refl)
+both_are (Some a) (Some b) x e = subst (λ (y : List ℕ × List ℕ). (Some a ≡ Some y.0) × (Some b ≡ Some y.1)) (same_Some (a, b) x e) (refl, refl)
 
 class_in_is : (pool : List Constant) (c : Option Constant) (name : List ℕ) → class_name_of pool c ≡ Some name → (n : ℕ) × (c ≡ Some (constants.Class n)) × (slice_get pool n ≡ Some (constants.Utf8 name))
 class_in_is pool (Some (constants.Class n)) name e = (n, refl, text_is (slice_get pool n) name e)

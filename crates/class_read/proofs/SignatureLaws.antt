@@ -23,7 +23,7 @@ passes_there {X} test k (x ∷ xs) n e =
     ] refl e
 
 -- an item that passes has a place
-has_place : {X : Type 0} (test : X → Bool) (k : ℕ) (xs : List X) (i : ℕ) (x : X) → slice_get xs i ≡ Some x → test x ≡ true → (n : ℕ) × (position_from test k xs ≡ Some n)
+pub has_place : {X : Type 0} (test : X → Bool) (k : ℕ) (xs : List X) (i : ℕ) (x : X) → slice_get xs i ≡ Some x → test x ≡ true → (n : ℕ) × (position_from test k xs ≡ Some n)
 has_place test k [] i x at t = absurd cc
 has_place {X} test k (y ∷ ys) zero x at t =
     let same : y ≡ x = same_Some y x at in

@@ -6,9 +6,8 @@ use borrow.Author.Tests.{eq-eqb}
 use Rattle.search_orders.specs.Orders.{has_number}
 use Rattle.link_rules.specs.Classes.{NamedClass, class_number, class_numbered, superclass_of, interfaces_of}
 use Rattle.link_rules.specs.Supers.{superclasses, superclasses_within, superinterfaces, superinterfaces_within, method_order}
-use Rattle.link_rules.proofs.Numbers.{superclass_within, class_number_within}
+use Rattle.link_rules.proofs.Numbers.{superclass_within, class_number_within, past_all, past_super}
 use Rattle.link_rules.proofs.Upward.{up_none}
-use Rattle.class_relations.proofs.RelationLaws.{past_all, no_superclass}
 
 -- each number of a list is a bound at most
 abbrev pub Within : ℕ → List ℕ → Type 0
@@ -68,7 +67,7 @@ order_within_all cs c le =
 
 -- a class that isn't there
 pub alone : (cs : List NamedClass) (c : ℕ) → 0 < length cs → length cs < c → superclasses cs c ≡ c ∷ []
-alone cs c some lt = go (length cs) c some (omega (arith, lt)) (no_superclass cs c lt)
+alone cs c some lt = go (length cs) c some (omega (arith, lt)) (past_super cs c lt)
   where
     go : (n c : ℕ) → 0 < n → 0 < c → superclass_of cs c ≡ 0 → superclasses_within cs n c ≡ c ∷ []
     go zero c lt some e = absurd (omega (arith, lt))

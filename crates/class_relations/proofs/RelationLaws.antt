@@ -1,18 +1,12 @@
 -- What is asked of a class that isn't there, and lists by number.
-use Rattle.std.proofs.Common.{◌≡◌, ◌<◌, ◌≤◌, ℕ, zero, suc, false, List, length, get_or, slice_get, None, Some, inl, inr, sym, ◌∙◌, ap, arith}
+use Rattle.std.proofs.Common.{◌≡◌, ◌<◌, ◌≤◌, ℕ, false, List, length, get_or, slice_get, Some, inl, inr, sym, ◌∙◌, ap}
 use Rattle.std.specs.Option.{option_map_or}
 use Rattle.std.proofs.lemmas.Bool.{cases_lt}
-use Rattle.std.proofs.lemmas.Option.{slice_get_past, get_or_from_slice_get}
+use Rattle.std.proofs.lemmas.Option.{get_or_from_slice_get}
 use Rattle.std.proofs.lemmas.List.{get_or_past}
 use Rattle.access_flags.specs.Flags.{has}
-use Rattle.link_rules.specs.Classes.{NamedClass, class_number, class_numbered, class_has, superclass_of}
-
-pub past_all : (cs : List NamedClass) (c : ℕ) → length cs < c → class_numbered cs c ≡ None
-past_all cs zero lt = absurd (omega (arith, lt))
-past_all cs (suc i) lt = slice_get_past cs i (omega (arith, lt))
-
-pub no_superclass : (cs : List NamedClass) (c : ℕ) → length cs < c → superclass_of cs c ≡ 0
-no_superclass cs c lt = ap (λ o. option_map_or (λ (k : NamedClass). option_map_or (class_number cs) k.super 0) o 0) (past_all cs c lt)
+use Rattle.link_rules.specs.Classes.{NamedClass, class_has}
+use Rattle.link_rules.proofs.Numbers.{past_all}
 
 pub no_flag : (cs : List NamedClass) (flag c : ℕ) → length cs < c → class_has cs c flag ≡ false
 no_flag cs flag c lt = ap (λ o. option_map_or (λ (k : NamedClass). has k.flags flag) o false) (past_all cs c lt)

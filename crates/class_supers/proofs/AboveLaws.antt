@@ -5,6 +5,7 @@ use borrow.Author.Tests.{ne_eqb, eq-eqb}
 use Rattle.std.proofs.lemmas.Bool.{cases_lt, cases_eq}
 use Rattle.std.proofs.lemmas.List.{length-take-le}
 use Rattle.std.proofs.lemmas.Option.{slice_get_past, slice_get_within}
+use Rattle.link_rules.proofs.Lists.{before_at}
 use Rattle.class_read.proofs.FindLaws.{take_next}
 use Rattle.class_supers.specs.Above.{names, names_at}
 use Rattle.class_supers.specs.declared.headers.ClassHeader.{ClassHeader}
@@ -14,11 +15,6 @@ last_at [] x zero e = refl
 last_at [] x (suc j) e = absurd (omega arith)
 last_at (y ∷ ys) x zero e = absurd (omega arith)
 last_at (y ∷ ys) x (suc j) e = last_at ys x j (omega arith)
-
-pub before_at : {X : Type 0} (xs ys : List X) (j : ℕ) → j < length xs → slice_get (xs ++ ys) j ≡ slice_get xs j
-before_at [] ys j lt = absurd (omega arith)
-before_at (x ∷ xs) ys zero lt = refl
-before_at (x ∷ xs) ys (suc j) lt = before_at xs ys j (omega arith)
 
 abbrev named_of : ℕ → Option ClassHeader → Bool
 named_of d o = option_map_or (λ h. names h d) o false

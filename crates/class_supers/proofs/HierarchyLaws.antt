@@ -1,5 +1,5 @@
 -- What the tables of the classes of a program say.
-use Rattle.std.proofs.Common.{◌≡◌, ◌≢◌, ◌↔◌, ◌⊎◌, ℕ, zero, suc, ◌+◌, ◌<◌, ◌≤◌, ◌==◌, ◌&&◌, ◌||◌, Bool, true, false, not, List, [], ◌∷◌, length, map, slice_get, slice_index_or, Option, None, Some, Contains, inl, inr, refl, sym, ◌∙◌, ap, subst, arith}
+use Rattle.std.proofs.Common.{◌≡◌, ◌≢◌, ◌↔◌, ◌⊎◌, ℕ, zero, suc, ◌+◌, ◌<◌, ◌≤◌, ◌==◌, ◌||◌, Bool, true, false, not, List, [], ◌∷◌, length, map, slice_get, slice_index_or, Option, None, Some, Contains, inl, inr, refl, sym, ◌∙◌, ap, subst, arith}
 use Rattle.std.specs.Option.{option_map, option_map_or}
 use borrow.Author.Tests.{eqb-true, eqb-false, not-true, eq-eqb, ne_eqb}
 use Rattle.std.proofs.lemmas.List.{length-map}
@@ -9,6 +9,7 @@ use Rattle.link_rules.proofs.Lists.{contains_head, contains_tail, contains_cases
 use Rattle.link_rules.proofs.Numbers.{class_number_within}
 use Rattle.std.specs.List.{list_any}
 use Rattle.std.proofs.lemmas.Option.{slice_get-map, same_Some}
+use Rattle.std.proofs.lemmas.Bool.{and_parts, or_cases}
 use Rattle.link_rules.specs.Classes.{NamedClass, class_number, class_numbered}
 use Rattle.link_rules.specs.Supers.{HasSuper, IsWayUp, IsAbove}
 use Rattle.class_supers.specs.Headers.{header_by}
@@ -42,18 +43,9 @@ headers_are_within cs hs are i h at =
 
 -- ---- what is named
 
-and_both : (x y : Bool) → (x && y) ≡ true → (x ≡ true) × (y ≡ true)
-and_both true true e = (refl, refl)
-and_both true false e = absurd cc
-and_both false y e = absurd cc
-
-or_one : (x y : Bool) → (x || y) ≡ true → (x ≡ true) ⊎ (y ≡ true)
-or_one true y e = inl refl
-or_one false y e = inr e
-
 is_named_true : (n d : ℕ) → is_named n d ≡ true → (d ≢ 0) × (n ≡ d)
 is_named_true n d e =
-    let both = and_both (d == n) (not (n == 0)) e in
+    let both = and_parts (d == n) (not (n == 0)) e in
     let same : d ≡ n = eqb-true d n both.0 in
     let some : n ≡ 0 → ⊥ = eqb-false n 0 (not-true (n == 0) both.1) in
     (λ z. some (sym same ∙ z), sym same)
@@ -66,7 +58,7 @@ true_is_named n d some same =
 
 any_named : (xs : List ℕ) (d : ℕ) → list_any (λ n. is_named n d) xs ≡ true → (d ≢ 0) × Contains xs d
 any_named [] d e = absurd cc
-any_named (x ∷ xs) d e = elim (or_one (is_named x d) (list_any (λ n. is_named n d) xs) e) [
+any_named (x ∷ xs) d e = elim (or_cases (is_named x d) (list_any (λ n. is_named n d) xs) e) [
   | inl here ↦ let h = is_named_true x d here in (h.0, subst (λ y. Contains (y ∷ xs) d) (sym h.1) (contains_head d xs))
   | inr there ↦ let h = any_named xs d there in (h.0, contains_tail x xs d h.1)
 ]
@@ -88,7 +80,7 @@ names_by f None d = (
   λ h. elim h.1 [ inl zero_is ↦ absurd (h.0 (sym zero_is)) | inr there ↦ absurd (contains_none d there) ],
 )
 names_by f (Some k) d = (
-  λ e. elim (or_one (is_named (option_map_or f k.super 0) d) (list_any (λ n. is_named n d) (map f k.interfaces)) e) [
+  λ e. elim (or_cases (is_named (option_map_or f k.super 0) d) (list_any (λ n. is_named n d) (map f k.interfaces)) e) [
     | inl super ↦ let h = is_named_true (option_map_or f k.super 0) d super in (h.0, inl h.1)
     | inr interface ↦ let h = any_named (map f k.interfaces) d interface in (h.0, inr h.1)
   ],

@@ -1,17 +1,16 @@
 -- Where the rules hold, no class is above itself, and an order by what is above puts supers first.
-use Rattle.std.proofs.Common.{◌≡◌, ◌↔◌, ℕ, zero, suc, ◌<◌, ◌≤◌, ◌&&◌, Bool, true, false, nat_lt, List, [], ◌∷◌, ◌++◌, length, map, None, Contains, inl, inr, refl, sym, ◌∙◌, ap, subst, arith}
+use Rattle.std.proofs.Common.{◌≡◌, ◌↔◌, ℕ, zero, suc, ◌<◌, ◌≤◌, ◌&&◌, Bool, true, nat_lt, List, [], ◌∷◌, ◌++◌, length, map, None, Contains, inl, inr, refl, sym, ◌∙◌, ap, subst, arith}
 use Rattle.std.specs.List.{range_with_len, list_all}
 use Rattle.std.specs.Option.{option_map_or}
 use borrow.Author.Tests.{ltb-true}
-use Rattle.std.proofs.lemmas.Bool.{cases_lt, cases_Bool}
-use Rattle.std.proofs.lemmas.Option.{slice_get_past}
+use Rattle.std.proofs.lemmas.Bool.{cases_lt, cases_Bool, and_parts}
 use Rattle.builtin_world.specs.Library.{library}
 use Rattle.code_decode.specs.declared.code.ClassUnit.{ClassUnit}
 use Rattle.link_rules.specs.Classes.{NamedClass, classes_of, class_number, class_numbered, superclass_of, interfaces_of}
 use Rattle.link_rules.specs.Supers.{HasSuper, IsWayUp, IsAbove, PutsSupersFirst}
 use Rattle.link_rules.specs.LinkRules.{hierarchy_rules}
 use Rattle.link_rules.proofs.Lists.{contains_cases, contains_none}
-use Rattle.link_rules.proofs.Numbers.{in_library, is_file}
+use Rattle.link_rules.proofs.Numbers.{in_library, is_file, past_all}
 use Rattle.transitive_closure.specs.Relation.{relates, Relates, IsStrictOrder, PutsRelatedFirst}
 
 -- ---- a class that isn't there names nothing
@@ -29,10 +28,6 @@ nothing_above : (cs : List NamedClass) (c : ℕ) (way : List ℕ) (d : ℕ) → 
 nothing_above cs c [] d none h = names_nothing cs c d none h
 nothing_above cs c (e ∷ way) d none h = names_nothing cs c e none h.0
 
-past_all : (cs : List NamedClass) (c : ℕ) → length cs < c → class_numbered cs c ≡ None
-past_all cs zero lt = refl
-past_all cs (suc i) lt = slice_get_past cs i (omega arith)
-
 -- ---- what a built-in class names has a lower number
 
 abbrev names_lower : List NamedClass → ℕ → Bool
@@ -42,15 +37,10 @@ library_names_lower : (us : List ClassUnit) → map (names_lower (classes_of us)
 unfolding library
 library_names_lower us = refl
 
-and_both : (x y : Bool) → (x && y) ≡ true → (x ≡ true) × (y ≡ true)
-and_both true true e = (refl, refl)
-and_both true false e = absurd cc
-and_both false y e = absurd cc
-
 all_lower : (xs : List ℕ) (c d : ℕ) → list_all (λ x. nat_lt x c) xs ≡ true → Contains xs d → d < c
 all_lower [] c d e h = absurd (contains_none d h)
 all_lower (x ∷ xs) c d e h =
-    let both = and_both (nat_lt x c) (list_all (λ x. nat_lt x c) xs) e in
+    let both = and_parts (nat_lt x c) (list_all (λ x. nat_lt x c) xs) e in
     elim (contains_cases x xs d h) [
       | inl here ↦ subst (λ y. y < c) here (ltb-true x c both.0)
       | inr there ↦ all_lower xs c d both.1 there
@@ -60,7 +50,7 @@ built_in_lower : (us : List ClassUnit) (c d : ℕ) → c ≤ 27 → HasSuper (cl
 built_in_lower us zero d le h = absurd (names_nothing (classes_of us) 0 d refl h)
 built_in_lower us (suc i) d le h =
     let lower : names_lower (classes_of us) (suc i) ≡ true = in_library 1 27 (names_lower (classes_of us)) (λ _. true) (library_names_lower us) (suc i) (omega arith) (omega arith) in
-    let both = and_both (nat_lt (superclass_of (classes_of us) (suc i)) (suc i)) (list_all (λ d. nat_lt d (suc i)) (interfaces_of (classes_of us) (suc i))) lower in
+    let both = and_parts (nat_lt (superclass_of (classes_of us) (suc i)) (suc i)) (list_all (λ d. nat_lt d (suc i)) (interfaces_of (classes_of us) (suc i))) lower in
     elim h.1 [
       | inl super ↦ subst (λ y. y < suc i) super (ltb-true (superclass_of (classes_of us) (suc i)) (suc i) both.0)
       | inr interface ↦ all_lower (interfaces_of (classes_of us) (suc i)) (suc i) d both.1 interface

@@ -1,9 +1,10 @@
 -- What a class file says of its methods.
-use Rattle.std.proofs.Common.{◌≡◌, ◌+◌, ◌<◌, ◌^◌, ℕ, zero, suc, Bool, true, false, cond, List, [], ◌∷◌, ◌++◌, length, sym, ap, subst, ◌∙◌, refl, arith, add-one, Ok}
-use Rattle.std.specs.Prelude.{Some, None, Option, slice_get, option_map, codes, find}
+use Rattle.std.proofs.Common.{◌≡◌, ◌+◌, ◌<◌, ◌^◌, ℕ, zero, suc, Bool, true, false, cond, List, [], ◌∷◌, ◌++◌, length, sym, ap, subst, ◌∙◌, arith, add-one, Ok}
+use Rattle.std.specs.Prelude.{Some, slice_get, codes, find}
 use Rattle.std.specs.List.{flat_map}
 use Rattle.std.proofs.lemmas.List.{length-map}
 use Rattle.std.proofs.lemmas.Option.{same_Some, slice_get-map, option_and_then_some}
+use Rattle.class_names.proofs.Cases.{mapped}
 use Rattle.class_walk.specs.declared.class.Constant.{Constant}
 use Rattle.class_walk.specs.declared.class.RawAttribute.{RawAttribute}
 use Rattle.class_walk.specs.declared.class.RawClass.{RawClass}
@@ -23,14 +24,9 @@ use Rattle.class_read.specs.MemberRules.{method_of}
 use Rattle.code_decode.specs.Entry.{HasMethodType}
 use Rattle.code_decode.specs.Method.{StandsForFile, IsMethodWith}
 
--- what holds of what a map gives for an item is known of an item
-some_mapped : {X Y : Type 0} (f : X → Y) (o : Option X) (y : Y) → option_map f o ≡ Some y → (x : X) × (o ≡ Some x) × (f x ≡ y)
-some_mapped f None y e = absurd cc
-some_mapped f (Some x) y e = (x, refl, same_Some (f x) y e)
-
 -- the method of the layout that is kept so
 raw_method : (c : RawClass) (n : ℕ) (m : Member) → slice_get (class_of c).methods n ≡ Some m → (r : RawMember) × (slice_get c.methods n ≡ Some r) × (method_of c.pool r ≡ m)
-raw_method c n m at = some_mapped (method_of c.pool) (slice_get c.methods n) m (sym (slice_get-map (method_of c.pool) c.methods n) ∙ at)
+raw_method c n m at = mapped (method_of c.pool) (slice_get c.methods n) m (sym (slice_get-map (method_of c.pool) c.methods n) ∙ at)
 
 -- each method has the descriptor of one
 pub method_type : (file : ClassFile) (n : ℕ) (m : Member) → StandsForFile file → slice_get file.methods n ≡ Some m → HasMethodType file.pool m
@@ -78,7 +74,7 @@ kept_handlers pool raw a e = ap (λ (k : CodeAttribute). k.handlers) e
 
 handlers_in : (pool : List Constant) (x : RawAttribute) (a : CodeAttribute) → IsBytes x.content → code_in pool x ≡ Some a → length a.handlers < 2 ^ 16
 handlers_in pool x a h e =
-    let raw = some_mapped (code_attribute pool) (code_of x.content) a e in
+    let raw = mapped (code_attribute pool) (code_of x.content) a e in
     let is : IsCodeContent x.content raw.0 = code_found x.content (Ok raw.0) h raw.1 in
     let same : raw.0.handlers ≡ a.handlers = kept_handlers pool raw.0 a raw.2 in
     subst (λ (hs : List RawHandler). length hs < 2 ^ 16) same is.holds.handlers.0

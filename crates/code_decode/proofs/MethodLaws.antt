@@ -3,7 +3,6 @@ use Rattle.std.proofs.Common.{◌≡◌, ℕ, ◌+◌, List, length, refl, sym, 
 use Rattle.std.specs.Prelude.{◌⊎◌, Some, None, Result, Ok, Err, IfOk, IfErr}
 use Rattle.std.proofs.lemmas.Option.{same_Some}
 use Rattle.class_walk.specs.declared.class.Constant.{Constant}
-use Rattle.class_walk.specs.declared.class.Constant.TheVariants.{Utf8}
 use Rattle.class_names.specs.Descriptor.{IsMethodDescriptor, size_of}
 use Rattle.class_names.specs.declared.kind.ParameterSize.{ParameterSize}
 use Rattle.class_names.proofs.DescriptorLaws.{one_method}
@@ -11,7 +10,7 @@ use Rattle.class_read.specs.declared.class_file.ClassFile.{ClassFile}
 use Rattle.class_read.specs.declared.class_file.CodeAttribute.{CodeAttribute}
 use Rattle.class_read.specs.declared.class_file.Member.{Member}
 use Rattle.class_read.specs.MemberRules.{receiver_words}
-use Rattle.class_pool.specs.Pool.{IsUtf8At}
+use Rattle.class_read.proofs.TextLaws.{same_bytes}
 use Rattle.class_pool.specs.TextUses.{IsUseOf, IsUseAt}
 use Rattle.class_pool.specs.declared.text_uses.TextUse.{TextUse}
 use Rattle.code_decode.specs.declared.code.Code.{Code}
@@ -22,16 +21,11 @@ use Rattle.code_decode.specs.Entry.{HasMethodType, IsEntryCount}
 use Rattle.code_decode.specs.Code.{IsCode, CodeRefuses}
 use Rattle.code_decode.specs.Method.{IsMethodWith, IsMethodCode, MethodRefuses, IsCodeOf, CodeOfRefuses}
 
-same_text : (pool : List Constant) (i : ℕ) (x y : List ℕ) → IsUtf8At pool i x → IsUtf8At pool i y → x ≡ y
-same_text pool i x y a b =
-    let same : Utf8 x ≡ Utf8 y = same_Some (Utf8 x) (Utf8 y) (sym a ∙ b) in
-    cc
-
 -- a method begins with one number of values
 one_count : (pool : List Constant) (m : Member) (x y : ℕ) → IsEntryCount pool m x → IsEntryCount pool m y → x ≡ y
 one_count pool m x y (text, parameters, returned, at, is, count) (other, others, last, there, as_well, size) =
     let P : List ℕ → Type 0 = λ t. IsMethodDescriptor t others last in
-    let same : parameters ≡ others = (one_method text parameters others returned last is (subst P (same_text pool m.descriptor other text there at) as_well)).0 in
+    let same : parameters ≡ others = (one_method text parameters others returned last is (subst P (same_bytes pool m.descriptor other text there at) as_well)).0 in
     count ∙ ap (λ ps. receiver_words m.flags + length ps) same ∙ sym size
 
 -- the descriptor of a method has parameters of one size
@@ -43,7 +37,7 @@ with_size pool m u size at e =
 pub without_size : (pool : List Constant) (m : Member) (u : TextUse) → HasMethodType pool m → IsUseAt pool m.descriptor u → u.parameters ≡ None → ⊥
 without_size pool m u has at e =
     let P : List ℕ → Type 0 = λ t. IsUseOf t u in
-    let is = subst P (same_text pool m.descriptor at.0 has.0 at.1 has.1) at.2 in
+    let is = subst P (same_bytes pool m.descriptor at.0 has.0 at.1 has.1) at.2 in
     let some = is.only (size_of has.2.0) (has.2.0, has.2.1, has.2.2, refl) in
     absurd cc
 

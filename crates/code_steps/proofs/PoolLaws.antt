@@ -1,8 +1,9 @@
 -- What is looked up in the pool is what stands there.
 use Rattle.std.proofs.Common.{◌≡◌, ◌≢◌, ℕ, Bool, true, false, cond, List, Option, Some, None, Result, Ok, Err, refl, sym, ap, ◌∙◌, ◌+◌, arith, inl, inr}
-use Rattle.std.specs.Prelude.{ℤ, ◌↔◌, slice_get, not, ◌&&◌, ◌==◌, codes, bytes_eq, IsTrue, ◌⊎◌}
-use Rattle.std.proofs.lemmas.Bool.{not-true, not_from_false, false_from_ne_true, eqb-true, eq-eqb}
+use Rattle.std.specs.Prelude.{ℤ, ◌↔◌, slice_get, not, ◌==◌, codes, bytes_eq, IsTrue, ◌⊎◌}
+use Rattle.std.proofs.lemmas.Bool.{not-true, not_from_false, false_from_ne_true, eqb-true, eq-eqb, and_parts}
 use Rattle.std.proofs.lemmas.Slice.Eq.{bytes_eq-Decides}
+use Rattle.std.proofs.lemmas.Option.{same_Some}
 use Rattle.class_walk.specs.declared.class.Constant.{Constant}
 use Rattle.class_walk.specs.declared.class.Constant.TheVariants as constants
 use Rattle.class_names.specs.declared.kind.ParameterSize.{ParameterSize}
@@ -26,9 +27,6 @@ use Rattle.code_steps.specs.Reading.{loaded_class, constant_in, constant_of, lon
 use Rattle.class_walk.proofs.Fields.{ok_is, guard_ok}
 use Rattle.code_steps.proofs.Fields.{passes_ok}
 
-some_is : {A : Type 0} (x y : A) → Some x ≡ Some y → x ≡ y
-some_is x y e = cc
-
 -- ---- names that are called
 
 other_name : (name text : List ℕ) → not (bytes_eq name text) ≡ true → name ≢ text
@@ -40,14 +38,10 @@ other_name name text e same =
 other_again : (name text : List ℕ) → name ≢ text → not (bytes_eq name text) ≡ true
 other_again name text differs = not_from_false (bytes_eq name text) (false_from_ne_true (bytes_eq name text) (λ e. differs ((bytes_eq-Decides name text).0 e)))
 
-both_hold : (a b : Bool) → (a && b) ≡ true → (a ≡ true) × (b ≡ true)
-both_hold true b e = (refl, e)
-both_hold false b e = absurd cc
-
 callable : (call : CallKind) (name : List ℕ) → may_call call name ≡ true → MayCall call name
 callable calls.Special name e = other_name name (codes "<clinit>") e
-callable calls.Virtual name e = let h = both_hold _ _ e in (other_name name (codes "<clinit>") h.0, other_name name (codes "<init>") h.1)
-callable calls.Static name e = let h = both_hold _ _ e in (other_name name (codes "<clinit>") h.0, other_name name (codes "<init>") h.1)
+callable calls.Virtual name e = let h = and_parts _ _ e in (other_name name (codes "<clinit>") h.0, other_name name (codes "<init>") h.1)
+callable calls.Static name e = let h = and_parts _ _ e in (other_name name (codes "<clinit>") h.0, other_name name (codes "<init>") h.1)
 
 callable_again : (call : CallKind) (name : List ℕ) → MayCall call name → may_call call name ≡ true
 callable_again calls.Special name may = other_again name (codes "<clinit>") may
@@ -234,7 +228,7 @@ interface_found pool index class pair count last (Some x) is t m = record {
 }
 
 pair_in_is : (c : Option Constant) (pair : ℕ) → interface_pair_in c ≡ Some pair → (class : ℕ) × (c ≡ Some (constants.IfaceMethod class pair))
-pair_in_is (Some (constants.IfaceMethod class p)) pair e = (class, ap (λ (n : ℕ). Some (constants.IfaceMethod class n)) (some_is p pair e))
+pair_in_is (Some (constants.IfaceMethod class p)) pair e = (class, ap (λ (n : ℕ). Some (constants.IfaceMethod class n)) (same_Some p pair e))
 pair_in_is _ pair e = absurd cc
 
 pair_again : (pool : List Constant) (index count last : ℕ) (o : Option ℕ) → o ≡ interface_pair_in (slice_get pool index) → (m : IsInterfaceCall pool index count last) → o ≡ Some m.pair
@@ -243,7 +237,7 @@ pair_again pool index count last o is m = is ∙ ap interface_pair_in m.entry
 interface_again : (pool : List Constant) (index pair count last : ℕ) → Some pair ≡ interface_pair_in (slice_get pool index) → IsInterfaceCall pool index count last
     → IsInterfaceMember (name_and_type_of pool (slice_get pool pair)) count last
 interface_again pool index pair count last is m =
-    let same : pair ≡ m.pair = some_is pair m.pair (pair_again pool index count last (Some pair) is m) in
+    let same : pair ≡ m.pair = same_Some pair m.pair (pair_again pool index count last (Some pair) is m) in
     let found : name_and_type_of pool (slice_get pool pair) ≡ Some (m.name, m.descriptor) = ap (λ (p : ℕ). name_and_type_of pool (slice_get pool p)) same ∙ name_and_type_again pool m.pair m.name m.descriptor m.named in
     rw found (callable_again calls.Virtual m.name m.callable, m.words, m.zero)
 

@@ -2,6 +2,8 @@
 use Rattle.std.proofs.Common.{◌≡◌, ◌==◌, ℕ, List, [], ◌∷◌, ◌++◌, map, Option, Some, None, Result, Ok, Err, refl, sym, ap, subst, ◌∙◌}
 use Rattle.std.specs.Prelude.{ℤ, pos, negsuc, option_map, option_and_then, IsSome}
 use Rattle.std.specs.List.{AllByRecursion, position_from}
+use Rattle.std.proofs.lemmas.Option.{same_Some}
+use Rattle.class_names.proofs.Cases.{mapped, went_on}
 use Rattle.instructions.specs.declared.what.Case.{Case}
 use Rattle.instructions.specs.declared.what.Instr.{Instr}
 use Rattle.instructions.specs.declared.what.Target.{Target}
@@ -15,17 +17,6 @@ use Rattle.class_walk.specs.Reading.{◌>>=◌}
 use Rattle.code_steps.specs.Targets.{target_of, all_of, case_of, what_of, placed, step_of, steps_of}
 use Rattle.class_walk.proofs.Fields.{bind_ok, ok_is}
 use Rattle.code_steps.proofs.Fields.{err_is}
-
-some_is : {A : Type 0} (x y : A) → Some x ≡ Some y → x ≡ y
-some_is x y e = cc
-
-map_some : {A B : Type 0} (g : A → B) (o : Option A) (y : B) → option_map g o ≡ Some y → (x : A) × (o ≡ Some x) × (g x ≡ y)
-map_some g None y e = absurd cc
-map_some g (Some x) y e = (x, refl, some_is (g x) y e)
-
-then_some : {A B : Type 0} (g : A → Option B) (o : Option A) (y : B) → option_and_then g o ≡ Some y → (x : A) × (o ≡ Some x) × (g x ≡ Some y)
-then_some g None y e = absurd cc
-then_some g (Some x) y e = (x, refl, e)
 
 map_none : {A B : Type 0} (g : A → B) (o : Option A) → option_map g o ≡ None → o ≡ None
 map_none g None e = refl
@@ -44,10 +35,10 @@ module _ {A B : Type 0} (f : A → Option B) (back : B → A) (P : B → Type 0)
 
   all_is : (xs : List A) (ys : List B) → all_of f xs ≡ Some ys → (map back ys ≡ xs) × AllByRecursion P ys × AllByRecursion Q xs
   unfolding all_of
-  all_is [] ys e = subst (λ (ys : List B). (map back ys ≡ []) × AllByRecursion P ys × AllByRecursion Q []) (some_is [] ys e) (refl, tt, tt)
+  all_is [] ys e = subst (λ (ys : List B). (map back ys ≡ []) × AllByRecursion P ys × AllByRecursion Q []) (same_Some [] ys e) (refl, tt, tt)
   all_is (x ∷ xs) ys e =
-      let a = then_some _ (f x) ys e in
-      let b = map_some _ (all_of f xs) ys a.2 in
+      let a = went_on _ (f x) ys e in
+      let b = mapped _ (all_of f xs) ys a.2 in
       let h = gives x a.0 a.1 in
       let t = all_is xs b.0 b.1 in
       subst (λ (ys : List B). (map back ys ≡ x ∷ xs) × AllByRecursion P ys × AllByRecursion Q (x ∷ xs)) b.2
@@ -55,7 +46,7 @@ module _ {A B : Type 0} (f : A → Option B) (back : B → A) (P : B → Type 0)
 
   case_gives : (c : Case A) (d : Case B) → case_of f c ≡ Some d → (with_target back d ≡ c) × P d.target × Q c.target
   case_gives c d e =
-      let a = map_some _ (f c.target) d e in
+      let a = mapped _ (f c.target) d e in
       let h = gives c.target a.0 a.1 in
       subst (λ (d : Case B). (with_target back d ≡ c) × P d.target × Q c.target) a.2
       (ap (λ (z : A). record { key = c.key; target = z }) h.0, h.1, h.2)
@@ -63,10 +54,10 @@ module _ {A B : Type 0} (f : A → Option B) (back : B → A) (P : B → Type 0)
   cases_are : (cs : List (Case A)) (ds : List (Case B)) → all_of (case_of f) cs ≡ Some ds
       → (map (with_target back) ds ≡ cs) × AllByRecursion P (map (λ d. d.target) ds) × AllByRecursion Q (map (λ c. c.target) cs)
   unfolding all_of
-  cases_are [] ds e = subst (λ (ds : List (Case B)). (map (with_target back) ds ≡ []) × AllByRecursion P (map (λ d. d.target) ds) × AllByRecursion Q []) (some_is [] ds e) (refl, tt, tt)
+  cases_are [] ds e = subst (λ (ds : List (Case B)). (map (with_target back) ds ≡ []) × AllByRecursion P (map (λ d. d.target) ds) × AllByRecursion Q []) (same_Some [] ds e) (refl, tt, tt)
   cases_are (c ∷ cs) ds e =
-      let a = then_some _ (case_of f c) ds e in
-      let b = map_some _ (all_of (case_of f) cs) ds a.2 in
+      let a = went_on _ (case_of f c) ds e in
+      let b = mapped _ (all_of (case_of f) cs) ds a.2 in
       let h = case_gives c a.0 a.1 in
       let t = cases_are cs b.0 b.1 in
       subst (λ (ds : List (Case B)). (map (with_target back) ds ≡ c ∷ cs) × AllByRecursion P (map (λ d. d.target) ds) × AllByRecursion Q (map (λ c. c.target) (c ∷ cs))) b.2
@@ -74,36 +65,36 @@ module _ {A B : Type 0} (f : A → Option B) (back : B → A) (P : B → Type 0)
 
   what_is : (w : What A) (v : What B) → what_of f w ≡ Some v → Resolved w v
   unfolding what_of
-  what_is (Plain plain) v e = subst (λ (v : What B). Resolved (Plain plain) v) (some_is _ v e) (record { back_is = refl; right = tt; found = tt })
-  what_is (Int n) v e = subst (λ (v : What B). Resolved (Int n) v) (some_is _ v e) (record { back_is = refl; right = tt; found = tt })
-  what_is (Long n) v e = subst (λ (v : What B). Resolved (Long n) v) (some_is _ v e) (record { back_is = refl; right = tt; found = tt })
-  what_is (Loaded index) v e = subst (λ (v : What B). Resolved (Loaded index) v) (some_is _ v e) (record { back_is = refl; right = tt; found = tt })
-  what_is (LongConstant index) v e = subst (λ (v : What B). Resolved (LongConstant index) v) (some_is _ v e) (record { back_is = refl; right = tt; found = tt })
-  what_is (Local access local) v e = subst (λ (v : What B). Resolved (Local access local) v) (some_is _ v e) (record { back_is = refl; right = tt; found = tt })
-  what_is (Increment local by) v e = subst (λ (v : What B). Resolved (Increment local by) v) (some_is _ v e) (record { back_is = refl; right = tt; found = tt })
+  what_is (Plain plain) v e = subst (λ (v : What B). Resolved (Plain plain) v) (same_Some _ v e) (record { back_is = refl; right = tt; found = tt })
+  what_is (Int n) v e = subst (λ (v : What B). Resolved (Int n) v) (same_Some _ v e) (record { back_is = refl; right = tt; found = tt })
+  what_is (Long n) v e = subst (λ (v : What B). Resolved (Long n) v) (same_Some _ v e) (record { back_is = refl; right = tt; found = tt })
+  what_is (Loaded index) v e = subst (λ (v : What B). Resolved (Loaded index) v) (same_Some _ v e) (record { back_is = refl; right = tt; found = tt })
+  what_is (LongConstant index) v e = subst (λ (v : What B). Resolved (LongConstant index) v) (same_Some _ v e) (record { back_is = refl; right = tt; found = tt })
+  what_is (Local access local) v e = subst (λ (v : What B). Resolved (Local access local) v) (same_Some _ v e) (record { back_is = refl; right = tt; found = tt })
+  what_is (Increment local by) v e = subst (λ (v : What B). Resolved (Increment local by) v) (same_Some _ v e) (record { back_is = refl; right = tt; found = tt })
   what_is (Branch test target) v e =
-      let a = map_some (λ t. Branch test t) (f target) v e in
+      let a = mapped (λ t. Branch test t) (f target) v e in
       let h = gives target a.0 a.1 in
       subst (λ (v : What B). Resolved (Branch test target) v) a.2 (record { back_is = ap (λ (z : A). Branch test z) h.0; right = (h.1, tt); found = (h.2, tt) })
   what_is (TableSwitch default low targets) v e =
-      let a = then_some _ (f default) v e in
-      let b = map_some (λ ts. TableSwitch a.0 low ts) (all_of f targets) v a.2 in
+      let a = went_on _ (f default) v e in
+      let b = mapped (λ ts. TableSwitch a.0 low ts) (all_of f targets) v a.2 in
       let h = gives default a.0 a.1 in
       let t = all_is targets b.0 b.1 in
       subst (λ (v : What B). Resolved (TableSwitch default low targets) v) b.2
       (record { back_is = ap (λ (z : A). TableSwitch z low (map back b.0)) h.0 ∙ ap (λ (zs : List A). TableSwitch default low zs) t.0; right = (h.1, t.1); found = (h.2, t.2) })
   what_is (LookupSwitch default cases) v e =
-      let a = then_some _ (f default) v e in
-      let b = map_some (λ cs. LookupSwitch a.0 cs) (all_of (case_of f) cases) v a.2 in
+      let a = went_on _ (f default) v e in
+      let b = mapped (λ cs. LookupSwitch a.0 cs) (all_of (case_of f) cases) v a.2 in
       let h = gives default a.0 a.1 in
       let t = cases_are cases b.0 b.1 in
       subst (λ (v : What B). Resolved (LookupSwitch default cases) v) b.2
       (record { back_is = ap (λ (z : A). LookupSwitch z (map (with_target back) b.0)) h.0 ∙ ap (λ (zs : List (Case A)). LookupSwitch default zs) t.0; right = (h.1, t.1); found = (h.2, t.2) })
-  what_is (Field access index) v e = subst (λ (v : What B). Resolved (Field access index) v) (some_is _ v e) (record { back_is = refl; right = tt; found = tt })
-  what_is (Call call index) v e = subst (λ (v : What B). Resolved (Call call index) v) (some_is _ v e) (record { back_is = refl; right = tt; found = tt })
-  what_is (InterfaceCall index) v e = subst (λ (v : What B). Resolved (InterfaceCall index) v) (some_is _ v e) (record { back_is = refl; right = tt; found = tt })
-  what_is (Class purpose index) v e = subst (λ (v : What B). Resolved (Class purpose index) v) (some_is _ v e) (record { back_is = refl; right = tt; found = tt })
-  what_is (NewArray element) v e = subst (λ (v : What B). Resolved (NewArray element) v) (some_is _ v e) (record { back_is = refl; right = tt; found = tt })
+  what_is (Field access index) v e = subst (λ (v : What B). Resolved (Field access index) v) (same_Some _ v e) (record { back_is = refl; right = tt; found = tt })
+  what_is (Call call index) v e = subst (λ (v : What B). Resolved (Call call index) v) (same_Some _ v e) (record { back_is = refl; right = tt; found = tt })
+  what_is (InterfaceCall index) v e = subst (λ (v : What B). Resolved (InterfaceCall index) v) (same_Some _ v e) (record { back_is = refl; right = tt; found = tt })
+  what_is (Class purpose index) v e = subst (λ (v : What B). Resolved (Class purpose index) v) (same_Some _ v e) (record { back_is = refl; right = tt; found = tt })
+  what_is (NewArray element) v e = subst (λ (v : What B). Resolved (NewArray element) v) (same_Some _ v e) (record { back_is = refl; right = tt; found = tt })
 
   -- ---- the other way round
 
@@ -200,7 +191,7 @@ as_offset t = pos t.at
 target_gives : (offsets : List ℕ) (z : ℤ) (t : Target) → target_of offsets z ≡ Some t → (as_offset t ≡ z) × IsNumbered offsets t × IsPlaced offsets z
 target_gives offsets (negsuc n) t e = absurd cc
 target_gives offsets (pos n) t e =
-    let a = map_some (λ step. record { at = n; step = step }) (place_in offsets n) t e in
+    let a = mapped (λ step. record { at = n; step = step }) (place_in offsets n) t e in
     subst (λ (t : Target). (as_offset t ≡ pos n) × IsNumbered offsets t × IsPlaced offsets (pos n)) {x = record { at = n; step = a.0 }} a.2
     (refl, a.1, (n, refl, rw a.1 refl))
 

@@ -13,7 +13,6 @@ use Rattle.type_rules.specs.Assignable.{Hierarchy, is_assignable, is_same_type, 
 use Rattle.type_rules.specs.Environment.{Environment, TypedHandler}
 use Rattle.type_rules.specs.TypeFaults.{is_covered, handler_fault, handlers_fault}
 use Rattle.shared_words.specs.declared.store.Words.{Words}
-use Rattle.shared_words.specs.Parts.{room}
 use Rattle.shared_words.specs.Store.{word_at, IsKept}
 use Rattle.shared_words.specs.Differ.{DifferAt}
 use Rattle.shared_words.specs.Shown.{first_words, EndsBy}
@@ -23,6 +22,7 @@ use Rattle.shared_words.proofs.ShownLaws.{locals_told}
 use Rattle.typing_frames.specs.declared.stores.FrameStores.{FrameStores}
 use Rattle.typing_frames.specs.declared.stores.CurrentFrame.{CurrentFrame}
 use Rattle.typing_frames.specs.Frames.{shown, StoresFollow}
+use Rattle.typing_frames.proofs.FrameLaws.{most_fits}
 use Rattle.map_frames.specs.Mapped.{shown_locals, AreLocals}
 use Rattle.map_frames.proofs.MadeLaws.{locals_follow, same_locals}
 use Rattle.handler_frames.specs.declared.span.Span.{Span}
@@ -171,15 +171,8 @@ first_take h stores active slice held at count locals word same word_is inside a
     (subst (λ (s : Span). is_assignable h word (word_at stores.locals s.locals at) ≡ true) (get_or-take held slice j d below)
     (so_far d j (let e = ap length same in omega (arith, below, all, inside, e, length-take held slice)))))
 
-room_most : (k : ℕ) → k ≤ 3 → room k ≤ 262144
-room_most zero low = omega arith
-room_most (suc zero) low = omega arith
-room_most (suc (suc zero)) low = omega arith
-room_most (suc (suc (suc zero))) low = omega arith
-room_most (suc (suc (suc (suc k)))) low = absurd (omega (arith, low))
-
 pub few_locals : (stores : FrameStores) → stores.locals.most ≤ 262144
-few_locals stores = omega (arith, stores.locals.fits, room_most stores.locals.height stores.locals.low)
+few_locals stores = most_fits stores.locals
 
 -- each word is assignable where the lists are
 each_word : (h : Hierarchy) (low high : ℕ → VerificationType) (most : ℕ) → EndsBy low most → EndsBy high most → are_locals_assignable h (first_words low most) (first_words high most) ≡ true

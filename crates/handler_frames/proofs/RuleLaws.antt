@@ -3,6 +3,7 @@ use Rattle.std.proofs.Common.{◌≡◌, ℕ, zero, suc, ◌<◌, ◌≤◌, Boo
 use Rattle.std.specs.List.{list_any, Contains}
 use Rattle.std.proofs.lemmas.Bool.{cases_Bool}
 use Rattle.std.proofs.lemmas.Bool.Decides.{leb_tells}
+use Rattle.std.proofs.Math.Bool.{and-false, and-true}
 use Rattle.link_types.specs.declared.types.ObjectType.{ObjectType}
 use Rattle.type_rules.specs.declared.refusal.VerifyKind.{VerifyKind}
 use Rattle.type_rules.specs.declared.refusal.VerifyKind.TheVariants as kinds
@@ -22,21 +23,13 @@ use Rattle.map_frames.proofs.TakesLaws.{locals_split}
 use Rattle.map_frames.proofs.WordLaws.{padded_is}
 use Rattle.handler_frames.specs.Methods.{takes_only}
 
-and_true : (a : Bool) → (a && true) ≡ a
-and_true true = refl
-and_true false = refl
-
-and_false : (a : Bool) → (a && false) ≡ false
-and_false true = refl
-and_false false = refl
-
 -- ---- one handler
 
 -- what is caught, as the stack of a frame
 pub stack_is : (h : Hierarchy) (caught : ObjectType) (stack : List VerificationType) → are_assignable h (Object caught ∷ []) stack ≡ takes_only h (only_word stack) caught
 stack_is h caught [] = refl
-stack_is h caught (w ∷ []) = and_true (is_assignable h (Object caught) w)
-stack_is h caught (w ∷ v ∷ ws) = and_false (is_assignable h (Object caught) w)
+stack_is h caught (w ∷ []) = and-true (is_assignable h (Object caught) w)
+stack_is h caught (w ∷ v ∷ ws) = and-false (is_assignable h (Object caught) w)
 
 module _ (env : Environment) (f : TypeFrame) (h : TypedHandler) where
   pub unset_covered : f.flag_this_uninit ≡ true → handler_fault env f h ≡ Some kinds.InitCovered
@@ -62,7 +55,7 @@ module _ (env : Environment) (f : TypeFrame) (h : TypedHandler) where
       set e ∙ ap (λ o. flow_to env (thrown_frame f h) o or_else thrown) some
       ∙ ap (λ b. unless (b && (locals && (not f.flag_this_uninit || g.flag_this_uninit))) kinds.FrameMismatch or_else thrown) (stack_is env.hierarchy h.caught g.stack)
       ∙ ap (λ b. unless (takes_only env.hierarchy (only_word g.stack) h.caught && (locals && (not b || g.flag_this_uninit))) kinds.FrameMismatch or_else thrown) e
-      ∙ ap (λ b. unless (takes_only env.hierarchy (only_word g.stack) h.caught && b) kinds.FrameMismatch or_else thrown) (and_true locals)
+      ∙ ap (λ b. unless (takes_only env.hierarchy (only_word g.stack) h.caught && b) kinds.FrameMismatch or_else thrown) (and-true locals)
 
   pub mismatched : (g : TypeFrame) → f.flag_this_uninit ≡ false → env.map_at h.entry ≡ Some g
       → (takes_only env.hierarchy (only_word g.stack) h.caught && are_locals_assignable env.hierarchy f.locals g.locals) ≡ false → handler_fault env f h ≡ Some kinds.FrameMismatch
@@ -78,7 +71,7 @@ module _ (env : Environment) (f : TypeFrame) (h : TypedHandler) where
       ∙ ap (λ b. unless b kinds.FrameMismatch or_else unless (is_object_assignable env.hierarchy h.caught throwable_type) kinds.TypeMismatch) locals
 
 pub and_apart : (a b : Bool) → b ≡ false → (a && b) ≡ false
-and_apart a b e = ap (λ x. a && x) e ∙ and_false a
+and_apart a b e = ap (λ x. a && x) e ∙ and-false a
 
 -- ---- map frames
 
@@ -107,13 +100,13 @@ pub passing_locals : (h : Hierarchy) (stores : FrameStores) (m : MappedFrame) (g
     → false ≡ are_locals_assignable h locals g.locals
 passing_locals h stores m g locals maps size e =
     let inside = are_locals_assignable h locals (shown_locals stores m.locals) in
-    sym (locals_told h stores m g locals maps size ∙ ap (λ b. inside && not b) e ∙ and_false inside)
+    sym (locals_told h stores m g locals maps size ∙ ap (λ b. inside && not b) e ∙ and-false inside)
 
 pub inside_locals : (h : Hierarchy) (stores : FrameStores) (m : MappedFrame) (g : TypeFrame) (locals : List VerificationType) → Maps stores m g → length locals ≡ stores.locals.most → m.passes ≡ false
     → are_locals_assignable h locals (shown_locals stores m.locals) ≡ are_locals_assignable h locals g.locals
 inside_locals h stores m g locals maps size e =
     let inside = are_locals_assignable h locals (shown_locals stores m.locals) in
-    sym (locals_told h stores m g locals maps size ∙ ap (λ b. inside && not b) e ∙ and_true inside)
+    sym (locals_told h stores m g locals maps size ∙ ap (λ b. inside && not b) e ∙ and-true inside)
 
 -- ---- all handlers
 

@@ -3,7 +3,7 @@ use Rattle.std.proofs.Common.{◌≡◌, ◌≢◌, ◌+◌, ◌<◌, ℕ, zero,
 use Rattle.std.specs.Prelude.{Option, Some, None, slice_get, slice_set, ◌⊎◌}
 use Rattle.std.specs.List.{All, position_from}
 use Rattle.std.specs.Option.{option_flatten}
-use Rattle.std.proofs.lemmas.Bool.{eqb-true, eqb-false}
+use Rattle.std.proofs.lemmas.Bool.{eqb-true, cases_eq}
 use Rattle.std.proofs.lemmas.List.Elements.{All-head, All-tail}
 use Rattle.instructions.specs.Numbering.{AreNumbersOf, IsSameAt}
 
@@ -35,12 +35,6 @@ other_key a b other =
 same_key : (a : ℕ) → nat_eq a a ≡ true
 same_key a = eq-eqb a a refl
 
-is_same : (a b : ℕ) → (a ≡ b) ⊎ (a ≢ b)
-is_same a b =
-    let at : (t : Bool) → nat_eq a b ≡ t → (a ≡ b) ⊎ (a ≢ b) =
-    λ t. elim t as (λ t. nat_eq a b ≡ t → (a ≡ b) ⊎ (a ≢ b)) [ true ↦ λ e. inl (eqb-true a b e) | false ↦ λ e. inr (eqb-false a b e) ] in
-    at (nat_eq a b) refl
-
 -- a new key is found at the end alone
 position-last : (xs : List ℕ) (x n : ℕ) → All (λ k. k ≢ x) xs → position_from (λ k. nat_eq k x) n (xs ++ x ∷ []) ≡ Some (n + length xs)
 position-last [] x n all = rw (same_key x) (ap Some (omega arith))
@@ -69,4 +63,4 @@ set-numbers keys numbers x at side are all within =
 pub AreNumbersOf-push : (keys : List ℕ) (old numbers : List (Option ℕ)) (x : ℕ) → AreNumbersOf keys old → IsSameAt old numbers → All (λ k. k ≢ x) keys → x < length numbers →
     AreNumbersOf (keys ++ x ∷ []) (slice_set numbers x (Some (length keys)))
 AreNumbersOf-push keys old numbers x are same all within at =
-    set-numbers keys numbers x at (is_same at x) (λ j. same j ∙ are j) all within
+    set-numbers keys numbers x at (cases_eq at x) (λ j. same j ∙ are j) all within

@@ -4,14 +4,14 @@ use Rattle.std.specs.List.{filter}
 use Rattle.std.specs.Option.{option_map_or}
 use Rattle.std.proofs.lemmas.Bool.{le-ltb, lt-ltb, le-leb, lt-leb}
 use Rattle.std.proofs.lemmas.Option.{slice_get_within}
+use Rattle.std.proofs.Math.Bool.{and-false}
 use Rattle.builtin_world.specs.declared.number.TheConstants.{OBJECT}
-use Rattle.class_layout.proofs.RowLaws.{past_all}
 use Rattle.code_decode.specs.declared.code.ClassUnit.{ClassUnit}
-use Rattle.link_rules.specs.Classes.{NamedClass, classes_of, class_number, superclass_of}
+use Rattle.link_rules.specs.Classes.{NamedClass, classes_of, superclass_of}
 use Rattle.link_rules.specs.Names.{program_names, super_number}
 use Rattle.link_rules.specs.Supers.{PutsSupersFirst, superclasses_within}
 use Rattle.link_rules.proofs.Fields.{library_stays}
-use Rattle.link_rules.proofs.Numbers.{class_count_is}
+use Rattle.link_rules.proofs.Numbers.{class_count_is, past_super}
 use Rattle.link_rules.proofs.Upward.{superclasses_step, up_none}
 use Rattle.java_rows.specs.Program.{initialized_with, is_of_file}
 
@@ -46,13 +46,6 @@ built_in us (suc n) (suc c) low =
 pub class_built_in : (us : List ClassUnit) (c : ℕ) → c ≤ 27 → initialized_with us c ≡ []
 class_built_in us c low = built_in us (length (classes_of us)) c low
 
-no_super : (cs : List NamedClass) (c : ℕ) → length cs < c → superclass_of cs c ≡ 0
-no_super cs c past = ap (λ o. option_map_or (λ (k : NamedClass). option_map_or (class_number cs) k.super 0) o 0) (past_all cs c past)
-
-both_false : (b : Bool) → (b && false) ≡ false
-both_false true = refl
-both_false false = refl
-
 no_class : (us : List ClassUnit) (n c : ℕ) → length (classes_of us) < c → filter (is_of_file us) (superclasses_within (classes_of us) n c) ≡ []
 unfolding with_class
 no_class us zero c past = refl
@@ -61,8 +54,8 @@ no_class us (suc n) (suc c) past =
     let cs : List NamedClass = classes_of us in
     let above : List ℕ = filter (is_of_file us) (superclasses_within cs n (superclass_of cs (suc c))) in
     ap (λ b. with_class (nat_lt 27 (suc c) && b) (suc c) above) (lt-leb (suc c) (length cs) past)
-    ∙ ap (λ b. with_class b (suc c) above) (both_false (nat_lt 27 (suc c)))
-    ∙ ap (λ s. filter (is_of_file us) (superclasses_within cs n s)) (no_super cs (suc c) past)
+    ∙ ap (λ b. with_class b (suc c) above) (and-false (nat_lt 27 (suc c)))
+    ∙ ap (λ s. filter (is_of_file us) (superclasses_within cs n s)) (past_super cs (suc c) past)
     ∙ ap (filter (is_of_file us)) (up_none cs n)
 
 pub past_classes : (us : List ClassUnit) (c : ℕ) → length (classes_of us) < c → initialized_with us c ≡ []

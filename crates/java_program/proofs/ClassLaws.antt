@@ -1,5 +1,5 @@
 -- Numbers of classes, and class objects.
-use Rattle.std.proofs.Common.{◌≡◌, ◌≢◌, ℕ, zero, suc, ◌+◌, ◌≤◌, ◌<◌, ◌==◌, ◌&&◌, Bool, true, false, cond, nat_le, List, [], length, slice_get, bytes_eq, Option, None, Some, refl, ap, ◌∙◌, arith}
+use Rattle.std.proofs.Common.{◌≡◌, ◌≢◌, ℕ, suc, ◌+◌, ◌≤◌, ◌<◌, ◌==◌, ◌&&◌, Bool, true, false, cond, nat_le, List, [], length, slice_get, bytes_eq, Option, None, Some, refl, ap, ◌∙◌, arith}
 use Rattle.std.specs.List.{position_from}
 use Rattle.std.specs.Option.{option_map, option_map_or}
 use Rattle.std.proofs.lemmas.Bool.{le-leb, eqb-false, false≢true}
@@ -13,6 +13,7 @@ use Rattle.link_rules.specs.Names.{ProgramNames, program_names, array_number, cl
 use Rattle.link_rules.specs.Readers.{layout}
 use Rattle.link_rules.proofs.Lists.{Found, found_at}
 use Rattle.link_rules.proofs.Numbers.{class_number_within}
+use Rattle.link_rules.proofs.Named.{class_within}
 use Rattle.java_rows.specs.Program.{method_has}
 
 pub counts : (p : ProgramNames) (c : ℕ) → c ≢ 0 → c ≤ class_count p → is_class_number p c ≡ true
@@ -24,10 +25,6 @@ object_of p c is = ap (λ b. cond b (class_object p c) 0) is
 
 -- ---- classes that are there
 
-pub numbered : (cs : List NamedClass) (c : ℕ) (k : NamedClass) → class_numbered cs c ≡ Some k → (c ≢ 0) × (c ≤ length cs)
-numbered cs zero k at = absurd (none-some k at)
-numbered cs (suc c) k at = ((λ z. omega (arith, z)), (let lt : c < length cs = slice_get_within cs c k at in omega (arith, lt)))
-
 -- a method that has a flag is a method of a class
 pub flag_counts : (us : List ClassUnit) (id : MethodId) (flag : ℕ) → method_has us id flag ≡ true → is_class_number (program_names us) id.class ≡ true
 flag_counts us id flag e = go (class_numbered (classes_of us) id.class) refl e
@@ -37,7 +34,7 @@ flag_counts us id flag e = go (class_numbered (classes_of us) id.class) refl e
         → is_class_number (program_names us) id.class ≡ true
     go None at e = absurd (false≢true e)
     go (Some k) at e =
-        let there = numbered (classes_of us) id.class k at in
+        let there = class_within (classes_of us) id.class k at in
         let within : id.class ≤ length (classes_of us) = there.1 in
         counts (program_names us) id.class there.0 (omega (arith, within))
 

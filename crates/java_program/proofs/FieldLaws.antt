@@ -20,7 +20,8 @@ use Rattle.link_rules.specs.Supers.{PutsSupersFirst}
 use Rattle.link_rules.specs.Units.{AreUnits}
 use Rattle.link_rules.proofs.Numbers.{in_library, is_file}
 use Rattle.link_rules.proofs.Objects.{fields_of_file}
-use Rattle.java_program.proofs.ClassLaws.{counts, numbered}
+use Rattle.link_rules.proofs.Named.{class_within}
+use Rattle.java_program.proofs.ClassLaws.{counts}
 use Rattle.java_program.proofs.OperandLaws.{IsFieldOf}
 
 -- ---- the owner
@@ -30,7 +31,7 @@ class_there cs c i m there = go (class_numbered cs c) refl there
   where
     go : (o : Option NamedClass) → class_numbered cs c ≡ o → slice_get (option_map_or (λ (k : NamedClass). k.fields) o []) i ≡ Some m → (c ≢ 0) × (c ≤ length cs)
     go None at e = absurd (none-some m e)
-    go (Some k) at e = numbered cs c k at
+    go (Some k) at e = class_within cs c k at
 
 pub owner_counts : (us : List ClassUnit) (f : FieldOperand) → IsFieldOf (classes_of us) f → is_class_number (program_names us) f.owner ≡ true
 owner_counts us f is =

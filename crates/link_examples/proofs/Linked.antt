@@ -5,6 +5,7 @@ use Rattle.std.proofs.lemmas.Bool.{true≢false}
 use Rattle.std.proofs.lemmas.Option.{none-some, same_Some}
 use Rattle.std.proofs.lemmas.List.Elements.{All-nil, All-same}
 use Rattle.rules.specs.Rules.{Rules, each}
+use Rattle.rules.proofs.RuleLaws.{one_holds}
 use Rattle.builtin_world.specs.Library.{library}
 use Rattle.class_names.specs.Reading.{kind_at, base_at}
 use Rattle.code_decode.specs.declared.code.ClassUnit.{ClassUnit}
@@ -22,9 +23,6 @@ none_hold rules i x e = absurd (none-some x e)
 cons_hold : {E X : Type 0} (rules : ℕ → X → Rules E) (x : X) (xs : List X) → (rules 0 x).Hold → ((i : ℕ) (y : X) → slice_get xs i ≡ Some y → (rules (suc i) y).Hold) → (each rules (x ∷ xs)).Hold
 cons_hold {X = X} rules x xs first others zero y e = subst (λ (z : X). (rules 0 z).Hold) (same_Some x y e) first
 cons_hold rules x xs first others (suc i) y e = others i y e
-
-one_holds : {E X : Type 0} (rules : ℕ → X → Rules E) (x : X) → (rules 0 x).Hold → (each rules (x ∷ [])).Hold
-one_holds rules x first = cons_hold rules x [] first (λ i y e. absurd (none-some y e))
 
 by_recursion : {E X : Type 0} (rules : X → Rules E) (xs : List X) → AllByRecursion (λ x. (rules x).Hold) xs → (each (λ i x. rules x) xs).Hold
 by_recursion rules [] all i x e = absurd (none-some x e)

@@ -5,11 +5,8 @@ use borrow.Author.Tests.{eqb-true}
 use Rattle.std.proofs.lemmas.Bool.{cases_Bool}
 use Rattle.std.proofs.lemmas.List.Elements.{filter-append}
 use Rattle.std.proofs.lemmas.List.Folds.{list_any-append, list_any_at, list_any_none}
+use Rattle.std.proofs.Math.Bool.{or-false}
 use Rattle.search_orders.specs.Orders.{has_number, put, put_all, without_repeats}
-
-or_false : (b : Bool) → (b || false) ≡ b
-or_false true = refl
-or_false false = refl
 
 or_or : (a b c : Bool) → ((a || b) || c) ≡ (a || (b || c))
 or_or true b c = refl
@@ -17,7 +14,7 @@ or_or false b c = refl
 
 or_again : (a b : Bool) → ((a || b) || a) ≡ (a || b)
 or_again true b = refl
-or_again false b = or_false b
+or_again false b = or-false b
 
 -- a number that is there adds nothing
 adds_nothing : (f : ℕ → Bool) (xs : List ℕ) (y : ℕ) → has_number xs y ≡ true → (list_any f xs || f y) ≡ list_any f xs
@@ -30,11 +27,11 @@ adds_nothing f (x ∷ xs) y there = elim (cases_Bool (x == y)) [
 any_put : (f : ℕ → Bool) (xs : List ℕ) (y : ℕ) → list_any f (put xs y) ≡ (list_any f xs || f y)
 any_put f xs y = elim (cases_Bool (has_number xs y)) [
   | inl there ↦ (let stays : put xs y ≡ xs = rw there refl in ap (list_any f) stays ∙ sym (adds_nothing f xs y there))
-  | inr none ↦ (let new : put xs y ≡ xs ++ y ∷ [] = rw none refl in ap (list_any f) new ∙ list_any-append f xs (y ∷ []) ∙ ap (λ b. list_any f xs || b) (or_false (f y)))
+  | inr none ↦ (let new : put xs y ≡ xs ++ y ∷ [] = rw none refl in ap (list_any f) new ∙ list_any-append f xs (y ∷ []) ∙ ap (λ b. list_any f xs || b) (or-false (f y)))
 ]
 
 any_put_all : (f : ℕ → Bool) (xs ys : List ℕ) → list_any f (put_all xs ys) ≡ (list_any f xs || list_any f ys)
-any_put_all f xs [] = sym (or_false (list_any f xs))
+any_put_all f xs [] = sym (or-false (list_any f xs))
 any_put_all f xs (y ∷ ys) = any_put_all f (put xs y) ys ∙ ap (λ b. b || list_any f ys) (any_put f xs y) ∙ or_or (list_any f xs) (f y) (list_any f ys)
 
 -- repeats change no test

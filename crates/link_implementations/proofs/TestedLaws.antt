@@ -1,9 +1,10 @@
 -- Tests that were made before.
-use Rattle.std.proofs.Common.{◌≡◌, ℕ, zero, suc, [], ◌∷◌, ◌++◌, ◌&&◌, ◌==◌, Bool, true, false, List, map, filter, slice_get, Option, None, Some, refl, sym, ◌∙◌, ap, subst, true≢false}
+use Rattle.std.proofs.Common.{◌≡◌, ℕ, zero, suc, [], ◌∷◌, ◌++◌, ◌&&◌, ◌==◌, Bool, true, List, map, filter, slice_get, Option, None, Some, refl, sym, ◌∙◌, ap, subst}
 use Rattle.std.specs.Option.{option_map}
 use borrow.Author.Tests.{eqb-true}
 use Rattle.std.proofs.lemmas.List.Elements.{filter_passes}
 use Rattle.std.proofs.lemmas.Option.{slice_get-map, slice_get_within, get_or_from_slice_get, none-some, same_Some}
+use Rattle.std.proofs.lemmas.Bool.{and_parts}
 use Rattle.class_texts.specs.Texts.{ProgramTexts}
 use Rattle.text_numbers.specs.Numbers.{number_of}
 use Rattle.link_rules.specs.Classes.{NamedMember}
@@ -16,27 +17,19 @@ use Rattle.link_members.specs.Members.{AreCandidates, candidates_of}
 use Rattle.link_implementations.specs.declared.memo.Tested.{Tested}
 use Rattle.link_implementations.specs.Tested.{AreOfOne, AreTested, EachOfOne, IsTested}
 
-left_of : (a b : Bool) → (a && b) ≡ true → a ≡ true
-left_of true b e = refl
-left_of false b e = absurd (true≢false (sym e))
-
-right_of : (a b : Bool) → (a && b) ≡ true → b ≡ true
-right_of true b e = e
-right_of false b e = absurd (true≢false (sym e))
-
 first_passes : (q : MemberRow → Bool) (xs : List MemberRow) (r : MemberRow) → slice_get (filter q xs) 0 ≡ Some r → q r ≡ true
 first_passes q xs r at =
     subst (λ x. q x ≡ true) (get_or_from_slice_get (filter q xs) 0 r r at) (filter_passes q xs 0 r (slice_get_within (filter q xs) 0 r at))
 
 module _ (p : ProgramTexts) (n d : ℕ) (r : MemberRow) (at : slice_get (virtuals_of p n d) 0 ≡ Some r) where
   signed : has_signature n d r ≡ true
-  signed = left_of (has_signature n d r) (is_virtual_row r) (first_passes (λ m. has_signature n d m && is_virtual_row m) _ r at)
+  signed = (and_parts (has_signature n d r) (is_virtual_row r) (first_passes (λ m. has_signature n d m && is_virtual_row m) _ r at)).0
 
   pub its_name : r.name ≡ n
-  its_name = eqb-true r.name n (left_of (r.name == n) (r.descriptor == d) signed)
+  its_name = eqb-true r.name n (and_parts (r.name == n) (r.descriptor == d) signed).0
 
   pub its_descriptor : r.descriptor ≡ d
-  its_descriptor = eqb-true r.descriptor d (right_of (r.name == n) (r.descriptor == d) signed)
+  its_descriptor = eqb-true r.descriptor d (and_parts (r.name == n) (r.descriptor == d) signed).1
 
 -- the numbers of the first of a method's candidates are those of the method
 pub numbers_of_first : (p : ProgramTexts) (m : NamedMember) (rows : List MemberRow) (r : MemberRow) → AreCandidates p m rows → slice_get rows 0 ≡ Some r → HaveNumbers p r.name r.descriptor (signature_of m)

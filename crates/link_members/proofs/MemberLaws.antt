@@ -29,11 +29,6 @@ named u decoded i m at = text_there u.file.pool m.name IsMethodName (methods u.f
 pub described : (u : ClassUnit) → IsDecoded u → (i : ℕ) (m : Member) → slice_get u.file.methods i ≡ Some m → IsSome (utf8_of (slice_get u.file.pool m.descriptor))
 described u decoded i m at = text_there u.file.pool m.descriptor (IsTypeOfMethod m.flags) (methods u.file decoded.file i m at).descriptor
 
--- the second rules where the first ones hold
-pub then_keeps : {T : Type 0} (first second : Rules LinkRefusal) (r : Result T LinkRefusal) → first.Hold → KeepsExactly r second → KeepsExactly r (first then second)
-then_keeps first second (Ok t) holds its = (holds, its)
-then_keeps first second (Err e) holds its = inr (holds, its)
-
 -- they refuse one thing at most
 sharp_members : (us : List ClassUnit) → IsSharp (all_members_rules us)
 sharp_members us =

@@ -15,8 +15,9 @@ use Rattle.link_rules.specs.Classes.{NamedClass, NamedMember, classes_of, class_
 use Rattle.link_rules.specs.Members.{signature_of}
 use Rattle.link_rules.specs.Units.{AreUnits}
 use Rattle.link_rules.proofs.Numbers.{file_class}
+use Rattle.link_rules.proofs.Lists.{before_at}
 use Rattle.member_lookup.specs.Found.{HaveNumbers}
-use Rattle.member_lookup.proofs.SourceLaws.{before_at, no_class}
+use Rattle.member_lookup.proofs.SourceLaws.{no_class}
 use Rattle.member_rules.proofs.MethodLaws.{have_texts}
 use Rattle.link_members.proofs.MemberLaws.{named, described}
 

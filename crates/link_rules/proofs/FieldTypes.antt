@@ -27,15 +27,13 @@ use Rattle.link_types.specs.declared.types.ValueType.TheVariants as values
 use Rattle.link_types.specs.Types.{words_of_value}
 use Rattle.link_rules.specs.Classes.{NamedMember, utf8_at}
 use Rattle.link_rules.specs.Units.{IsDecoded}
-use Rattle.class_names.specs.Kinds.{lone, field_kind, method_kinds, closed, kinds_at}
+use Rattle.class_names.specs.Kinds.{field_kind, method_kinds, closed, kinds_at}
+use Rattle.class_names.proofs.BytesLaws.{field_kind_again}
 use Rattle.link_rules.specs.Descriptors.{descriptor_kinds, innermost, is_float_base, has_float}
 use Rattle.link_rules.specs.Layout.{field_words}
 use Rattle.link_rules.specs.Names.{ProgramNames, base_type, value_type}
 
 -- ---- the kind of a field descriptor
-
-kind_read : (text : List ℕ) (kind : Kind) → IsFieldDescriptor text kind → field_kind text ≡ Some kind
-kind_read text kind d = ap lone (read_field text kind d)
 
 no_method : (text : List ℕ) (kind : Kind) → IsFieldDescriptor text kind → method_kinds text ≡ None
 no_method [] kind d = refl
@@ -52,7 +50,7 @@ no_method (b ∷ text) kind d = go (nat_eq b 40) refl
 kinds_are : (text : List ℕ) (kind : Kind) → IsFieldDescriptor text kind → descriptor_kinds text ≡ kind ∷ []
 kinds_are text kind d =
     ap (λ o. option_map_or (λ (m : List Kind × Option Kind). m.0 ++ option_to_list m.1) o (option_to_list (field_kind text))) (no_method text kind d)
-    ∙ ap option_to_list (kind_read text kind d)
+    ∙ ap option_to_list (field_kind_again text kind d)
 
 no_float : (text : List ℕ) (kind : Kind) → IsFieldDescriptor text kind → has_float text ≡ false → is_float_base (innermost kind) ≡ false
 no_float text kind d e =
@@ -119,6 +117,6 @@ member_type p m descriptor e =
     let t : HasType p kind (text_words (kind_text kind)) = typed p kind d.good (no_float m.descriptor kind d e) in
     record {
       type = t.type;
-      is = ap (option_and_then (value_type p)) (kind_read m.descriptor kind d) ∙ t.is;
+      is = ap (option_and_then (value_type p)) (field_kind_again m.descriptor kind d) ∙ t.is;
       same = t.same ∙ ap text_words (sym d.spelled);
     }

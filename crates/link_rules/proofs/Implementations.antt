@@ -1,11 +1,12 @@
 -- Objects have the methods that are abstract above their class.
-use Rattle.std.proofs.Common.{◌≡◌, ℕ, zero, suc, ◌+◌, ◌-◌, ◌<◌, ◌&&◌, ◌||◌, Bool, true, false, cond, nat_le, bytes_eq, List, [], ◌∷◌, length, flat_map, Contains, Option, None, Some, IsSomeAnd, slice_get, option_map, option_and_then, inl, inr, refl, sym, ap, ap₂, subst, ◌∙◌, arith}
+use Rattle.std.proofs.Common.{◌≡◌, ℕ, suc, ◌+◌, ◌-◌, ◌<◌, ◌&&◌, ◌||◌, Bool, true, false, cond, nat_le, bytes_eq, List, [], ◌∷◌, length, flat_map, Contains, Option, None, Some, IsSomeAnd, slice_get, option_map, option_and_then, inl, inr, refl, sym, ap, ap₂, subst, ◌∙◌, arith}
 use Rattle.std.specs.Option.{option_map_or}
 use Rattle.std.specs.List.{All, position_from}
 use Rattle.std.proofs.lemmas.Bool.{le-leb, and_from, or_parts, not-true}
 use Rattle.std.proofs.lemmas.List.Elements.{All-contains, Contains-append_left}
 use Rattle.std.proofs.lemmas.Slice.Eq.{bytes_eq-Decides}
-use Rattle.std.proofs.lemmas.Option.{slice_get_within, same_Some, none-some}
+use Rattle.std.proofs.lemmas.Option.{slice_get_within, none-some}
+use Rattle.class_read.proofs.SignatureLaws.{has_place}
 use Rattle.class_pool.specs.Pool.{reference_of}
 use Rattle.code_decode.specs.declared.code.ClassUnit.{ClassUnit}
 use Rattle.link_types.specs.declared.operands.MethodId.{MethodId}
@@ -24,19 +25,9 @@ use Rattle.link_rules.proofs.Numbers.{class_count_is}
 
 -- ---- what is declared is found
 
-position_some : {X : Type 0} (test : X → Bool) (n : ℕ) (xs : List X) (i : ℕ) (x : X) → slice_get xs i ≡ Some x → test x ≡ true → (j : ℕ) × (position_from test n xs ≡ Some j)
-position_some test n [] i x at passes = absurd (none-some x at)
-position_some test n (y ∷ xs) zero x at passes =
-    (n, ap (λ b. cond b (Some n) (position_from test (n + 1) xs)) (ap test (same_Some y x at) ∙ passes))
-position_some {X} test n (y ∷ xs) (suc i) x at passes = go (test y) (position_some test (n + 1) xs i x at passes)
-  where
-    go : (b : Bool) → (j : ℕ) × (position_from test (n + 1) xs ≡ Some j) → (j : ℕ) × (cond b (Some n) (position_from test (n + 1) xs) ≡ Some j)
-    go true later = (n, refl)
-    go false later = later
-
 declared_there : (members : ℕ → List NamedMember) (test : NamedMember → Bool) (c i : ℕ) (m : NamedMember) → slice_get (members c) i ≡ Some m → test m ≡ true → (d : Declared) × (declared members test c ≡ Some d)
 declared_there members test c i m at passes =
-    let p : (j : ℕ) × (position_from test 0 (members c) ≡ Some j) = position_some test 0 (members c) i m at passes in
+    let p : (j : ℕ) × (position_from test 0 (members c) ≡ Some j) = has_place test 0 (members c) i m at passes in
     let f : Found test (members c) p.0 = found_at test (members c) p.0 p.1 in (
       record { class = c; place = p.0; member = f.item },
       ap (option_and_then (declared_at (members c) c)) p.1 ∙ ap (option_map (λ n. record { class = c; place = p.0; member = n })) f.there,

@@ -161,3 +161,9 @@ position_next test n (y ∷ ys) x =
 -- behind others, none of which passes, an item is found at their count
 pub position_push : {X : Type 0} (test : X → Bool) (n : ℕ) (xs : List X) (x : X) → position_from test n xs ≡ None → position_from test n (xs ++ x ∷ []) ≡ cond (test x) (Some (n + length xs)) None
 position_push test n xs x none = position_next test n xs x ∙ ap (λ o. next o (test x) (n + length xs)) none
+
+-- an item of the first of two lists
+pub before_at : {X : Type 0} (xs ys : List X) (j : ℕ) → j < length xs → slice_get (xs ++ ys) j ≡ slice_get xs j
+before_at [] ys j lt = absurd (omega arith)
+before_at (x ∷ xs) ys zero lt = refl
+before_at (x ∷ xs) ys (suc j) lt = before_at xs ys j (omega arith)

@@ -39,14 +39,14 @@ of_file us hold k u at =
     position_at test (classes_of us) (27 + k) (class_of_unit u) (file_class us k u at) itself before in
     ap (λ o. option_map_or (λ i. suc i) o 0) here
 
-within : (cs : List NamedClass) (c : ℕ) (k : NamedClass) → class_numbered cs c ≡ Some k → (c ≢ 0) × (c ≤ length cs)
-within cs zero k e = absurd (none-some k e)
-within cs (suc i) k e = (λ z. omega (arith, z), (let lt : i < length cs = slice_get_within cs i k e in omega arith))
+pub class_within : (cs : List NamedClass) (c : ℕ) (k : NamedClass) → class_numbered cs c ≡ Some k → (c ≢ 0) × (c ≤ length cs)
+class_within cs zero k e = absurd (none-some k e)
+class_within cs (suc i) k e = (λ z. omega (arith, z), (let lt : i < length cs = slice_get_within cs i k e in omega arith))
 
 pub one_number : (us : List ClassUnit) → (link_rules us).Hold → NamesHaveOneNumber (classes_of us)
 unfolding again
 one_number us hold c k at =
-    let room : (c ≢ 0) × (c ≤ length (classes_of us)) = within (classes_of us) c k at in
+    let room : (c ≢ 0) × (c ≤ length (classes_of us)) = class_within (classes_of us) c k at in
     elim (cases_lt 27 c) [
       | inr low ↦ sym (ap (λ o. option_map_or (λ (x : NamedClass). class_number (classes_of us) x.name) o 0) at) ∙ of_library us c room.0 low
       | inl read ↦ by_file (is_file us c read room.1)

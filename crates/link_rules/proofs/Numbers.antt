@@ -1,9 +1,9 @@
 -- Numbers of classes: those of the library from 1 to 27, and those of the files behind them.
-use Rattle.std.proofs.Common.{◌≡◌, ◌≢◌, ℕ, suc, ◌+◌, ◌-◌, ◌<◌, ◌≤◌, Bool, true, List, ◌++◌, length, map, Option, None, Some, slice_get, get_or, inl, inr, refl, ap, subst, ◌∙◌, All, nat_lt, length-append, arith}
+use Rattle.std.proofs.Common.{◌≡◌, ◌≢◌, ℕ, zero, suc, ◌+◌, ◌-◌, ◌<◌, ◌≤◌, Bool, true, List, ◌++◌, length, map, Option, None, Some, slice_get, get_or, inl, inr, refl, ap, subst, ◌∙◌, All, nat_lt, length-append, arith}
 use Rattle.std.specs.List.{position_from, range_with_len}
 use Rattle.std.specs.Option.{option_map, option_map_or}
 use Rattle.std.proofs.lemmas.Bool.{ltb-true, cases_lt}
-use Rattle.std.proofs.lemmas.Option.{slice_get-map, slice_get_within, slice_get_cases}
+use Rattle.std.proofs.lemmas.Option.{slice_get-map, slice_get_within, slice_get_cases, slice_get_past}
 use Rattle.std.proofs.lemmas.List.FromFn.{get_or-range_with_len}
 use Rattle.std.proofs.lemmas.List.{length-map}
 use Rattle.builtin_world.specs.Library.{library}
@@ -90,3 +90,11 @@ only_object us c hold some within none =
     of_file : (k : ℕ) × (u : ClassUnit) × (slice_get us k ≡ Some u) × (c ≡ number_of_file k) → ⊥
     of_file h =
         (hold.1.1.0 h.0 h.1 h.2).0 (subst (λ x. superclass_of (classes_of us) x ≡ 0) h.3 none)
+
+-- a number behind those of all classes is that of none
+pub past_all : (cs : List NamedClass) (c : ℕ) → length cs < c → class_numbered cs c ≡ None
+past_all cs zero lt = absurd (omega (arith, lt))
+past_all cs (suc i) lt = slice_get_past cs i (omega (arith, lt))
+
+pub past_super : (cs : List NamedClass) (c : ℕ) → length cs < c → superclass_of cs c ≡ 0
+past_super cs c lt = ap (λ o. option_map_or (λ (k : NamedClass). option_map_or (class_number cs) k.super 0) o 0) (past_all cs c lt)

@@ -10,8 +10,7 @@ use Rattle.class_read.proofs.FindLaws.{take_next}
 use Rattle.code_decode.specs.declared.code.ClassUnit.{ClassUnit}
 use Rattle.link_rules.specs.Classes.{NamedClass, class_name_at, class_of_unit, classes_of, library_class}
 use Rattle.linker.specs.Names.{has_name}
-use Rattle.link_rules.proofs.Lists.{position_at, position_push, slice_get-behind}
-use Rattle.member_lookup.proofs.SourceLaws.{before_at}
+use Rattle.link_rules.proofs.Lists.{position_at, position_push, slice_get-behind, before_at}
 
 -- ---- built-in classes
 

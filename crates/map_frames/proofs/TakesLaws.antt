@@ -1,6 +1,7 @@
 -- What comes to map frames.
 use Rattle.std.proofs.Common.{◌≡◌, ◌≢◌, ℕ, zero, suc, ◌≤◌, Bool, true, false, not, ◌&&◌, ◌||◌, List, [], ◌∷◌, drop, length, refl, sym, ◌∙◌, ap, arith}
 use Rattle.std.specs.List.{list_any}
+use Rattle.std.proofs.Math.Bool.{and-false, and-true}
 use Rattle.type_rules.specs.declared.types.VerificationType.{VerificationType}
 use Rattle.type_rules.specs.declared.types.VerificationType.TheVariants.{Top, Int, Float, Long, Double, Second, Null, UninitThis, Uninit, Object}
 use Rattle.type_rules.specs.Assignable.{Hierarchy, is_assignable, are_assignable, are_locals_assignable}
@@ -17,14 +18,6 @@ use Rattle.map_frames.specs.Mapped.{is_word, with_locals, Maps}
 use Rattle.map_frames.specs.Making.{IsFrameInRoom}
 use Rattle.map_frames.proofs.WordLaws.{pad, padded_is}
 use Rattle.map_frames.proofs.ItemLaws.{depth_is}
-
-and_true : (a : Bool) → (a && true) ≡ a
-and_true true = refl
-and_true false = refl
-
-and_false : (a : Bool) → (a && false) ≡ false
-and_false true = refl
-and_false false = refl
 
 and_assoc : (a b c : Bool) → (a && (b && c)) ≡ ((a && b) && c)
 and_assoc true b c = refl
@@ -85,7 +78,7 @@ passing_apart env stores frame mapped g maps e =
     let stacks = are_assignable env.hierarchy f.stack g.stack in
     let flags = not f.flag_this_uninit || g.flag_this_uninit in
     let inside = are_locals_assignable env.hierarchy f.locals (with_locals stores.locals.most g).locals in
-    sym (ap (λ x. stacks && (x && flags)) (split env stores frame mapped g maps ∙ ap (λ b. inside && not b) e ∙ and_false inside) ∙ and_false stacks)
+    sym (ap (λ x. stacks && (x && flags)) (split env stores frame mapped g maps ∙ ap (λ b. inside && not b) e ∙ and-false inside) ∙ and-false stacks)
 
 pub deeper_apart : (env : Environment) (stores : FrameStores) (frame : CurrentFrame) (mapped : MappedFrame) (g : TypeFrame) → Maps stores mapped g → frame.depth ≢ mapped.frame.depth → false ≡ is_frame_assignable env (shown stores frame) g
 deeper_apart env stores frame mapped g maps ne =
@@ -99,7 +92,7 @@ inside_tells env stores frame mapped g maps e room =
     let flags = not f.flag_this_uninit || g.flag_this_uninit in
     let inside = are_locals_assignable env.hierarchy f.locals (with_locals stores.locals.most g).locals in
     ap (is_frame_assignable env f) (maps.shown room)
-    ∙ sym (ap (λ x. stacks && (x && flags)) (split env stores frame mapped g maps ∙ ap (λ b. inside && not b) e ∙ and_true inside))
+    ∙ sym (ap (λ x. stacks && (x && flags)) (split env stores frame mapped g maps ∙ ap (λ b. inside && not b) e ∙ and-true inside))
 
 pub maps_in_room : (stores : FrameStores) (mapped : MappedFrame) (g : TypeFrame) → Maps stores mapped g → IsFrameInRoom stores mapped.frame
 maps_in_room stores mapped g maps h = (maps.kept (let d = maps.depth in omega (arith, h, d))).there

@@ -1,7 +1,7 @@
 -- Whether a superclass has a final method of a signature.
 use Rattle.std.proofs.Common.{◌≡◌, ◌≢◌, ◌⊎◌, ℕ, zero, suc, ◌+◌, ◌<◌, ◌≤◌, ◌==◌, ◌&&◌, ◌||◌, Bool, true, false, not, cond, List, [], ◌∷◌, length, filter, flat_map, inl, inr, refl, sym, ◌∙◌, ap, arith}
 use Rattle.std.specs.List.{list_any, range_with_len}
-use Rattle.std.proofs.lemmas.Bool.{cases_Bool, cases_eq, cases_lt, true≢false}
+use Rattle.std.proofs.lemmas.Bool.{cases_Bool, cases_eq, cases_lt, true≢false, and_parts}
 use Rattle.std.proofs.lemmas.List.Folds.{list_any-append}
 use borrow.Author.Tests.{eqb-true, eq-eqb, ne_eqb}
 use Rattle.access_flags.specs.Flags.{has}
@@ -98,18 +98,10 @@ same_bools true b f g = sym (f refl)
 same_bools false true f g = g refl
 same_bools false false f g = refl
 
-and_left : (a b : Bool) → (a && b) ≡ true → a ≡ true
-and_left true b e = refl
-and_left false b e = absurd (true≢false (sym e))
-
-and_right : (a b : Bool) → (a && b) ≡ true → b ≡ true
-and_right true b e = e
-and_right false b e = absurd (true≢false (sym e))
-
 -- what holds of no other number may be looked for among the numbers up to a greatest one
 through_all : (g : ℕ → Bool) (xs : List ℕ) (n : ℕ) → ((d : ℕ) → g d ≡ true → (1 ≤ d) × (d ≤ n)) → list_any (λ d. has_number xs d && g d) (range_with_len 1 n) ≡ list_any g xs
 through_all g xs n inside = same_bools (list_any (λ d. has_number xs d && g d) (range_with_len 1 n)) (list_any g xs)
-    (λ e. let f = passing (λ d. has_number xs d && g d) (range_with_len 1 n) e in one_passes g xs f.0 (and_left (has_number xs f.0) (g f.0) f.2) (and_right (has_number xs f.0) (g f.0) f.2))
+    (λ e. let f = passing (λ d. has_number xs d && g d) (range_with_len 1 n) e in one_passes g xs f.0 (and_parts (has_number xs f.0) (g f.0) f.2).0 (and_parts (has_number xs f.0) (g f.0) f.2).1)
     (λ e. let f = passing g xs e in
     let room = inside f.0 f.2 in
     let low : 1 ≤ f.0 = room.0 in

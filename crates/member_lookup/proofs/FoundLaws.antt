@@ -1,8 +1,7 @@
 -- What look-up finds among the rows is what it finds among the classes.
-use Rattle.std.proofs.Common.{◌≡◌, ◌≢◌, ℕ, zero, suc, ◌<◌, ◌==◌, ◌&&◌, ◌||◌, Bool, true, false, not, cond, List, [], ◌∷◌, length, filter, slice_get, codes, bytes_eq, Option, None, Some, inl, inr, refl, sym, ◌∙◌, ap, arith}
+use Rattle.std.proofs.Common.{◌≡◌, ◌≢◌, ℕ, ◌<◌, ◌==◌, ◌&&◌, ◌||◌, Bool, true, false, not, cond, List, [], ◌∷◌, length, filter, slice_get, codes, bytes_eq, Option, None, Some, inl, inr, refl, sym, ◌∙◌, ap}
 use Rattle.std.specs.Option.{option_map, option_map_or}
 use Rattle.std.proofs.lemmas.Bool.{cases_Bool, true≢false}
-use Rattle.std.proofs.lemmas.Option.{slice_get_past}
 use Rattle.std.proofs.lemmas.Slice.Eq.{bytes_eq-Decides}
 use Rattle.access_flags.specs.Flags.{has}
 use Rattle.class_pool.specs.Pool.{Reference}
@@ -10,9 +9,10 @@ use Rattle.code_decode.specs.declared.code.ClassUnit.{ClassUnit}
 use Rattle.class_texts.specs.Texts.{ProgramTexts}
 use Rattle.text_numbers.specs.Numbers.{number_of}
 use Rattle.text_numbers.proofs.NumberLaws.{number_alone}
-use Rattle.link_rules.specs.Classes.{NamedClass, NamedMember, classes_of, class_numbered, superclass_of, fields_of, methods_of}
+use Rattle.link_rules.specs.Classes.{NamedClass, NamedMember, classes_of, superclass_of, fields_of, methods_of}
 use Rattle.link_rules.specs.Supers.{superclasses, field_order, method_order}
 use Rattle.link_rules.specs.Members.{Declared, declared, first_some, is_member, is_virtual, is_initializer, holder, found_field, found_method, selected, special}
+use Rattle.link_rules.proofs.Numbers.{past_all}
 use Rattle.search_orders.specs.Orders.{without_repeats, has_number, rank}
 use Rattle.search_orders.proofs.OrderLaws.{has_put_all, ranked, unranked}
 use Rattle.std.specs.List.{find, list_any}
@@ -26,10 +26,6 @@ use Rattle.member_lookup.specs.declared.tables.Tables.{Tables}
 use Rattle.member_lookup.specs.Rows.{row_of, is_virtual_row, rows_of_classes}
 use Rattle.member_lookup.specs.Found.{found_of, found_row, AreNumbers, HaveNumbers, IsLookup, first_virtual, virtuals_of}
 use Rattle.member_lookup.proofs.RowLaws.{row_declared, same_number, signature_is, first_is, one_is}
-
-past_all : (cs : List NamedClass) (c : ℕ) → length cs < c → class_numbered cs c ≡ None
-past_all cs zero lt = refl
-past_all cs (suc i) lt = slice_get_past cs i (omega arith)
 
 no_fields : (cs : List NamedClass) (c : ℕ) → length cs < c → fields_of cs c ≡ []
 no_fields cs c lt = ap (λ o. option_map_or (λ (k : NamedClass). k.fields) o []) (past_all cs c lt)

@@ -1,5 +1,5 @@
 -- Where classes are declared.
-use Rattle.std.proofs.Common.{◌≡◌, ℕ, zero, suc, ◌+◌, ◌<◌, List, [], ◌∷◌, ◌++◌, length, map, slice_get, Option, None, Some, refl, ◌∙◌, ap, arith}
+use Rattle.std.proofs.Common.{◌≡◌, ℕ, suc, ◌+◌, ◌<◌, List, [], ◌++◌, length, map, slice_get, Option, None, Some, ◌∙◌, ap, arith}
 use Rattle.std.specs.Option.{option_map, option_map_or}
 use Rattle.std.proofs.lemmas.List.{length-map}
 use Rattle.std.proofs.lemmas.Simd.{map-map}
@@ -10,13 +10,8 @@ use Rattle.builtin_world.specs.declared.BuiltinClass.{BuiltinClass}
 use Rattle.code_decode.specs.declared.code.ClassUnit.{ClassUnit}
 use Rattle.link_rules.specs.Classes.{NamedClass, NamedMember, classes_of, class_numbered, class_of_unit, library_class, library_field, library_method, member_of_file, fields_of, methods_of, number_of_file}
 use Rattle.link_rules.proofs.Numbers.{file_class}
-use Rattle.link_rules.proofs.Lists.{slice_get-behind}
+use Rattle.link_rules.proofs.Lists.{slice_get-behind, before_at}
 use Rattle.class_supers.proofs.ClassLaws.{Shows, shows}
-
-pub before_at : {X : Type 0} (xs ys : List X) (j : ℕ) → j < length xs → slice_get (xs ++ ys) j ≡ slice_get xs j
-before_at [] ys j lt = absurd (omega arith)
-before_at (x ∷ xs) ys zero lt = refl
-before_at (x ∷ xs) ys (suc j) lt = before_at xs ys j (omega arith)
 
 abbrev fields_in : Option NamedClass → List NamedMember
 fields_in o = option_map_or (λ (k : NamedClass). k.fields) o []
@@ -43,9 +38,6 @@ pub builtin_methods : (us : List ClassUnit) (bs : List BuiltinClass) (i : ℕ) (
 builtin_methods us bs i b all at =
     let s : Shows i b = shows bs i b all at in
     ap methods_in (library_at us bs i b all at) ∙ ap (λ (r : ClassRow). map library_method r.methods) s.shown ∙ map-map library_method shown_method b.methods.now
-
-pub file_fields : (us : List ClassUnit) (k : ℕ) (u : ClassUnit) → slice_get us k ≡ Some u → fields_of (classes_of us) (number_of_file k) ≡ map (member_of_file u.file.pool) u.file.fields
-file_fields us k u at = ap fields_in (file_class us k u at)
 
 pub file_methods : (us : List ClassUnit) (k : ℕ) (u : ClassUnit) → slice_get us k ≡ Some u → methods_of (classes_of us) (number_of_file k) ≡ map (member_of_file u.file.pool) u.file.methods
 file_methods us k u at = ap methods_in (file_class us k u at)

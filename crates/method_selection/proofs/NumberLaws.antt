@@ -5,10 +5,9 @@ use Rattle.std.proofs.lemmas.Option.{slice_get_within, get_or_from_slice_get, no
 use Rattle.class_texts.specs.Texts.{ProgramTexts}
 use Rattle.link_types.specs.declared.operands.MethodId.{MethodId}
 use Rattle.link_rules.specs.Classes.{classes_of}
-use Rattle.link_rules.proofs.Lists.{slice_get-behind}
+use Rattle.link_rules.proofs.Lists.{slice_get-behind, before_at}
 use Rattle.member_table.specs.declared.table.MemberRow.{MemberRow}
 use Rattle.member_lookup.proofs.FoundLaws.{no_methods}
-use Rattle.member_lookup.proofs.SourceLaws.{before_at}
 use Rattle.member_lookup.specs.Rows.{class_rows, id_of_row}
 use Rattle.method_selection.specs.Numbers.{id_numbered, Keeps, AreNumbered, AreMethodNumbers, rows_of_class}
 

@@ -6,6 +6,8 @@ use Rattle.std.specs.Option.{option_map}
 use Rattle.std.proofs.lemmas.Bool.Decides.{nat_tests}
 use Rattle.std.proofs.lemmas.Option.{unwrap_or-slice_get, get_or_from_slice_get, slice_get_cases}
 use Rattle.std.proofs.lemmas.List.{get_or_past}
+use Rattle.std.proofs.Math.Bool.{and-false}
+use Rattle.std.proofs.lemmas.Bool.{and_parts}
 use Rattle.op_core.specs.declared.Limits.{Limits}
 use Rattle.op_core.specs.OrdinaryState.{Object, free, ready, unready}
 use Rattle.fixed_objects.specs.declared.FixedObject.{FixedObject}
@@ -49,14 +51,6 @@ behind_word o k i is =
 
 not_started : (o : FixedObject) (i : ℕ) → (nat_eq i 1 && nat_lt 0 o.started) ≡ false → first_value o i ≡ slice_index o.words i
 not_started o i is = ap (λ t. cond t o.started (slice_index o.words i)) is
-
-shut_and : (a : Bool) → (a && false) ≡ false
-shut_and true = refl
-shut_and false = refl
-
-and_first : (a c : Bool) → (a && c) ≡ true → a ≡ true
-and_first true c both = refl
-and_first false c both = both
 
 is_one : (a : Bool) (i : ℕ) → (a && nat_eq i 1) ≡ true → i ≡ 1
 is_one true i both = grind (arith, nat_tests)
@@ -116,14 +110,14 @@ module _ (opening : Opening) (limits : Limits) (is_thread : ℕ → Bool) (place
         no_start : (t : Bool) → is_thread o.class ≡ t → (t && nat_eq i 1) ≡ false → (nat_eq i 1 && nat_lt 0 o.started) ≡ false
         no_start true is plain = ap (λ b. b && nat_lt 0 o.started) plain
         no_start false is plain =
-            ap (λ n. nat_eq i 1 && nat_lt 0 n) (own_threads.other is) ∙ shut_and (nat_eq i 1)
+            ap (λ n. nat_eq i 1 && nat_lt 0 n) (own_threads.other is) ∙ and-false (nat_eq i 1)
 
     word_is : (i : ℕ) → word_in is_thread words r i (Some (fixed_header o)) ≡ fixed_word (Some o) i
     word_is i = by_place (nat_lt i (length o.words)) refl
       where
         start_word : (is_thread o.class && nat_eq i 1) ≡ true → 0 ≡ fixed_word (Some o) i
         start_word both =
-            let thread : is_thread o.class ≡ true = and_first (is_thread o.class) (nat_eq i 1) both in
+            let thread : is_thread o.class ≡ true = (and_parts (is_thread o.class) (nat_eq i 1) both).0 in
             let one : i ≡ 1 = is_one (is_thread o.class) i both in
             sym (ap (λ k. unwrap_or (slice_get o.words k) 0) one ∙ ap (λ x. unwrap_or x 0) (own_threads.thread thread))
 

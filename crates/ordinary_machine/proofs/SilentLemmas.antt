@@ -122,14 +122,14 @@ runs_on : {S : Type 0} (code : Code S) (m middle last : Machine S) (calls : List
 runs_on code m middle last [] call before advances = (last, subst (λ x. Advances code x call.thread call.limits call.answer last) before advances, refl)
 runs_on code m middle last (first ∷ calls) call (next, one, rest) advances = (next, one, runs_on code next middle last calls call rest advances)
 
-and_then_some : {S : Type 0} (f : S → Option S) (o : Option S) (y : S) → option_and_then f o ≡ Some y → (x : S) × (o ≡ Some x) × (f x ≡ Some y)
+pub and_then_some : {S : Type 0} (f : S → Option S) (o : Option S) (y : S) → option_and_then f o ≡ Some y → (x : S) × (o ≡ Some x) × (f x ≡ Some y)
 and_then_some f None y h = cc
 and_then_some f (Some x) y h = (x, refl, h)
 
-put_twice : {S : Type 0} (m : Machine S) (t : ℕ) (a b : Thread S) (j k : ℕ) → with_thread_at (with_thread_at m t a j) t b k ≡ with_thread_at m t b k
+pub put_twice : {S : Type 0} (m : Machine S) (t : ℕ) (a b : Thread S) (j k : ℕ) → with_thread_at (with_thread_at m t a j) t b k ≡ with_thread_at m t b k
 put_twice m t a b j k = λ i. record m { now = record m.now { threads = set_at-twice m.now.threads t a b i }; silents = set_at-twice m.silents t j k i }
 
-put_back : {S : Type 0} (m : Machine S) (t : ℕ) (a : Thread S) (k : ℕ) → m.now.threads t ≡ a → m.silents t ≡ k → with_thread_at m t a k ≡ m
+pub put_back : {S : Type 0} (m : Machine S) (t : ℕ) (a : Thread S) (k : ℕ) → m.now.threads t ≡ a → m.silents t ≡ k → with_thread_at m t a k ≡ m
 put_back m t a k thread count = λ i. record m { now = record m.now { threads = set_at-same m.now.threads t a thread i }; silents = set_at-same m.silents t k count i }
 
 quiet_runs : {S : Type 0} (code : Code S) (m : Machine S) (t n : ℕ) (limits : Limits) (from behind : S) → m.now.threads t ≡ live from → quiet_steps code n from ≡ Some behind

@@ -1,6 +1,5 @@
 -- The threads for which a fact holds, listed one number after another, and how threads have ended.
 use Rattle.std.proofs.Common.{◌≡◌, inl, inr, ℕ, suc, ◌+◌, ◌<◌, ◌≤◌, false, List, [], ◌∷◌, ◌++◌, map, All, None, refl, sym, ◌∙◌, ap, subst, arith}
-use Rattle.std.specs.List.{Contains}
 use Rattle.std.proofs.lemmas.Bool.{cases_lt}
 use Rattle.std.proofs.lemmas.List.{map-append}
 use Rattle.std.proofs.lemmas.List.Elements.{All-append, All-cons, All-nil}
@@ -9,7 +8,8 @@ use Rattle.op_core.specs.declared.ThreadEnd.{ThreadEnd}
 use Rattle.op_core.specs.OrdinaryState.{Thread, unused, ended, OrdinaryState, HasEnded}
 use Rattle.schedules.specs.Run.{TurnSystem, AreThose}
 use Rattle.schedules.specs.Laws.{AreThoseBelow, ThreadsAreListed}
-use Rattle.schedules.proofs.ListLemmas.{head_there, tail_there, none_there, head_or_tail, Rises, Rises-head, Rises-tail, threads_listed}
+use Rattle.schedules.proofs.ListLemmas.{threads_listed}
+use Rattle.schedules.proofs.RunLemmas.{one_list}
 use Rattle.ordinary_runs.specs.ScheduledRun.{AreEnds}
 
 -- what gives no turns, and enables the threads of the fact
@@ -36,29 +36,6 @@ no_more_listed fact n ts those never = (listed fact).no_more tt n ts those never
 
 pub all_listed : (fact : ℕ → Type 0) (n : ℕ) (ts : List ℕ) → AreThoseBelow fact n ts → ((t : ℕ) → fact t → t < n) → AreThose fact ts
 all_listed fact n ts those within = (listed fact).all tt n ts those within
-
--- two lists of the same rising numbers are the same
-one_list : (xs ys : List ℕ) → Rises xs → Rises ys → ((t : ℕ) → Contains xs t → Contains ys t) → ((t : ℕ) → Contains ys t → Contains xs t) → ys ≡ xs
-one_list [] [] rises rise to from = refl
-one_list [] (y ∷ ys) rises rise to from = absurd (none_there y (from y (head_there y ys)))
-one_list (x ∷ xs) [] rises rise to from = absurd (none_there x (to x (head_there x xs)))
-one_list (x ∷ xs) (y ∷ ys) rises rise to from =
-    let heads : y ≡ x = elim (head_or_tail y x ys (to x (head_there x xs))) [
-      | inl same ↦ same
-      | inr above ↦ elim (head_or_tail x y xs (from y (head_there y ys))) [
-        | inl same ↦ sym same
-        | inr below ↦ absurd (omega (arith, Rises-head y x ys rise above, Rises-head x y xs rises below))
-      ]
-    ] in
-    let forth : (t : ℕ) → Contains xs t → Contains ys t = λ t there. elim (head_or_tail y t ys (to t (tail_there x t xs there))) [
-      | inl same ↦ absurd (omega (arith, heads, same, Rises-head x t xs rises there))
-      | inr other ↦ other
-    ] in
-    let back : (t : ℕ) → Contains ys t → Contains xs t = λ t there. elim (head_or_tail x t xs (from t (tail_there y t ys there))) [
-      | inl same ↦ absurd (omega (arith, heads, same, Rises-head y t ys rise there))
-      | inr other ↦ other
-    ] in
-    ap (λ z. z ∷ ys) heads ∙ ap (λ zs. x ∷ zs) (one_list xs ys (Rises-tail x xs rises) (Rises-tail y ys rise) forth back)
 
 one_those : (fact : ℕ → Type 0) (ts us : List ℕ) → AreThose fact ts → AreThose fact us → us ≡ ts
 one_those fact ts us those them = one_list ts us

@@ -1,6 +1,5 @@
 -- Silent steps of one thread: each is a turn of its own, and they let the same threads go on.
-use Rattle.std.proofs.Common.{◌≡◌, ◌≢◌, ◌↔◌, inl, inr, ℕ, zero, suc, Option, Some, None, refl, sym, ◌∙◌, ap, subst}
-use Rattle.std.specs.Option.{option_and_then}
+use Rattle.std.proofs.Common.{◌≡◌, ◌≢◌, ◌↔◌, inl, inr, ℕ, zero, suc, Some, refl, sym, ◌∙◌, ap, subst}
 use Rattle.op_core.specs.declared.Op.{Op}
 use Rattle.op_core.specs.declared.Op.TheVariants.{New, Enter, Start, Join}
 use Rattle.op_core.specs.declared.Next.{Next}
@@ -12,10 +11,11 @@ use Rattle.op_core.specs.declared.Limit.TheVariants.{Heap, Threads, Depth}
 use Rattle.op_core.specs.ThreadCode.{Code, quiet_to, quiet_step, quiet_steps}
 use Rattle.op_core.specs.OrdinaryState.{set_at, Thread, unused, live, HasEnded}
 use Rattle.op_core.specs.OrdinaryStep.{IsFreeNumber, CanStep}
-use Rattle.op_core.proofs.PointwiseLemmas.{same_or_other, set_at-hit, set_at-other, set_at-same, set_at-twice}
+use Rattle.op_core.proofs.PointwiseLemmas.{same_or_other, set_at-hit, set_at-other}
 use Rattle.ordinary_machine.specs.Machine.{Machine, HasBegun, with_thread_at}
 use Rattle.ordinary_machine.specs.Advance.{OpMeets, IsWaiting, HasHalted, MayAdvance}
 use Rattle.ordinary_machine.proofs.DecidedLemmas.{silent_may}
+use Rattle.ordinary_machine.proofs.SilentLemmas.{and_then_some}
 
 -- the machine with other threads and other counts of silent steps
 abbrev with_threads : {S : Type 0} → Machine S → (ℕ → Thread S) → (ℕ → ℕ) → Machine S
@@ -120,18 +120,6 @@ enabled_same code m t from l n begun may silent u = elim (same_or_other u t) [
   )
   | inr other ↦ others_same code m t from l n begun u other
 ]
-
--- a thread put at a place twice stands at the second one
-pub put_twice : {S : Type 0} (m : Machine S) (t : ℕ) (a b : Thread S) (j k : ℕ) → with_thread_at (with_thread_at m t a j) t b k ≡ with_thread_at m t b k
-put_twice m t a b j k = λ i. record m { now = record m.now { threads = set_at-twice m.now.threads t a b i }; silents = set_at-twice m.silents t j k i }
-
--- and one put where it stands leaves all as it is
-pub put_back : {S : Type 0} (m : Machine S) (t : ℕ) (a : Thread S) (k : ℕ) → m.now.threads t ≡ a → m.silents t ≡ k → with_thread_at m t a k ≡ m
-put_back m t a k thread count = λ i. record m { now = record m.now { threads = set_at-same m.now.threads t a thread i }; silents = set_at-same m.silents t k count i }
-
-pub and_then_some : {S : Type 0} (f : S → Option S) (o : Option S) (y : S) → option_and_then f o ≡ Some y → (x : S) × (o ≡ Some x) × (f x ≡ Some y)
-and_then_some f None y h = absurd (cc)
-and_then_some f (Some x) y h = (x, refl, h)
 
 -- the first of some silent steps
 first_quiet : {S : Type 0} (code : Code S) (n : ℕ) (from behind : S) → quiet_steps code (suc n) from ≡ Some behind → (x : S) × (quiet_step code from ≡ Some x)

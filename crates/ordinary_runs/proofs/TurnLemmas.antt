@@ -18,11 +18,12 @@ use Rattle.ordinary_machine.specs.declared.advance.Advance.{Advance}
 use Rattle.ordinary_machine.specs.declared.advance.Advance.TheVariants as advance
 use Rattle.ordinary_machine.specs.Machine.{with_thread_at}
 use Rattle.ordinary_machine.specs.Advance.{Advances, MayAdvance}
+use Rattle.ordinary_machine.proofs.SilentLemmas.{put_twice, put_back, and_then_some}
 use Rattle.ordinary_runs.specs.Turns.{Progress, is_live, end_of, counted_after, IsSilentFor, machine_turns}
 use Rattle.ordinary_runs.specs.ScheduledRun.{CanGive, order_behind, GoesOn}
 use Rattle.ordinary_runs.proofs.CountLemmas.{counted_left, left_less}
 use Rattle.ordinary_runs.proofs.OrderLemmas.{due_first, due_stays, order_turns, due_no_more, other_no_more, blocked_less, item_behind, all_behind, behind_turns, behind_thread}
-use Rattle.ordinary_runs.proofs.SilentLemmas.{enabled_same, step_silent, put_twice, put_back, and_then_some}
+use Rattle.ordinary_runs.proofs.SilentLemmas.{enabled_same, step_silent}
 
 -- thread t stands at l, k silent steps later
 abbrev pub later : {S : Type 0} → Progress S → ℕ → S → ℕ → Progress S

@@ -1,8 +1,9 @@
 -- Rules that are decided one behind the other.
-use Rattle.std.proofs.Common.{◌≡◌, ℕ, ◌+◌, ◌<◌, ◌≤◌, List, length, Some, slice_get, inl, inr, refl, sym, ◌∙◌, subst, arith}
+use Rattle.std.proofs.Common.{◌≡◌, ℕ, ◌+◌, ◌<◌, ◌≤◌, List, length, Some, slice_get, inl, inr, refl, sym, subst, arith}
 use Rattle.std.proofs.lemmas.Bool.{cases_lt}
-use Rattle.std.proofs.lemmas.Option.{same_Some, slice_get_within}
+use Rattle.std.proofs.lemmas.Option.{slice_get_within}
 use Rattle.rules.specs.Rules.{Rules, ◌then◌, each}
+use Rattle.rules.proofs.SharpLaws.{same_item}
 use Rattle.program_accept.specs.declared.refusal.AcceptRefusal.{AcceptRefusal}
 use Rattle.program_accept.specs.declared.refusal.AcceptRefusal.TheVariants.{NoMemory}
 use Rattle.program_accept.specs.Answers.{Passes, Fails}
@@ -41,18 +42,13 @@ PassBelow {X} rules xs end = (i : ℕ) (x : X) → i < end → slice_get xs i �
 pub none_yet : {X : Type 0} (rules : ℕ → X → Rules AcceptRefusal) (xs : List X) → PassBelow rules xs 0
 none_yet rules xs i x lt at = absurd (omega (arith, lt))
 
-same_at : {X : Type 0} (xs : List X) (i j : ℕ) (x y : X) → i ≡ j → slice_get xs i ≡ Some x → slice_get xs j ≡ Some y → x ≡ y
-same_at {X} xs i j x y same a b =
-    let P : ℕ → Type 0 = λ k. slice_get xs k ≡ Some x in
-    same_Some x y (sym (subst P same a) ∙ b)
-
 pub one_more : {X : Type 0} (rules : ℕ → X → Rules AcceptRefusal) (xs : List X) (end : ℕ) (x : X) → slice_get xs end ≡ Some x → PassBelow rules xs end → Passes (rules end x) (Unit {0}) → PassBelow rules xs (end + 1)
 one_more {X} rules xs end x at below here i y lt there =
     elim (cases_lt i end) [
       | inl less ↦ below i y less there
       | inr more ↦
           let same : end ≡ i = omega (arith, lt, more) in
-          let item : x ≡ y = same_at xs end i x y same at there in
+          let item : x ≡ y = same_item xs end i x y same at there in
           let P : ℕ → Type 0 = λ k. Passes (rules k x) (Unit {0}) in
           let Q : X → Type 0 = λ z. Passes (rules i z) (Unit {0}) in
           subst Q item (subst P same here)
@@ -79,7 +75,7 @@ each_fails {X} rules xs i x e at below fails = record {
       | inl behind ↦ inl (fails.broken (its.3 i x behind at))
       | inr ge ↦
           let same : its.0 ≡ i = omega (arith, le, ge) in
-          let item : its.1 ≡ x = same_at xs its.0 i its.1 x same its.2 at in
+          let item : its.1 ≡ x = same_item xs its.0 i its.1 x same its.2 at in
           let P : ℕ → Type 0 = λ k. (rules k its.1).Refuse other in
           let Q : X → Type 0 = λ y. (rules i y).Refuse other in
           fails.only other (subst Q item (subst P same its.4))

@@ -9,13 +9,11 @@ use Rattle.op_core.specs.declared.Next.TheVariants.{Silent, Want, Ended}
 use Rattle.op_core.specs.ThreadCode.{Code, leaves_any}
 use Rattle.write_log.specs.declared.Noted.{Noted}
 use Rattle.step_port.specs.declared.answer.Answer.{Answer}
-use Rattle.step_port.specs.declared.answer.Answer.TheVariants.{Found}
 use Rattle.step_port.specs.declared.step.Effect.{Effect}
 use Rattle.step_port.specs.declared.step.Effect.TheVariants.{Load, Store, Exchange, Add}
 use Rattle.step_port.specs.declared.step.Step.{Step}
 use Rattle.step_port.specs.declared.step.Step.TheVariants.{LoadWord, OpenSection, Split, LoadStop, SetStop}
 use Rattle.step_port.specs.Steps.{effect_of, IsOwnStep}
-use Rattle.step_port.specs.Words.{CanAnswer}
 use Rattle.thread_automaton.specs.declared.Bounds.{Bounds}
 use Rattle.thread_automaton.specs.declared.Move.{Move}
 use Rattle.thread_automaton.specs.declared.Move.TheVariants.{Over, Quiet, Stop, Make}
@@ -28,7 +26,7 @@ use Rattle.automaton_rows.specs.Fits.{HasSaves, IsFit}
 use Rattle.automaton_rows.specs.Rows.{Row, is_lost}
 use Rattle.automaton_rows.specs.Causes.{Opens}
 use Rattle.automaton_rows.proofs.RowLemmas.{answers_are_rows}
-use Rattle.automaton_rows.proofs.PinLemmas.{steps_caused}
+use Rattle.automaton_rows.proofs.PinLemmas.{steps_caused, usual, usual_can}
 use Rattle.rollback_core.specs.Told.{TakesMemory, SavesFor, prepared}
 use Rattle.rollback_core.specs.Turn.{MoveTakesMemory}
 
@@ -86,18 +84,6 @@ IsThreadStep step = Unit {0}
 abbrev Stands : Answer → Type 0
 Stands (Answer.Lost v) = ⊥
 Stands answer = Unit {0}
-
-abbrev usual : Effect → Answer
-usual Load = Found 0
-usual (Store v) = Answer.Done
-usual (Exchange old new) = Answer.Done
-usual (Add k) = Found 0
-
-usual_can : (effect : Effect) → CanAnswer effect (usual effect)
-usual_can Load = tt
-usual_can (Store v) = tt
-usual_can (Exchange old new) = tt
-usual_can (Add k) = tt
 
 usual_stands : (effect : Effect) → Stands (usual effect)
 usual_stands Load = tt

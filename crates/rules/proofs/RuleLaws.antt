@@ -1,6 +1,6 @@
 -- Rules of items, one item behind the other.
-use Rattle.std.proofs.Common.{◌≡◌, ℕ, ◌+◌, ◌<◌, ◌≤◌, List, length, Some, slice_get, subst, sym, ◌∙◌, inl, inr, arith}
-use Rattle.std.proofs.lemmas.Option.{slice_get_within, same_Some}
+use Rattle.std.proofs.Common.{◌≡◌, ℕ, zero, suc, ◌+◌, ◌<◌, ◌≤◌, List, [], ◌∷◌, length, Some, slice_get, subst, sym, ◌∙◌, inl, inr, arith}
+use Rattle.std.proofs.lemmas.Option.{slice_get_within, same_Some, none-some}
 use Rattle.std.proofs.lemmas.Bool.{cases_lt}
 use Rattle.rules.specs.Rules.{Rules, HoldBelow, each}
 
@@ -25,3 +25,8 @@ pub all_hold : {E X : Type 0} (rules : ℕ → X → Rules E) (xs : List X) (end
 all_hold rules xs end le below i x e =
     let lt : i < length xs = slice_get_within xs i x e in
     below i x (omega arith) e
+
+-- the rules of one item
+pub one_holds : {E X : Type 0} (rules : ℕ → X → Rules E) (x : X) → (rules 0 x).Hold → (each rules (x ∷ [])).Hold
+one_holds {X = X} rules x first zero y e = subst (λ (z : X). (rules 0 z).Hold) (same_Some x y e) first
+one_holds rules x first (suc i) y e = absurd (none-some y e)

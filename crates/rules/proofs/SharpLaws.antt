@@ -26,7 +26,7 @@ sharp_when Case rules x = record {
   one = λ e d f g. x.one e d f.1 g.1;
 }
 
-same_item : {X : Type 0} (xs : List X) (i j : ℕ) (x y : X) → i ≡ j → slice_get xs i ≡ Some x → slice_get xs j ≡ Some y → x ≡ y
+pub same_item : {X : Type 0} (xs : List X) (i j : ℕ) (x y : X) → i ≡ j → slice_get xs i ≡ Some x → slice_get xs j ≡ Some y → x ≡ y
 same_item {X} xs i j x y same a b =
     let P : ℕ → Type 0 = λ k. slice_get xs k ≡ Some x in
     same_Some x y (sym (subst P same a) ∙ b)

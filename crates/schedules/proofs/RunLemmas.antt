@@ -4,6 +4,7 @@ use Rattle.std.specs.Prelude.{slice_get, ◌&&◌, if◌then◌else◌}
 use Rattle.std.specs.List.{Contains}
 use Rattle.std.proofs.lemmas.List.Kept.{AllPairs-from_increasing}
 use Rattle.std.proofs.lemmas.Option.{slice_get_within, get_or_from_slice_get}
+use Rattle.std.proofs.Math.Bool.{and-false}
 use Rattle.op_core.specs.declared.Limit.{Limit}
 use Rattle.op_core.specs.declared.How.{How}
 use Rattle.op_core.specs.declared.How.TheVariants.{Done, Died, Stuck}
@@ -17,7 +18,7 @@ use Rattle.schedules.proofs.ListLemmas.{head_there, tail_there, none_there, head
 use Rattle.schedules.specs.Laws.{IsDeterminate, RunsHaveOneEnd, RunsGoOn}
 
 -- two with the same numbers are the same
-one_list : (xs ys : List ℕ) → Rises xs → Rises ys → ((t : ℕ) → Contains xs t → Contains ys t) → ((t : ℕ) → Contains ys t → Contains xs t) → ys ≡ xs
+pub one_list : (xs ys : List ℕ) → Rises xs → Rises ys → ((t : ℕ) → Contains xs t → Contains ys t) → ((t : ℕ) → Contains ys t → Contains xs t) → ys ≡ xs
 one_list [] [] rises rise to from = refl
 one_list [] (y ∷ ys) rises rise to from = absurd (none_there y (from y (head_there y ys)))
 one_list (x ∷ xs) [] rises rise to from = absurd (none_there x (to x (head_there x xs)))
@@ -38,10 +39,6 @@ one_list (x ∷ xs) (y ∷ ys) rises rise to from =
       | inr other ↦ other
     ] in
     ap (λ z. z ∷ ys) heads ∙ ap (λ zs. x ∷ zs) (one_list xs ys (Rises-tail x xs rises) (Rises-tail y ys rise) forth back)
-
-and_false : (a : Bool) → (a && false) ≡ false
-and_false true = refl
-and_false false = refl
 
 -- one thread is picked, and it is enabled
 module _ (enabled : ℕ → Type 0) where
@@ -68,7 +65,7 @@ module _ (enabled : ℕ → Type 0) where
 due_none : (live : ℕ → Bool) (order : List OrderItem) → ((t : ℕ) → live t ≡ false) → due live order ≡ []
 due_none live [] none = refl
 due_none live (item ∷ order) none =
-    ap (λ b. if b then item ∷ order else due live order) (ap (λ b. has_turns item && b) (none (thread_of item)) ∙ and_false (has_turns item))
+    ap (λ b. if b then item ∷ order else due live order) (ap (λ b. has_turns item && b) (none (thread_of item)) ∙ and-false (has_turns item))
     ∙ due_none live order none
 
 run_same : {R : Type 0} (a b : Run R) → a.state ≡ b.state → a.rest ≡ b.rest → a ≡ b

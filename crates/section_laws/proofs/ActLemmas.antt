@@ -4,6 +4,8 @@ use Rattle.std.specs.Prelude.{Contains, nat_le, if◌then◌else◌}
 use Rattle.std.proofs.lemmas.Grind.{common_steps}
 use Rattle.std.proofs.lemmas.Bool.Decides.{nat_tests, leb_tells}
 use Rattle.std.proofs.lemmas.List.{append_assoc}
+use Rattle.std.proofs.lemmas.Bool.{eq-eqb, ne_eqb}
+use Rattle.std.proofs.lemmas.Option.{same_Some}
 use Rattle.op_core.specs.ThreadCode.{Code, quiet_step}
 use Rattle.op_core.specs.OrdinaryState.{set_at}
 use Rattle.op_core.proofs.PointwiseLemmas.{set_at-hit, set_at-other, same_or_other}
@@ -22,7 +24,7 @@ use Rattle.core_runs.specs.Cores.{Core, threads_by, core_after}
 use Rattle.core_runs.specs.Acts.{Act, quiet, did, beside, ActAt, ActFrom}
 use Rattle.section_laws.specs.Runs.{BeginsAt, IsRun, IsBeginning}
 use Rattle.section_laws.specs.InRuns.{StandsBehind, with_entry, with_entries, IsPlaceIn, ActsOf, BeginsSo, BeginAsHandedOut, RunsHaveActs}
-use Rattle.section_laws.proofs.ClaimLemmas.{none_some, some_is}
+use Rattle.section_laws.proofs.ClaimLemmas.{none_some}
 use Rattle.section_laws.proofs.FactLemmas.{Threads, each}
 use Rattle.section_laws.proofs.CoreRunLemmas.{in_front, behind_front, none_there, begun_later, equal, differ, sub_run}
 use Rattle.section_laws.proofs.NumberLemmas.{numbers_at, new_number}
@@ -53,16 +55,6 @@ take_whole (y ∷ xs) zero within = absurd (too_long (length xs) within)
     too_long : (n : ℕ) → suc n ≤ 0 → ⊥
     too_long n within = omega arith
 take_whole (y ∷ xs) (suc k) within = ap (λ zs. y ∷ zs) (take_whole xs k (omega (arith, within)))
-
-same_number : (n : ℕ) → nat_eq n n ≡ true
-same_number n = grind (arith, common_steps, nat_tests)
-
-other_number : (m n : ℕ) → m ≢ n → nat_eq m n ≡ false
-other_number m n other = by_test (nat_eq m n) refl
-  where
-    by_test : (t : Bool) → nat_eq m n ≡ t → nat_eq m n ≡ false
-    by_test true is = absurd (other (equal m n is))
-    by_test false is = is
 
 module _ {S : Type 0} (code : Code S) (b : Bounds) where
   -- the cores up to number n, and this one behind
@@ -262,10 +254,10 @@ module _ {S : Type 0} (code : Code S) (b : Bounds) where
     -- ---- the step of an entry
 
     part_own : (e : RunEntry) (run : List RunEntry) (t : ℕ) → t ≡ e.thread → part_of t (e ∷ run) ≡ e.made ∷ part_of t run
-    part_own e run t is = ap (λ test. if test then e.made ∷ part_of t run else part_of t run) (ap (λ n. nat_eq e.thread n) is ∙ same_number e.thread)
+    part_own e run t is = ap (λ test. if test then e.made ∷ part_of t run else part_of t run) (ap (λ n. nat_eq e.thread n) is ∙ eq-eqb e.thread e.thread refl)
 
     part_other : (e : RunEntry) (run : List RunEntry) (t : ℕ) → t ≢ e.thread → part_of t (e ∷ run) ≡ part_of t run
-    part_other e run t other = ap (λ test. if test then e.made ∷ part_of t run else part_of t run) (other_number e.thread t (λ is. other (sym is)))
+    part_other e run t other = ap (λ test. if test then e.made ∷ part_of t run else part_of t run) (ne_eqb e.thread t (λ is. other (sym is)))
 
     -- another thread stands as before
     stands_on : (e : RunEntry) (run : List RunEntry) (t : ℕ) (th : ThreadState S) → t ≢ e.thread → Stands run t th → Stands (e ∷ run) t th
@@ -331,7 +323,7 @@ module _ {S : Type 0} (code : Code S) (b : Bounds) where
             (ap (words_after e.made.step) p.words)
             (λ t th at. elim (same_or_other t e.thread) [
               | inl own ↦ subst (λ u. Stands (e ∷ run) u th) (sym own)
-                  (subst (Stands (e ∷ run) e.thread) (sym stays ∙ some_is turn.about th (sym there ∙ ap (last p).threads (sym own) ∙ at)) (turned turn))
+                  (subst (Stands (e ∷ run) e.thread) (sym stays ∙ same_Some turn.about th (sym there ∙ ap (last p).threads (sym own) ∙ at)) (turned turn))
               | inr other ↦ stands_on e run t th other (p.stands t th at)
             ]) (λ x at. p.begun x (subst (λ bs. Contains bs x) (beside_births e.made.step (births main run) is) at)) (e ∷ []) refl
 
@@ -534,11 +526,11 @@ module _ {S : Type 0} (code : Code S) (b : Bounds) where
         owns_before turn x at = elim (same_or_other x.number e.thread) [
           | inl own ↦
               let is : turn.own.birth ≡ x = single turn.own.birth x turn.own.begun at (turn.own.number ∙ sym own) in
-              subst (OwnTo code b (first x) (part_of x.number run)) (sym (ap (λ t. if t then turn.stood else ys x.number) (ap (λ n. nat_eq n e.thread) own ∙ same_number e.thread)))
+              subst (OwnTo code b (first x) (part_of x.number run)) (sym (ap (λ t. if t then turn.stood else ys x.number) (ap (λ n. nat_eq n e.thread) own ∙ eq-eqb e.thread e.thread refl)))
               (subst (λ (z : Birth). OwnTo code b (first z) (part_of x.number run) turn.stood) is
               (subst (λ n. OwnTo code b (first turn.own.birth) (part_of n run) turn.stood) (sym own) turn.own.own))
           | inr other ↦
-              subst (OwnTo code b (first x) (part_of x.number run)) (sym (ap (λ t. if t then turn.stood else ys x.number) (other_number x.number e.thread other)))
+              subst (OwnTo code b (first x) (part_of x.number run)) (sym (ap (λ t. if t then turn.stood else ys x.number) (ne_eqb x.number e.thread other)))
               (subst (λ part. OwnTo code b (first x) part (ys x.number)) (part_other e run x.number other) (owns x (begun_later e.made.step (births main run) x at)))
         ]
 
@@ -550,7 +542,7 @@ module _ {S : Type 0} (code : Code S) (b : Bounds) where
           where
             there : (last r.path).threads e.thread ≡ Some turn.stood
             there = ap (last r.path).threads (sym turn.own.number) ∙ r.threads turn.own.birth turn.own.begun
-                ∙ ap Some (ap (λ t. if t then turn.stood else ys turn.own.birth.number) (ap (λ n. nat_eq n e.thread) turn.own.number ∙ same_number e.thread))
+                ∙ ap Some (ap (λ t. if t then turn.stood else ys turn.own.birth.number) (ap (λ n. nat_eq n e.thread) turn.own.number ∙ eq-eqb e.thread e.thread refl))
 
             q : Quieted run (last r.path).threads e.thread turn.about
             q = quiet_grow run r.path e.thread turn.stood turn.own there turn.moves turn.about turn.quiet
@@ -569,7 +561,7 @@ module _ {S : Type 0} (code : Code S) (b : Bounds) where
             as_before x at = elim (same_or_other x.number e.thread) [
               | inl own ↦ done.now x at own ∙ ap (λ n. Some (ys n)) (sym own)
               | inr other ↦ done.others x at other ∙ q.others x.number other ∙ r.threads x at
-                  ∙ ap Some (ap (λ t. if t then turn.stood else ys x.number) (other_number x.number e.thread other))
+                  ∙ ap Some (ap (λ t. if t then turn.stood else ys x.number) (ne_eqb x.number e.thread other))
             ]
 
             no_part : (n r p : ℕ) → e.made.step ≡ Split n r p → part_of n (e ∷ run) ≡ []

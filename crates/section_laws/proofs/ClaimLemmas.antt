@@ -3,6 +3,7 @@ use Rattle.std.proofs.Common.{◌≡◌, ◌⊎◌, inl, inr, ℕ, zero, suc, �
 use Rattle.std.specs.Prelude.{nat_lt, if◌then◌else◌}
 use Rattle.std.proofs.lemmas.Grind.{common_steps}
 use Rattle.std.proofs.lemmas.Bool.Decides.{nat_tests}
+use Rattle.std.proofs.lemmas.Option.{same_Some}
 use Rattle.op_core.specs.ThreadCode.{Code}
 use Rattle.heap_words.specs.declared.areas.Area.TheVariants.{Control, Section, Object}
 use Rattle.heap_words.specs.Words.{pack}
@@ -142,9 +143,6 @@ pub data OpenStep {S : Type 0} (th : ThreadState S) (v : Words) (next : View S) 
   same : next.section ≡ th.section → OpenStep th v next
   opened : state_of (v (Section next.section)) ≡ 1 → OpenStep th v next
 
-pub some_is : {A : Type 0} (x y : A) → Some x ≡ Some y → x ≡ y
-some_is x y is = ap (λ o. elim o [ None ↦ x | Some z ↦ z ]) is
-
 abbrev IsSome : {A : Type 0} → Option A → Type 0
 IsSome (Some x) = Unit {0}
 IsSome None = ⊥
@@ -220,8 +218,8 @@ module _ {S : Type 0} (code : Code S) (th : ThreadState S) (w : Words) where
   pub undoing_steps : {step : Step} {a : Answer} {v : View S} → Deed code th step a v → a ≡ answer_of w step → (seen : ℕ) → v.undoing ≡ Some seen
       → UndoingStep th w (words_after step w) v seen
   undoing_steps (sees_own_revoked {w = x} unpinned revoked no_undo) is seen undoing =
-      let now : w (Section th.section) ≡ seen = sym (found_is x (w (Section th.section)) is) ∙ some_is x seen undoing in
-      seen_now refl (open_above th unpinned) now now (ap state_of (sym (some_is x seen undoing)) ∙ state_is Revoking x revoked)
+      let now : w (Section th.section) ≡ seen = sym (found_is x (w (Section th.section)) is) ∙ same_Some x seen undoing in
+      seen_now refl (open_above th unpinned) now now (ap state_of (sym (same_Some x seen undoing)) ∙ state_is Revoking x revoked)
   undoing_steps (puts_word_back at unpinned logs) is seen undoing = seen_before refl undoing refl
   undoing_steps (gives_back at) is seen undoing = seen_before refl undoing refl
   undoing_steps (plain leaves no_undo) is seen undoing = none_some seen undoing

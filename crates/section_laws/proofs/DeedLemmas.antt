@@ -38,9 +38,9 @@ use Rattle.thread_automaton.specs.Answers.{change_of}
 use Rattle.thread_automaton.specs.Told.{Told, advanced, born, told, counted_for, after_answer, after_quiet}
 use Rattle.automaton_rows.specs.Fits.{StageFits}
 use Rattle.automaton_rows.specs.Rows.{Row, is_lost, own_pinned, own_revoked, own_stands, pins, restores, gives_monitor_back, is_undone, class_found, word_read, word_seen, word_written, is_unsafe, tag_stays, tag_undone, tag_live, tag_waits, tag_pinned, has_room, heap_full, object_made, free_first, section_numbered, sections_full, section_opened, free_more, monitor_taken, own_again, own_full, entered_again, held_by_other, holder_lower, holder_busy, holder_revoked, is_notified, not_notified, not_owner, exits_inner, exits_last, exits_one, left_once, section_committed, monitor_left, section_left, wait_begins, wait_noted, wait_made, notify_begins, waiter_found, waiter_passed, none_waits, waiter_woken, line_printed, start_begins, was_started, thread_numbered, threads_full, is_started, handed_out, never_started, join_begins, is_alive, has_ended, thread_ended, is_ready, is_bad, is_unready, is_claimed, is_others, class_claimed, class_settled}
-use Rattle.automaton_rows.proofs.RowLemmas.{answers_are_rows, words_can_answer}
+use Rattle.automaton_rows.proofs.RowLemmas.{answers_are_rows, words_can_answer, by_if}
 use Rattle.section_laws.specs.Undoing.{IsWordStep}
-use Rattle.section_laws.proofs.WordLemmas.{by_if, state_packed, state_is, lost, stays_at}
+use Rattle.section_laws.proofs.WordLemmas.{state_packed, state_is, lost, stays_at}
 
 -- ---- what is seen of a thread
 

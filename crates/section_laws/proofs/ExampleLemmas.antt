@@ -1,6 +1,7 @@
 -- Two threads, of which the second, of higher priority, revokes the section of the first.
 use Rattle.std.proofs.Common.{◌≡◌, ◌≢◌, ◌⊎◌, inl, inr, ℕ, zero, suc, ◌≤◌, Bool, false, true≢false, length, Option, None, Some, List, [], ◌∷◌, refl, sym, ◌∙◌, ap, subst, arith}
 use Rattle.std.specs.Prelude.{slice_get}
+use Rattle.std.proofs.lemmas.Option.{same_Some}
 use Rattle.op_core.specs.declared.Op.{Op}
 use Rattle.op_core.specs.declared.Op.TheVariants.{Enter, Write}
 use Rattle.op_core.specs.declared.Next.{Next}
@@ -27,7 +28,7 @@ use Rattle.section_laws.specs.Runs.{IsRun}
 use Rattle.section_laws.specs.Layout.{end_of, IsLaidOut, WantsFitObjects, KeepsLayout}
 use Rattle.section_laws.specs.UndoOrder.{FindsRevoked}
 use Rattle.section_laws.specs.Example.{UndoneRun}
-use Rattle.section_laws.proofs.ClaimLemmas.{some_is, none_some}
+use Rattle.section_laws.proofs.ClaimLemmas.{none_some}
 use Rattle.section_laws.proofs.FactLemmas.{each}
 use Rattle.section_laws.proofs.RunLemmas.{along}
 use Rattle.section_laws.proofs.LayoutLemmas.{runs_keep_layout}
@@ -173,7 +174,7 @@ Each P (x ∷ acts) = P x × Each P acts
 
 each_get : (P : Act → Type 0) (acts : List Act) (k : ℕ) (x : Act) → Each P acts → slice_get acts k ≡ Some x → P x
 each_get P [] k x all at = none_some x at
-each_get P (y ∷ acts) zero x all at = subst P (some_is y x at) all.0
+each_get P (y ∷ acts) zero x all at = subst P (same_Some y x at) all.0
 each_get P (y ∷ acts) (suc k) x all at = each_get P acts k x all.1 at
 
 abbrev pub place_number : Area → ℕ
@@ -236,9 +237,9 @@ EachObject P = (r : ℕ) (o : Object) → example_objects r ≡ Some o → P r o
 each_object : (P : ℕ → Object → Type 0) → P 1 small_object → P 3 one_word → EachObject P
 each_object P one three r o there =
     set_at-at (λ (x : Option Object). x ≡ Some o → P r o) (set_at (λ q. None) 1 (Some small_object)) 3 (Some one_word) r
-    (λ is same. subst (P r) (some_is one_word o same) (subst (λ q. P q one_word) (sym is) three))
+    (λ is same. subst (P r) (same_Some one_word o same) (subst (λ q. P q one_word) (sym is) three))
     (λ other same. set_at-at (λ (x : Option Object). x ≡ Some o → P r o) (λ q. None) 1 (Some small_object) r
-    (λ is so. subst (P r) (some_is small_object o so) (subst (λ q. P q small_object) (sym is) one)) (λ away none. none_some o none) same) there
+    (λ is so. subst (P r) (same_Some small_object o so) (subst (λ q. P q small_object) (sym is) one)) (λ away none. none_some o none) same) there
 
 laid_out : IsLaidOut 20 first_core.words example_objects
 laid_out = record {

@@ -1,5 +1,6 @@
 -- What is so of sections at each place of a run.
 use Rattle.std.proofs.Common.{◌≡◌, ◌≢◌, ℕ, zero, suc, ◌<◌, ◌≤◌, true, true≢false, Option, Some, refl, sym, ◌∙◌, ap, subst, arith}
+use Rattle.std.proofs.lemmas.Option.{same_Some}
 use Rattle.op_core.specs.ThreadCode.{Code}
 use Rattle.op_core.specs.OrdinaryState.{set_at}
 use Rattle.op_core.proofs.PointwiseLemmas.{set_at-at}
@@ -15,7 +16,7 @@ use Rattle.automaton_rows.specs.Fits.{IsFit}
 use Rattle.automaton_rows.proofs.FitLemmas.{first_states_fit}
 use Rattle.section_laws.proofs.WordLemmas.{state_replaced, state_of_zero}
 use Rattle.section_laws.proofs.DeedLemmas.{opening_of, undoing_of, View, view, calm, Deed}
-use Rattle.section_laws.proofs.ClaimLemmas.{claim, claim_none, claim_some, claim_calm, some_is, none_some, Change, stays, is_opened, is_pinned, is_revoked, is_committed, is_undone, section_changes, keeps, takes, claim_steps, opens_none, opens_next, opening_steps, seen_before, seen_now, undoing_steps, shut, same, opened, open_steps}
+use Rattle.section_laws.proofs.ClaimLemmas.{claim, claim_none, claim_some, claim_calm, none_some, Change, stays, is_opened, is_pinned, is_revoked, is_committed, is_undone, section_changes, keeps, takes, claim_steps, opens_none, opens_next, opening_steps, seen_before, seen_now, undoing_steps, shut, same, opened, open_steps}
 
 abbrev pub Threads : Type 0 → Type 0
 Threads S = ℕ → Option (ThreadState S)
@@ -53,7 +54,7 @@ pub each : {S : Type 0} (P : ThreadState S → Type 0) (threads : Threads S) (t 
     → ((uh : ThreadState S) → u ≢ t → threads u ≡ Some uh → P uh) → (uh : ThreadState S) → set_at threads t (Some y) u ≡ Some uh → P uh
 each {S} P threads t y u own other uh is =
     set_at-at (λ o. (vh : ThreadState S) → o ≡ Some vh → P vh) threads t (Some y) u
-    (λ here vh at. subst P (some_is y vh at) (own here)) (λ there vh at. other vh there at) uh is
+    (λ here vh at. subst P (same_Some y vh at) (own here)) (λ there vh at. other vh there at) uh is
 
 -- a change of a section's word leaves it opened
 pub stays_opened : {S : Type 0} {th : ThreadState S} {s old new : ℕ} → Change th s old new → 0 < state_of old → 0 < state_of new

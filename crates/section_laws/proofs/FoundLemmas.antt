@@ -1,6 +1,7 @@
 -- A thread that undoes its section has found it revoked.
 use Rattle.std.proofs.Common.{◌≡◌, ℕ, suc, ◌<◌, ◌≤◌, true, None, Some, List, length, refl, sym, ◌∙◌, ap, subst, arith}
 use Rattle.std.specs.Prelude.{slice_get}
+use Rattle.std.proofs.lemmas.Option.{same_Some, slice_get_within}
 use Rattle.op_core.specs.ThreadCode.{Code}
 use Rattle.op_core.specs.OrdinaryState.{set_at}
 use Rattle.section_state.specs.declared.State.TheVariants.{Revoking}
@@ -17,9 +18,9 @@ use Rattle.core_runs.specs.Acts.{Act, quiet, did, beside, ActAt}
 use Rattle.section_laws.specs.Runs.{IsRun}
 use Rattle.section_laws.specs.UndoOrder.{FindsRevoked, UndoneSectionsWereFoundRevoked}
 use Rattle.section_laws.proofs.DeedLemmas.{undoing_of, View, view, Deed, sees_own_revoked, puts_word_back, gives_back}
-use Rattle.section_laws.proofs.ClaimLemmas.{none_some, some_is}
+use Rattle.section_laws.proofs.ClaimLemmas.{none_some}
 use Rattle.section_laws.proofs.FactLemmas.{Threads, each}
-use Rattle.section_laws.proofs.RunLemmas.{get_below, along, deed_at, facts_at}
+use Rattle.section_laws.proofs.RunLemmas.{along, deed_at, facts_at}
 use Rattle.section_laws.proofs.GoneLemmas.{ending, ends_so}
 
 -- what a step makes of the undoing of a section
@@ -76,7 +77,7 @@ module _ {S : Type 0} (code : Code S) (b : Bounds) (c : ℕ → Core S) (acts : 
       by_own t own w undoing (goes_on same section) =
           subst (λ s. HasLooked (suc k) t s w) (sym section) (later k t at.from.section w (so t at.from (ap (c k).threads own ∙ at.stands) w (sym same ∙ undoing)))
       by_own t own w undoing (finds_now v looks found revoked now section) =
-          let same : v ≡ w = some_is v w (sym now ∙ undoing) in
+          let same : v ≡ w = same_Some v w (sym now ∙ undoing) in
           record {
             at = k;
             earlier = omega arith;
@@ -94,7 +95,7 @@ module _ {S : Type 0} (code : Code S) (b : Bounds) (c : ℕ → Core S) (acts : 
   all_found k within =
       along code b c acts run.leads (λ n. AllFound n (c n).threads)
       (λ t th at w undoing. none_some w (sym (ap (λ (x : ThreadState S). undoing_of x.stage) (run.begins.threads t th at).3) ∙ undoing))
-      (λ n x here at so. act_found n x here at (let below = get_below acts n x here in omega (arith, below)) so) k within
+      (λ n x here at so. act_found n x here at (let below = slice_get_within acts n x here in omega (arith, below)) so) k within
 
   was_found : (q t s x : ℕ) → slice_get acts q ≡ Some (did t (MarkUndone s x) Answer.Done) → (w : ℕ) × HasLooked q t s w
   was_found q t s x undone =
@@ -102,7 +103,7 @@ module _ {S : Type 0} (code : Code S) (b : Bounds) (c : ℕ → Core S) (acts : 
       let ends = ends_so code b c acts run q t s x undone in (
         ends.seen,
         subst (λ n. HasLooked q t n ends.seen) (sym ends.own)
-            (all_found q (let below = get_below acts q (did t (MarkUndone s x) Answer.Done) undone in omega (arith, below)) t end.from end.stands ends.seen ends.undoing),
+            (all_found q (let below = slice_get_within acts q (did t (MarkUndone s x) Answer.Done) undone in omega (arith, below)) t end.from end.stands ends.seen ends.undoing),
       )
 
 pub were_found_revoked : {S : Type 0} (code : Code S) → UndoneSectionsWereFoundRevoked code

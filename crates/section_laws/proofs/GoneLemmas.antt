@@ -2,6 +2,7 @@
 use Rattle.std.proofs.Common.{◌≡◌, ◌≢◌, inl, inr, ℕ, suc, ◌<◌, ◌≤◌, true, Some, List, length, refl, sym, ◌∙◌, ap, subst, arith}
 use Rattle.std.specs.Prelude.{slice_get}
 use Rattle.std.proofs.lemmas.Bool.Decides.{leb_tells}
+use Rattle.std.proofs.lemmas.Option.{slice_get_within}
 use Rattle.op_core.specs.ThreadCode.{Code}
 use Rattle.op_core.specs.OrdinaryState.{set_at}
 use Rattle.op_core.proofs.PointwiseLemmas.{same_or_other}
@@ -23,7 +24,7 @@ use Rattle.section_laws.specs.Undoing.{WritesObjectWords, IsHeapWord}
 use Rattle.section_laws.proofs.DeedLemmas.{view, Undoes, done_as}
 use Rattle.section_laws.proofs.ClaimLemmas.{open_above}
 use Rattle.section_laws.proofs.FactLemmas.{Threads, each}
-use Rattle.section_laws.proofs.RunLemmas.{get_below, along, deed_at, facts_at}
+use Rattle.section_laws.proofs.RunLemmas.{along, deed_at, facts_at}
 use Rattle.section_laws.proofs.PinLemmas.{Settled, Gone, state_moves, gone_follows, from_to, did_at, sections_apart, opens_once}
 use Rattle.section_laws.proofs.LogLemmas.{In, idles, sheds, begins, notes, restores}
 use Rattle.section_laws.proofs.KnownLemmas.{IsSettled}
@@ -49,7 +50,7 @@ beside_object step is w at = cc
 module _ {S : Type 0} (code : Code S) (b : Bounds) (c : ℕ → Core S) (acts : List Act) (run : IsRun code b c acts) (q t s w : ℕ)
     (undone : slice_get acts q ≡ Some (did t (MarkUndone s w) Answer.Done)) where
   within_q : q ≤ length acts
-  within_q = let below = get_below acts q (did t (MarkUndone s w) Answer.Done) undone in omega (arith, below)
+  within_q = let below = slice_get_within acts q (did t (MarkUndone s w) Answer.Done) undone in omega (arith, below)
 
   pub ending : DidAt code b c q t (MarkUndone s w) Answer.Done
   ending = did_at code b c acts run q t (MarkUndone s w) Answer.Done undone
@@ -102,7 +103,7 @@ module _ {S : Type 0} (code : Code S) (b : Bounds) (c : ℕ → Core S) (acts : 
   act_closed k (beside u step a) up here at closed = subst (λ z. Closed z.threads) (sym at.leads) closed
   act_closed k (did u step a) up here at closed =
       did_closed k u step a at
-      (λ is. by_number is (section_step (deed_at code b c k at (facts_at code b c acts run k (let below = get_below acts k (did u step a) here in omega (arith, below))))))
+      (λ is. by_number is (section_step (deed_at code b c k at (facts_at code b c acts run k (let below = slice_get_within acts k (did u step a) here in omega (arith, below))))))
       (λ v vh other there is. closed v vh there is)
     where
       y : ThreadState S
@@ -165,7 +166,7 @@ module _ {S : Type 0} (code : Code S) (b : Bounds) (c : ℕ → Core S) (acts : 
         ]
       where
         within : k ≤ length acts
-        within = let below = get_below acts k (did u step a) here in omega (arith, below)
+        within = let below = slice_get_within acts k (did u step a) here in omega (arith, below)
 
     act_free : (k : ℕ) (x : Act) → q < k → slice_get acts k ≡ Some x → ActAt code b c k x → Free k → Free (suc k)
     act_free k (quiet u) up here at free place heap carries = free place heap (ap (λ z. tag_of (z.words (Object place))) (sym at.leads) ∙ carries)

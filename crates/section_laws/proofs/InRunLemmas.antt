@@ -3,6 +3,7 @@ use Rattle.std.proofs.Common.{◌≡◌, ◌≢◌, ◌⊎◌, inl, inr, ℕ, ze
 use Rattle.std.specs.Prelude.{Contains, slice_get, if◌then◌else◌}
 use Rattle.std.proofs.lemmas.Grind.{common_steps}
 use Rattle.std.proofs.lemmas.Bool.Decides.{nat_tests}
+use Rattle.std.proofs.lemmas.Option.{same_Some}
 use Rattle.op_core.specs.ThreadCode.{Code}
 use Rattle.heap_words.specs.declared.areas.Area.TheVariants.{Section}
 use Rattle.section_state.specs.SectionWord.{state_of}
@@ -23,7 +24,7 @@ use Rattle.section_laws.specs.Runs.{BeginsAt, MayBecome, IsPinnedOrRevoked}
 use Rattle.section_laws.specs.InRuns.{StandsBehind, IsMaker, OpensWith, SectionsComeOnInRuns, SectionsOpenOnceInRuns, SectionsAreApartInRuns, OthersSectionsStayInRuns, ReadsIn, WritesOverIn, ObservesIn, ObservedSectionsStayInRuns}
 use Rattle.section_laws.proofs.WordLemmas.{state_of_zero, put_section, state_packed}
 use Rattle.section_laws.proofs.DeedLemmas.{opening_of, view, Deed, done_as}
-use Rattle.section_laws.proofs.ClaimLemmas.{is_zero, above, claim_some, section_changes, some_is}
+use Rattle.section_laws.proofs.ClaimLemmas.{is_zero, above, claim_some, section_changes}
 use Rattle.section_laws.proofs.FactLemmas.{Facts}
 use Rattle.section_laws.proofs.PinLemmas.{Settled, Gone, state_moves, settled_follows, some_follows, touches, change_becomes, was_unopened, opens_it, beside_stays}
 use Rattle.section_laws.proofs.KnownLemmas.{IsSettled, safe_cases, knows_same, knows_now, known_steps, settles, read_safe}
@@ -35,7 +36,7 @@ is_in_list [] k x at = absurd (no_item k at)
   where
     no_item : (k : ℕ) → slice_get [] k ≡ Some x → ⊥
     no_item k at = cc
-is_in_list (y ∷ xs) zero x at = (0, omega arith, some_is y x at)
+is_in_list (y ∷ xs) zero x at = (0, omega arith, same_Some y x at)
 is_in_list (y ∷ xs) (suc k) x at = behind_front y x xs (is_in_list xs k x at)
 
 abbrev made_as : Step → Answer → StepMade
@@ -94,8 +95,8 @@ module _ {S : Type 0} (code : Code S) (b : Bounds) (first : Birth → ThreadStat
   once : (run : List RunEntry) → IsOne run → (j k t u s v x : ℕ) → slice_get run j ≡ Some (opening t s v) → slice_get run k ≡ Some (opening u s x) → j ≡ k
   once [] so j k t u s v x at there = none_there _ (is_in_list [] j _ at)
   once (e ∷ run) so zero zero t u s v x at there = refl
-  once (e ∷ run) so zero (suc k) t u s v x at there = absurd (not_again e run so t u s v x (some_is e _ at) (is_in_list run k _ there))
-  once (e ∷ run) so (suc j) zero t u s v x at there = absurd (not_again e run so u t s x v (some_is e _ there) (is_in_list run j _ at))
+  once (e ∷ run) so zero (suc k) t u s v x at there = absurd (not_again e run so t u s v x (same_Some e _ at) (is_in_list run k _ there))
+  once (e ∷ run) so (suc j) zero t u s v x at there = absurd (not_again e run so u t s x v (same_Some e _ there) (is_in_list run j _ at))
   once (e ∷ run) so (suc j) (suc k) t u s v x at there = ap suc (once run (shorter e run so) j k t u s v x at there)
 
   -- ---- the sections of others

@@ -3,6 +3,7 @@ use Rattle.std.proofs.Common.{◌≡◌, ◌≢◌, ◌⊎◌, inl, inr, ℕ, su
 use Rattle.std.specs.Prelude.{if◌then◌else◌}
 use Rattle.std.proofs.lemmas.Grind.{common_steps}
 use Rattle.std.proofs.lemmas.Bool.Decides.{nat_tests}
+use Rattle.std.proofs.lemmas.Option.{same_Some, slice_get_within}
 use Rattle.op_core.specs.declared.Op.TheVariants.{Read}
 use Rattle.op_core.specs.declared.Reply.{Reply}
 use Rattle.op_core.specs.declared.Reply.TheVariants.{Value}
@@ -33,9 +34,9 @@ use Rattle.section_laws.specs.Runs.{IsRun}
 use Rattle.section_laws.specs.Observed.{Reads, WritesOver, Observes, ObservedSectionsStay}
 use Rattle.section_laws.proofs.WordLemmas.{state_replaced, state_is, exchanged, put_section}
 use Rattle.section_laws.proofs.DeedLemmas.{View, Deed, plain, sees_own_pinned, sees_own_revoked, pins_own, pins_writer, knows_writer, puts_word_back, gives_back, undoes, overwrites, draws, draws_none, opens_section, revokes, commits, closes_section, done_as}
-use Rattle.section_laws.proofs.ClaimLemmas.{found_is, some_is}
+use Rattle.section_laws.proofs.ClaimLemmas.{found_is}
 use Rattle.section_laws.proofs.FactLemmas.{Threads, each}
-use Rattle.section_laws.proofs.RunLemmas.{get_below, along, Known, deed_at}
+use Rattle.section_laws.proofs.RunLemmas.{along, Known, deed_at}
 use Rattle.section_laws.proofs.PinLemmas.{Moves, Settled, state_moves, settled_follows, act_moves, did_at, known_at, unrevoked_settled}
 
 -- no section, or one that is pinned or committed
@@ -163,12 +164,12 @@ module _ {S : Type 0} (code : Code S) (b : Bounds) where
     seen_safe k u th w stands (inl reads) = read_safe th (code.next th.local) reads.at w reads.wants.0 reads.wants.1 reads.gets.0 reads.wants.2 reads.gets.1
     seen_safe k u th w stands (inr writes) =
         let at = did_at code b c acts run k u (SwapWord writes.at w writes.new) Answer.Done writes.swaps in
-        let same : at.from ≡ th = some_is at.from th (sym at.stands ∙ stands) in
+        let same : at.from ≡ th = same_Some at.from th (sym at.stands ∙ stands) in
         subst (λ x. is_safe x w ≡ true) same (done_as (deed_at code b c k at (known_at code b c acts run k _ writes.swaps)) refl)
 
     act_there : (k u : ℕ) (th : ThreadState S) (w : ℕ) → (Reads code b acts k u th w) ⊎ (WritesOver acts k u w) → k ≤ length acts
-    act_there k u th w (inl reads) = let below = get_below acts k _ reads.loads in omega (arith, below)
-    act_there k u th w (inr writes) = let below = get_below acts k _ writes.swaps in omega (arith, below)
+    act_there k u th w (inl reads) = let below = slice_get_within acts k _ reads.loads in omega (arith, below)
+    act_there k u th w (inr writes) = let below = slice_get_within acts k _ writes.swaps in omega (arith, below)
 
     observed_settled : (k u s : ℕ) → s ≢ 0 → Observes code b c acts k u s → Settled (state_of ((c k).words (Section s)))
     observed_settled k u s some sees = elim (safe_cases sees.th sees.word (seen_safe k u sees.th sees.word sees.stands sees.sees)) [

@@ -1,6 +1,7 @@
 -- Objects lie apart at each place of a run.
 use Rattle.std.proofs.Common.{◌≡◌, ◌≢◌, ◌⊎◌, inl, inr, ℕ, ◌+◌, ◌<◌, ◌≤◌, true≢false, Option, None, Some, refl, sym, ◌∙◌, ap, subst, arith}
 use Rattle.std.specs.Prelude.{IsSome, IsSomeAnd}
+use Rattle.std.proofs.lemmas.Option.{same_Some}
 use Rattle.op_core.specs.declared.Op.{Op}
 use Rattle.op_core.specs.declared.Op.TheVariants.{Write, New, Enter, Exit, Wait, Rewake}
 use Rattle.op_core.specs.declared.Next.{Next}
@@ -25,7 +26,7 @@ use Rattle.automaton_rows.specs.Fits.{StageFits}
 use Rattle.core_runs.specs.Cores.{threads_by, objects_by}
 use Rattle.section_laws.specs.Layout.{end_of}
 use Rattle.section_laws.proofs.WordLemmas.{stays_at}
-use Rattle.section_laws.proofs.ClaimLemmas.{some_is, none_some, found_is}
+use Rattle.section_laws.proofs.ClaimLemmas.{none_some, found_is}
 use Rattle.section_laws.proofs.FactLemmas.{Threads, each}
 use Rattle.section_laws.proofs.LogLemmas.{In}
 use Rattle.section_laws.proofs.PlaceLemmas.{NamesMonitor, NamesWrite, Names, step_names, new_place, owned_by, OwnedStep, owned_steps, new_wanted}
@@ -146,7 +147,7 @@ module _ {S : Type 0} (code : Code S) (b : Bounds) (begun : Objects) (w : Words)
     | no_more same ↦ old q p (ap (λ (f : Objects). f q) (sym same) ∙ there)
     | one_more r c n at wants same ↦
         set_at-at (λ o. (x : Object) → o ≡ Some x → P q x) objects r (Some (record { class = c; length = n; words = code.words th.local c n })) q
-        (λ own x is_x. subst (P q) (some_is (record { class = c; length = n; words = code.words th.local c n }) x is_x) (subst (λ m. P m (record { class = c; length = n; words = code.words th.local c n })) (sym own) (new r c n at wants)))
+        (λ own x is_x. subst (P q) (same_Some (record { class = c; length = n; words = code.words th.local c n }) x is_x) (subst (λ m. P m (record { class = c; length = n; words = code.words th.local c n })) (sym own) (new r c n at wants)))
         (λ other x is_x. old q x is_x) p (ap (λ (f : Objects). f q) (sym same) ∙ there)
   ]
 
@@ -188,7 +189,7 @@ module _ {S : Type 0} (code : Code S) (b : Bounds) (begun : Objects) (w : Words)
         | inl high ↦ inl (subst (λ e. e ≤ n) (same_end m c k wants) high)
         | inr low ↦ inr low
       ])
-      (λ n d j at_too wants_too other. absurd (other (some_is m n (sym at ∙ at_too)))) q p also)
+      (λ n d j at_too wants_too other. absurd (other (same_Some m n (sym at ∙ at_too)))) q p also)
       r o there
 
   low_after : (r : ℕ) (o : Object) → objects_after r ≡ Some o → end_of r o ≤ b.first + after (Control 2)
@@ -227,7 +228,7 @@ module _ {S : Type 0} (code : Code S) (b : Bounds) (begun : Objects) (w : Words)
     | inl none ↦ none_some r (sym none ∙ new)
     | inr takes ↦
         let count : takes.taken ≡ w (Control 2) = found_is takes.taken (w (Control 2)) (sym takes.answered ∙ is ∙ ap (answer_of w) takes.step_is) in
-        let place : r ≡ takes.taken + b.first = some_is r (takes.taken + b.first) (sym new ∙ takes.new) in
+        let place : r ≡ takes.taken + b.first = same_Some r (takes.taken + b.first) (sym new ∙ takes.new) in
         let size : size_of code y.local (code.next y.local) ≡ words_asked code th.local takes.class takes.size =
         ap (λ l. size_of code l (code.next l)) takes.local ∙ ap (λ next. size_of code th.local next) takes.wants in
         let grown : after (Control 2) ≡ w (Control 2) + words_asked code th.local takes.class takes.size = ap (λ m. words_after m w (Control 2)) takes.step_is in

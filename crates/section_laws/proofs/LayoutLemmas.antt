@@ -2,6 +2,7 @@
 use Rattle.std.proofs.Common.{◌≡◌, ◌≢◌, inl, inr, ℕ, suc, ◌+◌, ◌<◌, ◌≤◌, Bool, true, Some, List, length, refl, sym, ◌∙◌, ap, subst, arith}
 use Rattle.std.specs.Prelude.{slice_get}
 use Rattle.std.proofs.lemmas.Bool.Decides.{leb_tells}
+use Rattle.std.proofs.lemmas.Option.{same_Some, slice_get_within}
 use Rattle.op_core.specs.declared.Op.{Op}
 use Rattle.op_core.specs.declared.Op.TheVariants.{ClassOf, Read, Write, Start, Join}
 use Rattle.op_core.specs.declared.Next.{Next}
@@ -28,8 +29,8 @@ use Rattle.section_laws.specs.Runs.{IsRun}
 use Rattle.section_laws.specs.Undoing.{IsWordStep, IsHeapWord, Overwrites}
 use Rattle.section_laws.specs.Gone.{IsMonitorStep, IsMonitor}
 use Rattle.section_laws.specs.Layout.{IsLaidOut, WantsFitObjects, KeepsLayout, RunsKeepLayout}
-use Rattle.section_laws.proofs.ClaimLemmas.{some_is, none_some}
-use Rattle.section_laws.proofs.RunLemmas.{get_below, along, act_at, Known, facts_at}
+use Rattle.section_laws.proofs.ClaimLemmas.{none_some}
+use Rattle.section_laws.proofs.RunLemmas.{along, act_at, Known, facts_at}
 use Rattle.section_laws.proofs.LogLemmas.{In}
 use Rattle.section_laws.proofs.GoneLemmas.{along_from}
 use Rattle.section_laws.proofs.PlaceLemmas.{NamesStart, NamesWord, NamesWrite, Names, step_names, new_place, new_wanted}
@@ -102,7 +103,7 @@ module _ {S : Type 0} (code : Code S) (b : Bounds) (is_thread : ℕ → Bool) (c
   starts_kept k t th within stands op is = (wants k t th op within stands is).2
 
   below : (k : ℕ) (x : Act) → slice_get acts k ≡ Some x → k ≤ length acts
-  below k x here = let within = get_below acts k x here in omega (arith, within)
+  below k x here = let within = slice_get_within acts k x here in omega (arith, within)
 
   beside_count : (step : Step) → is_beside step ≡ true → (w : Words) → words_after step w (Area.Control 2) ≡ w (Area.Control 2)
   beside_count LoadStop is w = refl
@@ -146,7 +147,7 @@ module _ {S : Type 0} (code : Code S) (b : Bounds) (is_thread : ℕ → Bool) (c
 
   laid_at : (k : ℕ) → k ≤ length acts → Known code (c k) × LaidAt k
   laid_at k within = along code b c acts run.leads (λ n. Known code (c n) × LaidAt n) (facts_at code b c acts run 0 (omega arith), first_laid)
-      (λ n x here at so. (facts_at code b c acts run (suc n) (get_below acts n x here), act_laid n x here at so.0 so.1)) k within
+      (λ n x here at so. (facts_at code b c acts run (suc n) (slice_get_within acts n x here), act_laid n x here at so.0 so.1)) k within
 
   -- ---- objects stay
 
@@ -219,28 +220,28 @@ module _ {S : Type 0} (code : Code S) (b : Bounds) (is_thread : ℕ → Bool) (c
       where
         by_step : (m : Step) → step ≡ m → place_number (place_of m) ≡ at → IsObject (place_of m) → Names (code.next did_it.from.local) did_it.from.stage did_it.from.log did_it.from.held m → MadeOn (suc k) m at
         by_step (LoadWord q) same is object named =
-            made_later k (get_below acts k (did t step a) here) (subst (λ p. MadeOn k (LoadWord q) p) is (read_on is_thread (c k).objects (LoadWord q) (code.next did_it.from.local) q tt named all))
+            made_later k (slice_get_within acts k (did t step a) here) (subst (λ p. MadeOn k (LoadWord q) p) is (read_on is_thread (c k).objects (LoadWord q) (code.next did_it.from.local) q tt named all))
         by_step (SwapWord q old new) same is object named =
-            made_later k (get_below acts k (did t step a) here)
+            made_later k (slice_get_within acts k (did t step a) here)
             (subst (λ p. MadeOn k (SwapWord q old new) p) is (made_on_word is_thread (c k).objects (SwapWord q old new) q tt (write_there (c k).objects (code.next did_it.from.local) q named all)))
         by_step (RestoreWord q old) same is object (x, there, placed) =
-            made_later k (get_below acts k (did t step a) here)
+            made_later k (slice_get_within acts k (did t step a) here)
             (subst (λ p. MadeOn k (RestoreWord q old) p) (placed ∙ is) (made_on_word is_thread (c k).objects (RestoreWord q old) x.at tt (known.1.logged t x did_it.from did_it.stands there)))
         by_step (LoadMonitor q) same is object named =
-            made_later k (get_below acts k (did t step a) here) (made_on_monitor is_thread (c k).objects (LoadMonitor q) at q tt (sym is) (monitor_there (c k).objects (code.next did_it.from.local) q named all))
+            made_later k (slice_get_within acts k (did t step a) here) (made_on_monitor is_thread (c k).objects (LoadMonitor q) at q tt (sym is) (monitor_there (c k).objects (code.next did_it.from.local) q named all))
         by_step (TakeMonitor q new) same is object named =
-            made_later k (get_below acts k (did t step a) here) (made_on_monitor is_thread (c k).objects (TakeMonitor q new) at q tt (sym is) (monitor_there (c k).objects (code.next did_it.from.local) q named all))
+            made_later k (slice_get_within acts k (did t step a) here) (made_on_monitor is_thread (c k).objects (TakeMonitor q new) at q tt (sym is) (monitor_there (c k).objects (code.next did_it.from.local) q named all))
         by_step (SetDepth q new) same is object named =
-            made_later k (get_below acts k (did t step a) here) (made_on_monitor is_thread (c k).objects (SetDepth q new) at q tt (sym is) (monitor_there (c k).objects (code.next did_it.from.local) q named all))
+            made_later k (slice_get_within acts k (did t step a) here) (made_on_monitor is_thread (c k).objects (SetDepth q new) at q tt (sym is) (monitor_there (c k).objects (code.next did_it.from.local) q named all))
         by_step (Release q) same is object (inl holds) =
-            made_later k (get_below acts k (did t step a) here) (made_on_monitor is_thread (c k).objects (Release q) at q tt (sym is) (known.1.held t q did_it.from did_it.stands holds))
+            made_later k (slice_get_within acts k (did t step a) here) (made_on_monitor is_thread (c k).objects (Release q) at q tt (sym is) (known.1.held t q did_it.from did_it.stands holds))
         by_step (Release q) same is object (inr named) =
-            made_later k (get_below acts k (did t step a) here) (made_on_monitor is_thread (c k).objects (Release q) at q tt (sym is) (monitor_there (c k).objects (code.next did_it.from.local) q named all))
+            made_later k (slice_get_within acts k (did t step a) here) (made_on_monitor is_thread (c k).objects (Release q) at q tt (sym is) (monitor_there (c k).objects (code.next did_it.from.local) q named all))
         by_step (SetHeader q w) same is object named = made_on_header is_thread (c (suc k)).objects (SetHeader q w) at q (sym is) (header_there q w same named)
         by_step (StartThread q n) same is object named =
-            made_later k (get_below acts k (did t step a) here) (start_on is_thread (c k).objects (StartThread q n) (code.next did_it.from.local) at q (sym is) named kept)
+            made_later k (slice_get_within acts k (did t step a) here) (start_on is_thread (c k).objects (StartThread q n) (code.next did_it.from.local) at q (sym is) named kept)
         by_step (LoadThread (ThreadWord.Start q)) same is object named =
-            made_later k (get_below acts k (did t step a) here) (start_on is_thread (c k).objects (LoadThread (ThreadWord.Start q)) (code.next did_it.from.local) at q (sym is) named kept)
+            made_later k (slice_get_within acts k (did t step a) here) (start_on is_thread (c k).objects (LoadThread (ThreadWord.Start q)) (code.next did_it.from.local) at q (sym is) named kept)
         by_step (LoadThread (ThreadWord.Ended n)) same is object named = absurd object
         by_step m same is object named = absurd object
 
@@ -268,7 +269,7 @@ module _ {S : Type 0} (code : Code S) (b : Bounds) (is_thread : ℕ → Bool) (c
       → (d e at : ℕ) → d < 2 + o.words → e < 2 + p.words → at ≡ r + d → at ≡ q + e → SameWord r o d q p e
   same_word m within r q o p there also d e at low_d low_e at_d at_e =
       let same = same_object m within r q o p there also d e at low_d low_e at_d at_e in
-      record { object = some_is o p (sym there ∙ ap (c m).objects same ∙ also); word = omega (arith, at_d, at_e, same) }
+      record { object = same_Some o p (sym there ∙ ap (c m).objects same ∙ also); word = omega (arith, at_d, at_e, same) }
 
   -- ---- words that are overwritten
 
@@ -320,7 +321,7 @@ module _ {S : Type 0} (code : Code S) (b : Bounds) (is_thread : ℕ → Bool) (c
         there = such.1;
         low = such.2;
         place = omega (arith, names);
-        kept = λ thread. start.2 (ap (λ (x : Object). is_thread x.class) (some_is start.0 such.0 (sym start.1 ∙ such.1)) ∙ thread);
+        kept = λ thread. start.2 (ap (λ (x : Object). is_thread x.class) (same_Some start.0 such.0 (sym start.1 ∙ such.1)) ∙ thread);
       }
   written_by k next at names all kept = absurd names
 
@@ -346,7 +347,7 @@ module _ {S : Type 0} (code : Code S) (b : Bounds) (is_thread : ℕ → Bool) (c
         let made = made_on j u step a here (act_at code b c acts j (did u step a) run.leads here) at on in
         elim (leb_tells (suc j) k) [
           | inl low ↦ others_on_word k k j (omega arith) low.1 (below k _ wrote.2) at (written k t at wrote) step made
-          | inr high ↦ others_on_word (suc j) k j (let more = high.1 in omega (arith, more)) (omega arith) (get_below acts j (did u step a) here) at (written k t at wrote) step made
+          | inr high ↦ others_on_word (suc j) k j (let more = high.1 in omega (arith, more)) (omega arith) (slice_get_within acts j (did u step a) here) at (written k t at wrote) step made
         ];
     unwritten =
         let write = written k t at wrote in
@@ -360,7 +361,7 @@ module _ {S : Type 0} (code : Code S) (b : Bounds) (is_thread : ℕ → Bool) (c
   monitor_of r o there = record {
     apart = λ j u step a here on.
         let made = made_on j u step a here (act_at code b c acts j (did u step a) run.leads here) (r + 1) on in
-        let same = same_word (length acts) (omega arith) r made.r o made.o there (stays (suc j) (length acts) made.r made.o (get_below acts j (did u step a) here) (omega arith) made.there)
+        let same = same_word (length acts) (omega arith) r made.r o made.o there (stays (suc j) (length acts) made.r made.o (slice_get_within acts j (did u step a) here) (omega arith) made.there)
         1 made.d (r + 1) (omega arith) made.below refl made.place in
         monitor_only step made.o made.d same.word made.kind;
     free = elim ((laid_at (length acts) (omega arith)).1.from r o there) [

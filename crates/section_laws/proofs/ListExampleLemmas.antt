@@ -1,6 +1,7 @@
 -- A run as one list, in which a thread hands another one out, which revokes its section.
 use Rattle.std.proofs.Common.{◌≡◌, inl, inr, ℕ, zero, suc, false, Option, None, Some, List, [], ◌∷◌, nat_eq, refl, sym, ◌∙◌, ap, subst, arith}
 use Rattle.std.specs.Prelude.{Contains}
+use Rattle.std.proofs.lemmas.Option.{same_Some}
 use Rattle.op_core.specs.declared.Op.TheVariants.{Enter, Write, Start}
 use Rattle.op_core.specs.declared.Next.{Next}
 use Rattle.op_core.specs.declared.Next.TheVariants.{Want}
@@ -26,7 +27,7 @@ use Rattle.section_laws.specs.Undoing.{IsWordStep}
 use Rattle.section_laws.specs.Gone.{IsMonitorStep}
 use Rattle.section_laws.specs.InRuns.{BeginAsHandedOut, WritesObjectWordsIn}
 use Rattle.section_laws.specs.Example.{UndoneRunInList}
-use Rattle.section_laws.proofs.ClaimLemmas.{some_is, none_some}
+use Rattle.section_laws.proofs.ClaimLemmas.{none_some}
 use Rattle.section_laws.proofs.CoreRunLemmas.{in_front, none_there, differ}
 use Rattle.section_laws.proofs.ExampleLemmas.{small, own, no_tag, place_number}
 
@@ -344,7 +345,7 @@ abbrev OnlyFive : RunEntry → Type 0
 OnlyFive e = (at : ℕ) → overwritten e.made.step e.made.answer ≡ Some at → at ≡ 5
 
 only_five : Each OnlyFive list_run
-only_five = (λ at is. none_some at is, (λ at is. none_some at is, (λ at is. none_some at is, (λ at is. none_some at is, (λ at is. none_some at is, (λ at is. none_some at is, (λ at is. none_some at is, (λ at is. some_is at 5 (sym is), (λ at is. none_some at is, (λ at is. none_some at is, (λ at is. none_some at is, (λ at is. none_some at is, (λ at is. none_some at is, (λ at is. none_some at is, (λ at is. none_some at is, (λ at is. none_some at is, (λ at is. none_some at is, (λ at is. none_some at is, tt))))))))))))))))))
+only_five = (λ at is. none_some at is, (λ at is. none_some at is, (λ at is. none_some at is, (λ at is. none_some at is, (λ at is. none_some at is, (λ at is. none_some at is, (λ at is. none_some at is, (λ at is. same_Some at 5 (sym is), (λ at is. none_some at is, (λ at is. none_some at is, (λ at is. none_some at is, (λ at is. none_some at is, (λ at is. none_some at is, (λ at is. none_some at is, (λ at is. none_some at is, (λ at is. none_some at is, (λ at is. none_some at is, (λ at is. none_some at is, tt))))))))))))))))))
 
 abbrev IsApart : RunEntry → Type 0
 IsApart e = place_of e.made.step ≡ Object 5 → IsWordStep e.made.step

@@ -3,6 +3,7 @@ use Rattle.std.proofs.Common.{◌≡◌, ◌≢◌, ◌⊎◌, ℕ, ◌<◌, ◌
 use Rattle.std.specs.Prelude.{nat_lt, if◌then◌else◌}
 use Rattle.std.proofs.lemmas.Grind.{common_steps}
 use Rattle.std.proofs.lemmas.Bool.Decides.{nat_tests}
+use Rattle.std.proofs.Math.Bool.{and-false}
 use Rattle.op_core.specs.declared.Op.TheVariants.{Write}
 use Rattle.op_core.specs.declared.Next.TheVariants.{Want}
 use Rattle.op_core.specs.ThreadCode.{Code}
@@ -88,10 +89,6 @@ put_object w at v = ap (λ t. if t then v else w (Object at)) (same at)
     same : (n : ℕ) → nat_eq n n ≡ true
     same n = grind (arith, common_steps, nat_tests)
 
-pub shut_after : (a : Bool) → (a && false) ≡ false
-shut_after true = refl
-shut_after false = refl
-
 module _ {S : Type 0} (code : Code S) (IsPlace : ℕ → Type 0) (th : ThreadState S) (w : Words) where
   -- a step on no word of an object
   stands : (step : Step) → ((at : ℕ) → IsPlace at → place_of step ≡ Object at → IsWordStep step) → (IsWordStep step → words_after step w ≡ w)
@@ -115,10 +112,10 @@ module _ {S : Type 0} (code : Code S) (IsPlace : ℕ → Type 0) (th : ThreadSta
       → LogStep IsPlace th w (words_after step w) step a v
   log_steps (plain {step = step} {a = a} leaves none) is free writes range =
       idles (no_store step a leaves.is_plain) (stands step free (λ on. leaves.objects w is on)) refl (same refl refl refl) (calm none)
-  log_steps (sees_own_pinned unpinned pinned none) is free writes range = sheds (λ at place. refl) refl (shut_after (nat_lt 0 th.section))
+  log_steps (sees_own_pinned unpinned pinned none) is free writes range = sheds (λ at place. refl) refl (and-false (nat_lt 0 th.section))
   log_steps (sees_own_revoked unpinned revoked none) is free writes range = idles (λ store. store) (λ at place. refl) refl (same refl refl refl) (calm none)
   log_steps (pins_own unpinned none) is free writes range =
-      sheds (stands (Pin th.section (own_word th Live)) free (λ on. absurd on)) refl (shut_after (nat_lt 0 th.section))
+      sheds (stands (Pin th.section (own_word th Live)) free (λ on. absurd on)) refl (and-false (nat_lt 0 th.section))
   log_steps (pins_writer {s = s} {w = old} live none) is free writes range =
       idles (λ store. store) (stands (Pin s old) free (λ on. absurd on)) refl (same refl refl refl) (calm none)
   log_steps (knows_writer stable none) is free writes range = idles (λ store. store) (λ at place. refl) refl (same refl refl refl) (calm none)

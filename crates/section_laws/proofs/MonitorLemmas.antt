@@ -1,8 +1,10 @@
 -- The words of monitors along a run: a monitor that carries the number of a section is held by the section's thread.
-use Rattle.std.proofs.Common.{◌≡◌, ◌≢◌, ◌⊎◌, inl, inr, ℕ, zero, suc, ◌+◌, ◌<◌, ◌≤◌, ◌^◌, ◌&&◌, Bool, true, false, true≢false, Some, List, [], length, nat_eq, refl, sym, ◌∙◌, ap, subst, arith}
+use Rattle.std.proofs.Common.{◌≡◌, ◌≢◌, ◌⊎◌, inl, inr, ℕ, zero, suc, ◌+◌, ◌<◌, ◌≤◌, ◌^◌, Bool, true, false, Some, List, [], length, nat_eq, refl, sym, ◌∙◌, ap, subst, arith}
 use Rattle.std.specs.Prelude.{slice_get, nat_lt, if◌then◌else◌}
 use Rattle.std.proofs.lemmas.Grind.{common_steps}
 use Rattle.std.proofs.lemmas.Bool.Decides.{nat_tests, leb_tells}
+use Rattle.std.proofs.lemmas.Bool.{and_parts}
+use Rattle.std.proofs.lemmas.Option.{same_Some, slice_get_within}
 use Rattle.op_core.specs.ThreadCode.{Code}
 use Rattle.op_core.specs.OrdinaryState.{set_at}
 use Rattle.op_core.proofs.PointwiseLemmas.{same_or_other}
@@ -31,9 +33,9 @@ use Rattle.section_laws.specs.Runs.{IsRun}
 use Rattle.section_laws.specs.Gone.{IsMonitorStep, IsMonitor, UndoneSectionsAreGone}
 use Rattle.section_laws.proofs.WordLemmas.{state_of_zero, exchanged, stays_at}
 use Rattle.section_laws.proofs.DeedLemmas.{opening_of, view, deed_of}
-use Rattle.section_laws.proofs.ClaimLemmas.{claim, claim_of, claim_calm, claim_some, keeps, takes, claim_steps, found_is, none_some, some_is}
+use Rattle.section_laws.proofs.ClaimLemmas.{claim, claim_of, claim_calm, claim_some, keeps, takes, claim_steps, found_is, none_some}
 use Rattle.section_laws.proofs.FactLemmas.{Threads, InThreads, Facts, each}
-use Rattle.section_laws.proofs.RunLemmas.{get_below, along, Known, facts_at}
+use Rattle.section_laws.proofs.RunLemmas.{along, Known, facts_at}
 use Rattle.section_laws.proofs.PinLemmas.{Moves, state_moves, some_follows, act_moves}
 use Rattle.section_laws.proofs.LogLemmas.{In, object_is, object_other, put_object}
 use Rattle.section_laws.proofs.StepLemmas.{WithinLimit, StoresMonitor, held_by, deepens_at, MonitorStep, leaves_all, looks, opens_one, closes_one, takes_one, deepens_one, releases_one, monitor_steps, limit_steps}
@@ -106,13 +108,8 @@ pub record Monitors {S : Type 0} (b : Bounds) (Is : ℕ → Type 0) (w : Words) 
   pub deepens : (u : ℕ) (th : ThreadState S) → threads u ≡ Some th → (r : ℕ) → Is r → deepens_at th.stage ≡ Some r → In r th.held
   pub within : (u : ℕ) (th : ThreadState S) → threads u ≡ Some th → claim (view th) ≤ b.limits.sections
 
-both_tests : (p q : Bool) → (p && q) ≡ true → (p ≡ true) × (q ≡ true)
-both_tests true true is = (refl, refl)
-both_tests true false is = absurd (true≢false (sym is))
-both_tests false q is = absurd (true≢false (sym is))
-
 owned : (m own : ℕ) → is_own m own ≡ true → (0 < own) × (monitor_section m ≡ own)
-owned m own is = let two = both_tests (nat_lt 0 own) (nat_eq (monitor_section m) own) is in (some own two.0, same (monitor_section m) own two.1)
+owned m own is = let two = and_parts (nat_lt 0 own) (nat_eq (monitor_section m) own) is in (some own two.0, same (monitor_section m) own two.1)
   where
     some : (n : ℕ) → nat_lt 0 n ≡ true → 0 < n
     some n is = grind (arith, common_steps, nat_tests)
@@ -265,7 +262,7 @@ module _ {S : Type 0} (code : Code S) (b : Bounds) (small : b.limits.sections < 
 
   deepens_own : (r : ℕ) → Is r → MonitorStep th step a (held_by y) → deepens_at y.stage ≡ Some r → In r y.held
   deepens_own r is_monitor (looks q m made found own held section deep) about =
-      let same : q ≡ r = some_is q r (sym deep ∙ about) in
+      let same : q ≡ r = same_Some q r (sym deep ∙ about) in
       let here : m ≡ w (Object (q + 1)) = found_is m (w (Object (q + 1))) (sym found ∙ is ∙ ap (answer_of w) made) in
       let mine = owned m th.section own in
       subst (In r) (sym held) (before.holds t th stands r is_monitor mine.0 (ap (holder w) (sym same) ∙ ap monitor_section (sym here) ∙ mine.1))
@@ -370,13 +367,13 @@ module _ {S : Type 0} (code : Code S) (b : Bounds) (c : ℕ → Core S) (acts : 
 
   pub monitors_at : (k : ℕ) → k ≤ length acts → Known code (c k) × MonitorsAt k
   monitors_at k within = along code b c acts run.leads (λ n. Known code (c n) × MonitorsAt n) (facts_at code b c acts run 0 (omega arith), first_monitors)
-      (λ n x here at so. (facts_at code b c acts run (suc n) (get_below acts n x here), act_monitors n x here at so.0 so.1)) k within
+      (λ n x here at so. (facts_at code b c acts run (suc n) (slice_get_within acts n x here), act_monitors n x here at so.0 so.1)) k within
 
   -- ---- a section is undone
 
   module _ (q t s v : ℕ) (undone : slice_get acts q ≡ Some (did t (MarkUndone s v) Answer.Done)) where
     within_q : q ≤ length acts
-    within_q = let below = get_below acts q (did t (MarkUndone s v) Answer.Done) undone in omega (arith, below)
+    within_q = let below = slice_get_within acts q (did t (MarkUndone s v) Answer.Done) undone in omega (arith, below)
 
     abbrev end : DidAt code b c q t (MarkUndone s v) Answer.Done
     end = ending code b c acts run q t s v undone
@@ -402,7 +399,7 @@ module _ {S : Type 0} (code : Code S) (b : Bounds) (c : ℕ → Core S) (acts : 
     act_free k (beside u step a) up here at free r is_monitor carries =
         free r is_monitor (ap monitor_section (sym (ap (λ z. z.words (Object (r + 1))) at.leads ∙ beside_object step at.is (c k).words (r + 1))) ∙ carries)
     act_free k (did u step a) up here at free r is_monitor carries =
-        let within : k ≤ length acts = (let below = get_below acts k (did u step a) here in omega (arith, below)) in
+        let within : k ≤ length acts = (let below = slice_get_within acts k (did u step a) here in omega (arith, below)) in
         let so = monitors_at k within in
         let now : holder (words_after step (c k).words) r ≡ s = sym (ap (λ z. holder z.words r) at.leads) ∙ carries in
         elim (becomes code b small Is (c k).words (c k).threads so.0 so.1 u at.from at.stands step a at.move at.answered

@@ -28,11 +28,11 @@ use Rattle.thread_automaton.specs.Answers.{change_of}
 use Rattle.thread_automaton.specs.Told.{Told, advanced, born, told, counted_for, after_answer}
 use Rattle.automaton_rows.specs.Fits.{StageFits}
 use Rattle.automaton_rows.specs.Rows.{Row, is_lost, handed_out, pins, restores, gives_monitor_back, wait_begins, notify_begins, start_begins, thread_numbered, is_started, is_unready}
-use Rattle.automaton_rows.proofs.RowLemmas.{answers_are_rows, words_can_answer}
+use Rattle.automaton_rows.proofs.RowLemmas.{answers_are_rows, words_can_answer, by_if}
 use Rattle.core_runs.specs.WordRuns.{RunEntry, words_by}
 use Rattle.core_runs.specs.OwnParts.{is_beside, Quietly, MakesOwn, Birth, births_after, births}
 use Rattle.section_laws.specs.Runs.{BeginsAt}
-use Rattle.section_laws.proofs.WordLemmas.{by_if, stays_at}
+use Rattle.section_laws.proofs.WordLemmas.{stays_at}
 use Rattle.section_laws.proofs.DeedLemmas.{makes_it}
 use Rattle.section_laws.proofs.ClaimLemmas.{found_is}
 use Rattle.section_laws.proofs.CoreRunLemmas.{in_front, none_there, IsRun, StandsIn, StandsRight, sub_run, made, by_other, by_itself, maker, run_facts}

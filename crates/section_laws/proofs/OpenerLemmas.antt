@@ -1,6 +1,8 @@
 -- Who has opened the section that a thread has open, and where its thread stood.
 use Rattle.std.proofs.Common.{◌≡◌, ℕ, suc, ◌<◌, ◌≤◌, true, true≢false, Some, List, [], ◌∷◌, length, refl, sym, ◌∙◌, ap, subst, arith}
 use Rattle.std.specs.Prelude.{slice_get, nat_lt}
+use Rattle.std.proofs.Math.Bool.{and-false}
+use Rattle.std.proofs.lemmas.Option.{slice_get_within}
 use Rattle.op_core.specs.ThreadCode.{Code}
 use Rattle.op_core.specs.OrdinaryState.{set_at}
 use Rattle.step_port.specs.declared.answer.Answer.{Answer}
@@ -18,8 +20,8 @@ use Rattle.section_laws.specs.Runs.{IsRun}
 use Rattle.section_laws.specs.Undoing.{HasOpened}
 use Rattle.section_laws.proofs.DeedLemmas.{View, view, Deed, sees_own_pinned, pins_own, undoes, opens_section, closes_section}
 use Rattle.section_laws.proofs.FactLemmas.{Threads, each, not_some}
-use Rattle.section_laws.proofs.RunLemmas.{get_below, along, deed_at, facts_at}
-use Rattle.section_laws.proofs.LogLemmas.{open_in, shut_after}
+use Rattle.section_laws.proofs.RunLemmas.{along, deed_at, facts_at}
+use Rattle.section_laws.proofs.LogLemmas.{open_in}
 
 -- what a step makes of the section that is open
 pub data SectionStep {S : Type 0} (th : ThreadState S) (step : Step) (a : Answer) (v : View S) : Type 0 where
@@ -31,8 +33,8 @@ pub section_step : {S : Type 0} {code : Code S} {th : ThreadState S} {step : Ste
 section_step (undoes undoing unpinned logs) = has_none refl
 section_step (closes_section none) = has_none refl
 section_step (opens_section none_open some opening none) = has_opened _ refl refl refl
-section_step {th = th} (sees_own_pinned unpinned pinned none) = has_same refl (λ now. absurd (true≢false (sym now ∙ shut_after (nat_lt 0 th.section))))
-section_step {th = th} (pins_own unpinned none) = has_same refl (λ now. absurd (true≢false (sym now ∙ shut_after (nat_lt 0 th.section))))
+section_step {th = th} (sees_own_pinned unpinned pinned none) = has_same refl (λ now. absurd (true≢false (sym now ∙ and-false (nat_lt 0 th.section))))
+section_step {th = th} (pins_own unpinned none) = has_same refl (λ now. absurd (true≢false (sym now ∙ and-false (nat_lt 0 th.section))))
 section_step deed = has_same refl (λ now. (now, refl))
 
 module _ {S : Type 0} (code : Code S) (b : Bounds) (c : ℕ → Core S) (acts : List Act) (run : IsRun code b c acts) where
@@ -112,4 +114,4 @@ module _ {S : Type 0} (code : Code S) (b : Bounds) (c : ℕ → Core S) (acts : 
   opener k within =
       along code b c acts run.leads (λ n. Opened n (c n).threads)
       (λ t th at some. not_some th.section some (ap (λ (x : ThreadState S). x.section) (run.begins.threads t th at).3))
-      (λ n x here at so. act_opened n x here at (let below = get_below acts n x here in omega (arith, below)) so) k within
+      (λ n x here at so. act_opened n x here at (let below = slice_get_within acts n x here in omega (arith, below)) so) k within

@@ -3,6 +3,8 @@ use Rattle.std.proofs.Common.{◌≡◌, ◌≢◌, inl, inr, ℕ, zero, suc, �
 use Rattle.std.specs.Prelude.{filter, map, nat_lt, nat_le, slice_get, if◌then◌else◌}
 use Rattle.std.proofs.lemmas.Grind.{common_steps}
 use Rattle.std.proofs.lemmas.Bool.Decides.{nat_tests}
+use Rattle.std.proofs.lemmas.Bool.{eq-eqb}
+use Rattle.std.proofs.lemmas.Option.{same_Some, slice_get_within}
 use Rattle.op_core.specs.declared.Next.{Next}
 use Rattle.op_core.specs.ThreadCode.{Code}
 use Rattle.op_core.specs.OrdinaryState.{set_at}
@@ -38,9 +40,9 @@ use Rattle.section_laws.specs.Undoing.{HasOpened}
 use Rattle.section_laws.specs.UndoOrder.{EntersAgain, FindsRevoked, is_by, UndoesInOrder, UndoingGoesInOrder}
 use Rattle.section_laws.proofs.WordLemmas.{state_is, state_of_zero}
 use Rattle.section_laws.proofs.DeedLemmas.{makes_it, undoing_of, view, made_quiet}
-use Rattle.section_laws.proofs.ClaimLemmas.{some_is, none_some, found_is}
+use Rattle.section_laws.proofs.ClaimLemmas.{none_some, found_is}
 use Rattle.section_laws.proofs.FactLemmas.{Threads}
-use Rattle.section_laws.proofs.RunLemmas.{get_some, get_below, act_at, deed_at, facts_at}
+use Rattle.section_laws.proofs.RunLemmas.{get_some, act_at, deed_at, facts_at}
 use Rattle.section_laws.proofs.PinLemmas.{did_at, opens_once, zero_no_section}
 use Rattle.section_laws.proofs.OpenerLemmas.{SectionStep, has_none, has_same, has_opened, section_step, IsSaved, Opener, opener}
 use Rattle.section_laws.proofs.MonitorLemmas.{held_at_end}
@@ -118,7 +120,7 @@ module _ {S : Type 0} (code : Code S) (b : Bounds) (th : ThreadState S) where
 
 drop_at : {A : Type 0} (xs : List A) (j : ℕ) (x : A) → slice_get xs j ≡ Some x → drop j xs ≡ x ∷ drop (suc j) xs
 drop_at [] j x at = none_some x at
-drop_at (y ∷ xs) zero x at = ap (λ z. z ∷ xs) (some_is y x at)
+drop_at (y ∷ xs) zero x at = ap (λ z. z ∷ xs) (same_Some y x at)
 drop_at (y ∷ xs) (suc j) x at = drop_at xs j x at
 
 -- what thread t does itself of n acts from number j on
@@ -138,9 +140,6 @@ equal_numbers u t is = grind (arith, common_steps, nat_tests)
 
 other_numbers : (u t : ℕ) → nat_eq u t ≡ false → t ≢ u
 other_numbers u t is same = grind (arith, common_steps, nat_tests)
-
-own_number : (t : ℕ) → nat_eq t t ≡ true
-own_number t = grind (arith, common_steps, nat_tests)
 
 -- the steps of one that undoes its section, as acts that are done
 abbrev undo_acts : ℕ → ℕ → ℕ → List Noted → List ℕ → List Act
@@ -181,10 +180,10 @@ module _ {S : Type 0} (code : Code S) (b : Bounds) (c : ℕ → Core S) (acts : 
     end = ending code b c acts run q t s x undone
 
     within : q < length acts
-    within = get_below acts q (did t (MarkUndone s x) Answer.Done) undone
+    within = slice_get_within acts q (did t (MarkUndone s x) Answer.Done) undone
 
     from_is : look.from ≡ th
-    from_is = some_is look.from th (sym look.stands ∙ finds.stands)
+    from_is = same_Some look.from th (sym look.stands ∙ finds.stands)
 
     some_section : 0 < s
     some_section = by_number s refl
@@ -218,12 +217,12 @@ module _ {S : Type 0} (code : Code S) (b : Bounds) (c : ℕ → Core S) (acts : 
 
     kept_closed : (j : ℕ) → Kept ((c j).threads t) ((c (suc j)).threads t) → Closed j → Closed (suc j)
     kept_closed j (as_it_was same) closed y stands is = closed y (sym same ∙ stands) is
-    kept_closed j (begun z now none) closed y stands is = not_zero y.section (ap (λ (v : ThreadState S). v.section) (some_is y z (sym stands ∙ now)) ∙ none) is
+    kept_closed j (begun z now none) closed y stands is = not_zero y.section (ap (λ (v : ThreadState S). v.section) (same_Some y z (sym stands ∙ now)) ∙ none) is
 
     own_closed : (j : ℕ) (x : Act) → k ≤ j → slice_get acts j ≡ Some x → ActAt code b c j x → is_by t x ≡ true → Closed j → Closed (suc j)
     own_closed j (quiet u) up here at own closed y stands is =
         let mine = equal_numbers u t own in
-        let now : y ≡ after_quiet at.from at.local = some_is y (after_quiet at.from at.local)
+        let now : y ≡ after_quiet at.from at.local = same_Some y (after_quiet at.from at.local)
         (sym stands ∙ ap (λ z. z.threads t) at.leads ∙ ap (λ n. set_at (c j).threads n (Some (after_quiet at.from at.local)) t) mine ∙ set_at-hit (c j).threads t (Some (after_quiet at.from at.local))) in
         closed at.from (ap (c j).threads (sym mine) ∙ at.stands) (ap (λ (v : ThreadState S). v.section) (sym now) ∙ is)
     own_closed j (beside u step a) up here at own closed y stands is = absurd (true≢false (sym own))
@@ -232,9 +231,9 @@ module _ {S : Type 0} (code : Code S) (b : Bounds) (c : ℕ → Core S) (acts : 
         let after : ThreadState S = after_answer code b at.from step a in
         elim (handed_kept code step at.from.local (set_at (c j).threads u (Some after)) t) [
           | as_it_was same ↦
-              let now : y ≡ after = some_is y after (sym stands ∙ ap (λ z. z.threads t) at.leads ∙ same ∙ ap (λ n. set_at (c j).threads n (Some after) t) mine ∙ set_at-hit (c j).threads t (Some after)) in
-              by_step mine (ap (λ (v : ThreadState S). v.section) (sym now) ∙ is) (section_step (deed_at code b c j at (facts_at code b c acts run j (let low = get_below acts j (did u step a) here in omega (arith, low)))))
-          | begun z now none ↦ not_zero y.section (ap (λ (v : ThreadState S). v.section) (some_is y z (sym stands ∙ ap (λ core. core.threads t) at.leads ∙ now)) ∙ none) is
+              let now : y ≡ after = same_Some y after (sym stands ∙ ap (λ z. z.threads t) at.leads ∙ same ∙ ap (λ n. set_at (c j).threads n (Some after) t) mine ∙ set_at-hit (c j).threads t (Some after)) in
+              by_step mine (ap (λ (v : ThreadState S). v.section) (sym now) ∙ is) (section_step (deed_at code b c j at (facts_at code b c acts run j (let low = slice_get_within acts j (did u step a) here in omega (arith, low)))))
+          | begun z now none ↦ not_zero y.section (ap (λ (v : ThreadState S). v.section) (same_Some y z (sym stands ∙ ap (λ core. core.threads t) at.leads ∙ now)) ∙ none) is
         ]
       where
         by_step : u ≡ t → (after_answer code b at.from step a).section ≡ s → SectionStep at.from step a (view (after_answer code b at.from step a)) → ⊥
@@ -282,7 +281,7 @@ module _ {S : Type 0} (code : Code S) (b : Bounds) (c : ℕ → Core S) (acts : 
       own_step step a here at = by_lists y.log y.held refl refl
         where
           from : at.from ≡ y
-          from = some_is at.from y (sym at.stands ∙ at_y.stands)
+          from = same_Some at.from y (sym at.stands ∙ at_y.stands)
 
           next : undo_step y.section w y.log y.held ≡ step
           next = undo_next code b y w step at_y.stage (ap (next_move code b) (sym from) ∙ at.move)
@@ -307,13 +306,13 @@ module _ {S : Type 0} (code : Code S) (b : Bounds) (c : ℕ → Core S) (acts : 
           by_lists (r ∷ log) held logs holds =
               let z : ThreadState S = record y { log = drop 1 y.log; counted = suc y.counted } in
               let so = made (RestoreWord r.at r.old) (ap (λ xs. undo_step y.section w xs y.held) logs) (λ l threads. refl) refl z refl at_y.stage at_y.own in
-              part_own t acts j (suc n) (did t (RestoreWord r.at r.old) Answer.Done) so.0 (own_number t) ∙ ap (λ xs. did t (RestoreWord r.at r.old) Answer.Done ∷ xs) (rest z so.1)
+              part_own t acts j (suc n) (did t (RestoreWord r.at r.old) Answer.Done) so.0 (eq-eqb t t refl) ∙ ap (λ xs. did t (RestoreWord r.at r.old) Answer.Done ∷ xs) (rest z so.1)
               ∙ ap (λ xs. did t (RestoreWord r.at r.old) Answer.Done ∷ undo_acts t s w (drop 1 xs) y.held) logs ∙ sym (ap (λ xs. undo_acts t s w xs y.held) logs)
           by_lists [] (r ∷ held) logs holds =
               let z : ThreadState S = record y { held = drop 1 y.held; counted = suc y.counted } in
               let so = made (Release r) (ap (λ xs. undo_step y.section w xs y.held) logs ∙ ap (λ rs. undo_step y.section w [] rs) holds) (λ l threads. refl) refl z
               (released code b y w r at_y.stage) at_y.stage at_y.own in
-              part_own t acts j (suc n) (did t (Release r) Answer.Done) so.0 (own_number t) ∙ ap (λ xs. did t (Release r) Answer.Done ∷ xs) (rest z so.1)
+              part_own t acts j (suc n) (did t (Release r) Answer.Done) so.0 (eq-eqb t t refl) ∙ ap (λ xs. did t (Release r) Answer.Done ∷ xs) (rest z so.1)
               ∙ ap (λ xs. did t (Release r) Answer.Done ∷ undo_acts t s w xs (drop 1 y.held)) logs
               ∙ ap (λ rs. did t (Release r) Answer.Done ∷ undo_acts t s w [] (drop 1 rs)) holds
               ∙ sym (ap (λ xs. undo_acts t s w xs y.held) logs ∙ ap (λ rs. undo_acts t s w [] rs) holds)
@@ -328,7 +327,7 @@ module _ {S : Type 0} (code : Code S) (b : Bounds) (c : ℕ → Core S) (acts : 
 
       own_act : (act : Act) → slice_get acts j ≡ Some act → ActAt code b c j act → is_by t act ≡ true → Does j (suc n) y
       own_act (quiet u) here at own =
-          let from : at.from ≡ y = some_is at.from y (sym at.stands ∙ ap (c j).threads (equal_numbers u t own) ∙ at_y.stands) in
+          let from : at.from ≡ y = same_Some at.from y (sym at.stands ∙ ap (c j).threads (equal_numbers u t own) ∙ at_y.stands) in
           none_some w (sym (made_quiet code b at.from at.move) ∙ ap (λ (v : ThreadState S). undoing_of v.stage) from ∙ ap undoing_of at_y.stage)
       own_act (beside u step a) here at own = absurd (true≢false (sym own))
       own_act (did u step a) here at own =
@@ -339,7 +338,7 @@ module _ {S : Type 0} (code : Code S) (b : Bounds) (c : ℕ → Core S) (acts : 
       other_act act here at other = elim (other_kept t j act at other) [
         | as_it_was same ↦ part_other t acts j (suc n) act here other ∙ rest y (record { stands = same ∙ at_y.stands; stage = at_y.stage; own = at_y.own })
         | begun z now none ↦ absurd (never_closed (suc j) (omega (arith, more)) before_end
-            (λ v stands is. not_zero v.section (ap (λ (u : ThreadState S). u.section) (some_is v z (sym stands ∙ now)) ∙ none) is))
+            (λ v stands is. not_zero v.section (ap (λ (u : ThreadState S). u.section) (same_Some v z (sym stands ∙ now)) ∙ none) is))
       ]
 
       one_act : Does j (suc n) y
@@ -365,7 +364,7 @@ module _ {S : Type 0} (code : Code S) (b : Bounds) (c : ℕ → Core S) (acts : 
         at = did_at code b c acts run j t (MarkUndone s x) Answer.Done here
 
         next : undo_step y.section w y.log y.held ≡ MarkUndone s x
-        next = undo_next code b y w (MarkUndone s x) at_y.stage (ap (next_move code b) (some_is y at.from (sym at_y.stands ∙ at.stands)) ∙ at.move)
+        next = undo_next code b y w (MarkUndone s x) at_y.stage (ap (next_move code b) (same_Some y at.from (sym at_y.stands ∙ at.stands)) ∙ at.move)
 
         by_lists : (log : List Noted) (held : List ℕ) → y.log ≡ log → y.held ≡ held → Does j zero y
         by_lists (r ∷ log) held logs holds = absurd (subst IsMark (sym (sym (ap (λ xs. undo_step y.section w xs y.held) logs) ∙ next)) tt)
@@ -373,7 +372,7 @@ module _ {S : Type 0} (code : Code S) (b : Bounds) (c : ℕ → Core S) (acts : 
             absurd (subst IsMark (sym (sym (ap (λ xs. undo_step y.section w xs y.held) logs ∙ ap (λ rs. undo_step y.section w [] rs) holds) ∙ next)) tt)
         by_lists [] [] logs holds =
             let lists = ap (λ xs. undo_step y.section w xs y.held) logs ∙ ap (λ rs. undo_step y.section w [] rs) holds in
-            part_own t acts j 0 (did t (MarkUndone s x) Answer.Done) here (own_number t)
+            part_own t acts j 0 (did t (MarkUndone s x) Answer.Done) here (eq-eqb t t refl)
             ∙ ap (λ m. did t m Answer.Done ∷ []) (sym next ∙ lists ∙ ap (λ r. MarkUndone r (with_state w (number_of Undone))) at_y.own)
             ∙ sym (ap (λ xs. undo_acts t s w xs y.held) logs ∙ ap (λ rs. undo_acts t s w [] rs) holds)
     walk (suc n) j ends more y at_y =

@@ -2,6 +2,7 @@
 use Rattle.std.proofs.Common.{◌≢◌, ◌≡◌, ◌⊎◌, inl, inr, ℕ, zero, suc, ◌+◌, ◌-◌, ◌<◌, ◌≤◌, ◌^◌, true, Some, List, length, refl, sym, ◌∙◌, ap, subst, arith}
 use Rattle.std.specs.Prelude.{slice_get, nat_le}
 use Rattle.std.proofs.lemmas.Bool.Decides.{leb_tells}
+use Rattle.std.proofs.lemmas.Option.{same_Some, slice_get_within}
 use Rattle.op_core.specs.ThreadCode.{Code}
 use Rattle.heap_words.specs.declared.areas.Area.TheVariants.{Section}
 use Rattle.section_state.specs.declared.State.{State}
@@ -26,9 +27,9 @@ use Rattle.section_laws.specs.Runs.{IsRun, MayBecome, OpensAt, SectionsComeOn, S
 use Rattle.section_laws.specs.Pinning.{StaysPinned, PinnedSectionsStay}
 use Rattle.section_laws.proofs.WordLemmas.{state_replaced, state_of_zero, state_packed, is_state, state_is, exchanged, put_section}
 use Rattle.section_laws.proofs.DeedLemmas.{opening_of, view, Deed, makes_it, done_as}
-use Rattle.section_laws.proofs.ClaimLemmas.{claim_some, some_is, above, is_zero, Change, stays, is_opened, is_pinned, is_revoked, is_committed, is_undone, section_changes}
+use Rattle.section_laws.proofs.ClaimLemmas.{claim_some, above, is_zero, Change, stays, is_opened, is_pinned, is_revoked, is_committed, is_undone, section_changes}
 use Rattle.section_laws.proofs.FactLemmas.{not_some, Standing, InThreads, Facts}
-use Rattle.section_laws.proofs.RunLemmas.{along, get_some, get_below, act_at, Known, deed_at, facts_at}
+use Rattle.section_laws.proofs.RunLemmas.{along, get_some, act_at, Known, deed_at, facts_at}
 
 -- ---- one act
 
@@ -114,7 +115,7 @@ module _ {S : Type 0} (code : Code S) (b : Bounds) (c : ℕ → Core S) (acts : 
   did_at k t step a at = act_at code b c acts k (did t step a) run.leads at
 
   pub known_at : (k : ℕ) (x : Act) → slice_get acts k ≡ Some x → Known code (c k)
-  known_at k x at = let below = get_below acts k x at in facts_at code b c acts run k (omega (arith, below))
+  known_at k x at = let below = slice_get_within acts k x at in facts_at code b c acts run k (omega (arith, below))
 
 -- ---- states that stay
 
@@ -275,7 +276,7 @@ module _ {S : Type 0} (code : Code S) (b : Bounds) (c : ℕ → Core S) (acts : 
 
   not_later : (j k t u s v w : ℕ) → slice_get acts j ≡ Some (did t (OpenSection s v) Answer.Done) → slice_get acts k ≡ Some (did u (OpenSection s w) Answer.Done) → j < k → ⊥
   not_later j k t u s v w at_j at_k later =
-      let below = get_below acts k _ at_k in
+      let below = slice_get_within acts k _ at_k in
       let some = stays_open s (suc j) k later (omega (arith, below)) (opened_at j t s v at_j).behind in
       let none = ap state_of (opened_at k u s w at_k).before ∙ state_of_zero in
       omega (arith, some, none)
@@ -296,7 +297,7 @@ module _ {S : Type 0} (code : Code S) (b : Bounds) (c : ℕ → Core S) (acts : 
       → slice_get acts j ≡ Some (did u (Revoke s x) Answer.Done) → ⊥
   unrevoked_settled k s j u x within settled revoked =
       let gone = revoked_at j u s x revoked in
-      let within_j = get_below acts j _ revoked in
+      let within_j = slice_get_within acts j _ revoked in
       elim (leb_tells k j) [
         | inl later ↦ no_live (state_of ((c j).words (Section s))) (settles_on s k j later.1 (omega (arith, within_j)) settled) gone.before
         | inr earlier ↦
@@ -313,7 +314,7 @@ module _ {S : Type 0} (code : Code S) (b : Bounds) (c : ℕ → Core S) (acts : 
 
   never_revoked : (k t s w j u x : ℕ) → slice_get acts k ≡ Some (did t (Pin s w) Answer.Done) → slice_get acts j ≡ Some (did u (Revoke s x) Answer.Done) → ⊥
   never_revoked k t s w j u x here revoked =
-      unrevoked_settled (suc k) s j u x (get_below acts k _ here) (inl (pinned_at k t s w here).behind) revoked
+      unrevoked_settled (suc k) s j u x (slice_get_within acts k _ here) (inl (pinned_at k t s w here).behind) revoked
 
   stays_pinned : (k t s w : ℕ) → slice_get acts k ≡ Some (did t (Pin s w) Answer.Done) → StaysPinned c acts k s
   stays_pinned k t s w here = record {
@@ -363,7 +364,7 @@ pub others_stay : {S : Type 0} (code : Code S) → OthersSectionsStay code
 others_stay code b c acts run k t s step a th here there other some =
     let at = did_at code b c acts run k t step a here in
     let facts = known_at code b c acts run k (did t step a) here in
-    let same : at.from ≡ th = some_is at.from th (sym at.stands ∙ there) in
+    let same : at.from ≡ th = same_Some at.from th (sym at.stands ∙ there) in
     subst (λ z. (z.words (Section s) ≡ (c k).words (Section s)) ⊎ IsPinnedOrRevoked ((c k).words (Section s)) (z.words (Section s))) (sym at.leads)
     (touches (section_changes code at.from (c k).words (deed_at code b c k at facts) at.answered s) (λ is. other (is ∙ ap (λ x. x.section) same))
     (λ none opening above. ap (λ n. (c k).words (Section n)) (sym opening) ∙ facts.unopened t at.from at.stands none (subst (λ n. 0 < n) (sym opening) above)) some)

@@ -29,8 +29,7 @@ use Rattle.thread_automaton.specs.Answers.{change_of}
 use Rattle.thread_automaton.specs.Told.{Told, advanced, born, told, counted_for, after_answer}
 use Rattle.automaton_rows.specs.Fits.{FixedFits, StageFits}
 use Rattle.automaton_rows.specs.Rows.{Row, IsEntry, own_pinned, pins, restores, gives_monitor_back, is_undone, word_written, has_room, monitor_taken, monitor_left, section_left, wait_begins, wait_made, notify_begins, start_begins, is_unready}
-use Rattle.automaton_rows.proofs.RowLemmas.{answers_are_rows, words_can_answer}
-use Rattle.section_laws.proofs.WordLemmas.{by_if}
+use Rattle.automaton_rows.proofs.RowLemmas.{answers_are_rows, words_can_answer, by_if}
 use Rattle.section_laws.proofs.DeedLemmas.{makes_it}
 use Rattle.section_laws.proofs.ClaimLemmas.{none_some}
 use Rattle.section_laws.proofs.LogLemmas.{In}

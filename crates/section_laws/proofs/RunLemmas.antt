@@ -1,6 +1,7 @@
 -- The facts on sections along a run.
 use Rattle.std.proofs.Common.{◌≡◌, ℕ, zero, suc, ◌+◌, ◌<◌, ◌≤◌, Some, List, [], ◌∷◌, length, refl, sym, ◌∙◌, ap, subst, arith}
 use Rattle.std.specs.Prelude.{slice_get}
+use Rattle.std.proofs.lemmas.Option.{same_Some}
 use Rattle.op_core.specs.ThreadCode.{Code}
 use Rattle.op_core.specs.OrdinaryState.{set_at}
 use Rattle.step_port.specs.declared.answer.Answer.{Answer}
@@ -17,7 +18,7 @@ use Rattle.core_runs.specs.Cores.{Core, threads_by}
 use Rattle.core_runs.specs.Acts.{Act, quiet, did, beside, QuietAt, DidAt, ActAt, ActFrom}
 use Rattle.section_laws.specs.Runs.{IsBeginning, IsRun}
 use Rattle.section_laws.proofs.DeedLemmas.{view, Deed, deed_of}
-use Rattle.section_laws.proofs.ClaimLemmas.{none_some, some_is}
+use Rattle.section_laws.proofs.ClaimLemmas.{none_some}
 use Rattle.section_laws.proofs.FactLemmas.{Threads, InThreads, Facts, each, came_other, came_own, step_facts, Still, as_before, calmed, just_begun, still_facts, first_facts, beside_facts}
 
 -- ---- lists of acts
@@ -30,16 +31,11 @@ get_some [] k below = absurd (no k below)
 get_some (x ∷ xs) zero below = (x, refl)
 get_some (x ∷ xs) (suc k) below = get_some xs k (omega (arith, below))
 
-pub get_below : {A : Type 0} (xs : List A) (j : ℕ) (x : A) → slice_get xs j ≡ Some x → j < length xs
-get_below [] j x h = none_some x h
-get_below (y ∷ xs) zero x h = omega arith
-get_below (y ∷ xs) (suc j) x h = let below : j < length xs = get_below xs j x h in omega arith
-
 module _ {S : Type 0} (code : Code S) (b : Bounds) (c : ℕ → Core S) where
   act_from : (acts : List Act) (k j : ℕ) (x : Act) → ActFrom code b c k acts → slice_get acts j ≡ Some x → ActAt code b c (k + j) x
   act_from [] k j x leads at = none_some x at
   act_from (y ∷ acts) k zero x leads at =
-      subst (λ n. ActAt code b c n x) (omega arith) (subst (ActAt code b c k) (some_is y x at) leads.0)
+      subst (λ n. ActAt code b c n x) (omega arith) (subst (ActAt code b c k) (same_Some y x at) leads.0)
   act_from (y ∷ acts) k (suc j) x leads at = subst (λ n. ActAt code b c n x) (omega arith) (act_from acts (suc k) j x leads.1 at)
 
   pub act_at : (acts : List Act) (j : ℕ) (x : Act) → ActFrom code b c 0 acts → slice_get acts j ≡ Some x → ActAt code b c j x

@@ -2,6 +2,7 @@
 use Rattle.std.proofs.Common.{◌≡◌, ◌⊎◌, inl, inr, ℕ, suc, ◌<◌, ◌≤◌, true, Option, None, Some, List, [], ◌∷◌, length, nat_eq, refl, sym, ◌∙◌, ap, subst, arith}
 use Rattle.std.specs.Prelude.{slice_get}
 use Rattle.std.proofs.lemmas.Bool.Decides.{leb_tells}
+use Rattle.std.proofs.lemmas.Option.{same_Some, slice_get_within}
 use Rattle.op_core.specs.ThreadCode.{Code}
 use Rattle.op_core.proofs.PointwiseLemmas.{set_at-hit}
 use Rattle.heap_words.specs.declared.areas.Area.TheVariants.{Section, Object}
@@ -23,9 +24,9 @@ use Rattle.section_laws.specs.Runs.{IsRun}
 use Rattle.section_laws.specs.Undoing.{Overwrites, WritesObjectWords, IsFirstWrite, PutsBackAt, IsUndone, HasOpened, UndoingPutsBack}
 use Rattle.section_laws.proofs.WordLemmas.{state_of_zero}
 use Rattle.section_laws.proofs.DeedLemmas.{opening_of, undoing_of, view, made_quiet, Undoes, done_as}
-use Rattle.section_laws.proofs.ClaimLemmas.{is_zero, open_above, some_is, none_some}
+use Rattle.section_laws.proofs.ClaimLemmas.{is_zero, open_above, none_some}
 use Rattle.section_laws.proofs.FactLemmas.{Threads, each}
-use Rattle.section_laws.proofs.RunLemmas.{get_below, along, Known, deed_at}
+use Rattle.section_laws.proofs.RunLemmas.{along, Known, deed_at}
 use Rattle.section_laws.proofs.PinLemmas.{did_at, opened_at, stays_open, settles_on}
 use Rattle.section_laws.proofs.LogLemmas.{In, SameSection, IsStore, idles, sheds, begins, notes, restores}
 use Rattle.section_laws.proofs.TagLemmas.{Unsettled, IsNoted, notes_it, is_shut, was_own, noted_as, same_open, not_open, shut_of, no_zero}
@@ -65,7 +66,7 @@ puts_store (RestoreWord at old) Answer.Done q is = tt
 puts_store step a q is = none_some q is
 
 same_act : (acts : List Act) (k : ℕ) (x y : Act) → slice_get acts k ≡ Some x → slice_get acts k ≡ Some y → x ≡ y
-same_act acts k x y at_x at_y = some_is x y (sym at_x ∙ at_y)
+same_act acts k x y at_x at_y = same_Some x y (sym at_x ∙ at_y)
 
 -- a thread after another's step or its own, unless it is handed out with it
 handed : {S : Type 0} (code : Code S) (step : Step) (l : S) (threads : Threads S) (t : ℕ) (th : ThreadState S) → threads_by code step l threads t ≡ Some th
@@ -89,7 +90,7 @@ module _ {S : Type 0} (code : Code S) (b : Bounds) (c : ℕ → Core S) (acts : 
   tags k within = (tags_at code b c acts run plain k within).1
 
   below : (k : ℕ) (x : Act) → slice_get acts k ≡ Some x → k ≤ length acts
-  below k x here = let within = get_below acts k x here in omega (arith, within)
+  below k x here = let within = slice_get_within acts k x here in omega (arith, within)
 
   -- a word was put back
   abbrev WasPutBack : ℕ → ℕ → ℕ → Type 0
@@ -138,7 +139,7 @@ module _ {S : Type 0} (code : Code S) (b : Bounds) (c : ℕ → Core S) (acts : 
       let facts = known p (below p (did t (OpenSection s v) Answer.Done) opens) in
       let did_so = done_as (deed_at code b c p opening facts) refl in
       let after : ThreadState S = after_answer code b opening.from (OpenSection s v) Answer.Done in
-      let now : th ≡ after = some_is th after (sym stands ∙ ap (λ z. z.threads t) opening.leads ∙ set_at-hit (c p).threads t (Some after)) in
+      let now : th ≡ after = same_Some th after (sym stands ∙ ap (λ z. z.threads t) opening.leads ∙ set_at-hit (c p).threads t (Some after)) in
       let none : th.log ≡ [] = ap (λ x. x.log) now ∙ did_so.log ∙ (facts.fit t opening.from opening.stands).log (shut_of opening.from did_so.none_open) in
       record {
         saved = ap (λ x. x.saved) now ∙ did_so.saved;
@@ -207,7 +208,7 @@ module _ {S : Type 0} (code : Code S) (b : Bounds) (c : ℕ → Core S) (acts : 
           saved = same.saved ∙ since.saved;
           written = λ j q above_p up wrote. one_more (λ n. Overwrites acts n t q → IsNoted y.log q ⊎ ((seen : ℕ) × (undoing_of y.stage ≡ Some seen) × WasPutBack n (suc k) q)) j k up
               (λ less wrote_j. inl (grows q (is_noted q j above_p less wrote_j)))
-              (λ equal wrote_k. inl (subst (IsNoted y.log) (some_is place q (ap overwritten (same_act acts k _ _ act wrote_k.2))) holds)) wrote;
+              (λ equal wrote_k. inl (subst (IsNoted y.log) (same_Some place q (ap overwritten (same_act acts k _ _ act wrote_k.2))) holds)) wrote;
           first = λ x there. elim (noted_as at.from place old y.log log) [
             | notes_it log_is open_there other ↦ elim (subst (In x) log_is there) [
               | inl new_one ↦ subst (λ z. (j : ℕ) × (j < suc k) × IsFirstWrite acts p j t z.at × ((c j).words (Object z.at) ≡ z.old)) new_one (
@@ -265,7 +266,7 @@ module _ {S : Type 0} (code : Code S) (b : Bounds) (c : ℕ → Core S) (acts : 
               (was_z.0, (let low = was_z.1 in omega (arith, low)), was_z.2, was_z.3);
           puts = λ i q kept above_p up restores_it. one_more (λ n. slice_get acts n ≡ Some (did t (RestoreWord q kept) Answer.Done) → PutsBackAt c acts p n t s q) i k up
               (λ less at_i. since.puts i q kept above_p less at_i)
-              (λ equal at_k. subst (PutsBackAt c acts p k t s) (some_is x.at q (ap put_back (same_act acts k _ _ act at_k))) is_put) restores_it;
+              (λ equal at_k. subst (PutsBackAt c acts p k t s) (same_Some x.at q (ap put_back (same_act acts k _ _ act at_k))) is_put) restores_it;
         }
 
     -- no section of this number is opened again
@@ -340,7 +341,7 @@ module _ {S : Type 0} (code : Code S) (b : Bounds) (c : ℕ → Core S) (acts : 
 
   sinces_next : (k : ℕ) (x : Act) → slice_get acts k ≡ Some x → ActAt code b c k x → Sinces k → Sinces (suc k)
   sinces_next k x here at so later th stands is unpinned un = elim (leb_tells (suc p) k) [
-    | inl behind ↦ act_so k x (omega (arith, behind.1)) here at so (λ settled. un (settles_on code b c acts run s k (suc k) (omega arith) (get_below acts k x here) settled))
+    | inl behind ↦ act_so k x (omega (arith, behind.1)) here at so (λ settled. un (settles_on code b c acts run s k (suc k) (omega arith) (slice_get_within acts k x here) settled))
         th stands is unpinned
     | inr before ↦
         let here_p : k ≡ p = omega (arith, later, before.1) in
@@ -397,15 +398,15 @@ module _ {S : Type 0} (code : Code S) (b : Bounds) (c : ℕ → Core S) (acts : 
           (carries ∙ ends_so.own) in
           absurd (subst (In noted.0) ends_so.log noted.1);
       stands_again = λ first behind at_first at_behind.
-          let from : first ≡ opening.from = some_is first opening.from (sym at_first ∙ opening.stands) in
+          let from : first ≡ opening.from = same_Some first opening.from (sym at_first ∙ opening.stands) in
           let after : ThreadState S = after_answer code b ending.from (MarkUndone s w) Answer.Done in
-          let now : behind ≡ after = some_is behind after (sym at_behind ∙ ap (λ z. z.threads t) ending.leads ∙ set_at-hit (c q).threads t (Some after)) in
+          let now : behind ≡ after = same_Some behind after (sym at_behind ∙ ap (λ z. z.threads t) ending.leads ∙ set_at-hit (c q).threads t (Some after)) in
           ap (λ x. x.local) now ∙ ap (λ saved. newest_or ending.from.local saved) since.saved ∙ ap (λ x. x.local) (sym from);
     }
 
 pub undoing_puts_back : {S : Type 0} (code : Code S) → UndoingPutsBack code
 undoing_puts_back code b c acts run plain q t s w undone =
-    let within : q ≤ length acts = (let below = get_below acts q (did t (MarkUndone s w) Answer.Done) undone in omega (arith, below)) in
+    let within : q ≤ length acts = (let below = slice_get_within acts q (did t (MarkUndone s w) Answer.Done) undone in omega (arith, below)) in
     let ending = did_at code b c acts run q t (MarkUndone s w) Answer.Done undone in
     let ends = done_as (deed_at code b c q ending (tags_at code b c acts run plain q within).0) refl in
     let opened = opener code b c acts run q within t ending.from ending.stands (open_above ending.from ends.unpinned) in

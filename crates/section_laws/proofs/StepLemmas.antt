@@ -30,8 +30,7 @@ use Rattle.thread_automaton.specs.Answers.{change_of}
 use Rattle.thread_automaton.specs.Told.{Told, advanced, born, told, counted_for, after_answer}
 use Rattle.automaton_rows.specs.Fits.{StageFits}
 use Rattle.automaton_rows.specs.Rows.{Row, is_lost, pins, restores, gives_monitor_back, is_undone, section_numbered, sections_full, section_opened, monitor_taken, own_again, entered_again, exits_inner, left_once, monitor_left, section_left, wait_begins, wait_made, notify_begins, start_begins, is_unready}
-use Rattle.automaton_rows.proofs.RowLemmas.{answers_are_rows, words_can_answer}
-use Rattle.section_laws.proofs.WordLemmas.{by_if}
+use Rattle.automaton_rows.proofs.RowLemmas.{answers_are_rows, words_can_answer, by_if}
 use Rattle.section_laws.proofs.DeedLemmas.{makes_it, view, opening_of}
 use Rattle.section_laws.proofs.ClaimLemmas.{above, claim, claim_of, claim_none, is_zero}
 use Rattle.section_laws.proofs.LogLemmas.{In}

@@ -1,6 +1,7 @@
 -- Undoing puts back what a section has overwritten, in runs as lists.
 use Rattle.std.proofs.Common.{◌≡◌, inl, inr, ℕ, zero, suc, ◌+◌, ◌<◌, ◌≤◌, ◌^◌, length, true≢false, Some, List, [], ◌∷◌, take, refl, sym, ◌∙◌, ap, subst, arith}
 use Rattle.std.specs.Prelude.{Contains, slice_get}
+use Rattle.std.proofs.lemmas.Option.{same_Some, slice_get_within}
 use Rattle.op_core.specs.ThreadCode.{Code}
 use Rattle.heap_words.specs.declared.areas.Area.TheVariants.{Object}
 use Rattle.heap_words.specs.Words.{tag_of}
@@ -17,8 +18,8 @@ use Rattle.core_runs.specs.Acts.{Act, quiet, did, beside}
 use Rattle.section_laws.specs.Undoing.{IsHeapWord, WritesObjectWords, HasOpened, IsUndone}
 use Rattle.section_laws.specs.Gone.{IsMonitor}
 use Rattle.section_laws.specs.InRuns.{with_entry, with_entries, ActsOf, IsHeapWordIn, WritesObjectWordsIn, UndoingPutsBackInRuns, IsMonitorIn, IsGoneBehind, UndoneSectionsAreGoneInRuns}
-use Rattle.section_laws.proofs.ClaimLemmas.{none_some, some_is}
-use Rattle.section_laws.proofs.RunLemmas.{get_below, act_at}
+use Rattle.section_laws.proofs.ClaimLemmas.{none_some}
+use Rattle.section_laws.proofs.RunLemmas.{act_at}
 use Rattle.section_laws.proofs.CoreRunLemmas.{in_front, behind_front, none_there}
 use Rattle.section_laws.proofs.SinceLemmas.{undoing_puts_back}
 use Rattle.section_laws.proofs.MonitorLemmas.{undone_are_gone}
@@ -65,7 +66,7 @@ stay_there (beside t step a ∷ acts) run e there = stay_there acts _ e (behind_
 entry_there : (acts : List Act) (run : List RunEntry) (k t : ℕ) (step : Step) (a : Answer) → slice_get acts k ≡ Some (did t step a) → Contains (with_entries acts run) (entry t step a)
 entry_there [] run k t step a at = none_some (did t step a) at
 entry_there (x ∷ acts) run zero t step a at =
-    subst (λ y. Contains (with_entries acts (with_entry y run)) (entry t step a)) (sym (some_is x (did t step a) at))
+    subst (λ y. Contains (with_entries acts (with_entry y run)) (entry t step a)) (sym (same_Some x (did t step a) at))
     (stay_there acts (entry t step a ∷ run) (entry t step a) (0, omega arith, refl))
 entry_there (x ∷ acts) run (suc k) t step a at = entry_there acts (with_entry x run) k t step a at
 
@@ -118,7 +119,7 @@ module _ {S : Type 0} (code : Code S) (b : Bounds) (first : Birth → ThreadStat
   gone small t s x there =
       let noted = note t s x there in
       let so = undone_are_gone code b made.cores made.acts made.is_run plain_acts small noted.0 t s x noted.1 in
-      let low : noted.0 ≤ length made.acts = (let below = get_below made.acts noted.0 _ noted.1 in omega (arith, below)) in
+      let low : noted.0 ≤ length made.acts = (let below = slice_get_within made.acts noted.0 _ noted.1 in omega (arith, below)) in
       record {
         words = λ at heap carries. so.words (length made.acts) at low (omega arith) (heap_word at heap) (ap (λ (v : Words). tag_of (v (Object at))) last_words ∙ carries);
         monitors = λ r is carries. so.monitors (length made.acts) r low (omega arith) (monitor r is) (ap (λ (v : Words). monitor_section (v (Object (r + 1)))) last_words ∙ carries);

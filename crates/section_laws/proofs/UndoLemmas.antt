@@ -1,6 +1,7 @@
 -- Undoing puts back what a section has overwritten.
 use Rattle.std.proofs.Common.{◌≡◌, inl, ℕ, suc, ◌<◌, ◌≤◌, ◌^◌, true, Some, List, length, true≢false, refl, sym, ◌∙◌, ap, subst, arith}
 use Rattle.std.specs.Prelude.{slice_get}
+use Rattle.std.proofs.lemmas.Option.{slice_get_within}
 use Rattle.op_core.specs.declared.Op.TheVariants.{Write}
 use Rattle.op_core.specs.declared.Next.TheVariants.{Want}
 use Rattle.op_core.specs.ThreadCode.{Code}
@@ -25,7 +26,7 @@ use Rattle.section_laws.specs.Undoing.{IsWordStep, IsHeapWord, WritesObjectWords
 use Rattle.section_laws.proofs.DeedLemmas.{view, quiet_deed}
 use Rattle.section_laws.proofs.ClaimLemmas.{section_changes}
 use Rattle.section_laws.proofs.FactLemmas.{Threads, InThreads}
-use Rattle.section_laws.proofs.RunLemmas.{get_below, along, Known, deed_at, facts_at}
+use Rattle.section_laws.proofs.RunLemmas.{along, Known, deed_at, facts_at}
 use Rattle.section_laws.proofs.PinLemmas.{Moves, change_moves}
 use Rattle.section_laws.proofs.KnownLemmas.{IsSettled, knows_at}
 use Rattle.section_laws.proofs.LogLemmas.{In, LogStep, log_steps}
@@ -68,7 +69,7 @@ module _ {S : Type 0} (code : Code S) (b : Bounds) (c : ℕ → Core S) (acts : 
         plain.overwritten k t place (old, new, here ∙ ap (λ z. Some (did t z a)) is ∙ ap (λ z. Some (did t (SwapWord place old new) z)) done)
 
     range : (r i v : ℕ) → code.next at.from.local ≡ Want (Write r i v) → v < 2 ^ 32
-    range r i v wants = (plain.in_range k t at.from (Write r i v) (let below = get_below acts k (did t step a) here in omega (arith, below)) at.stands wants).2
+    range r i v wants = (plain.in_range k t at.from (Write r i v) (let below = slice_get_within acts k (did t step a) here in omega (arith, below)) at.stands wants).2
 
     pub log_step : LogStep IsPlace at.from (c k).words after step a (view thread_after)
     log_step = log_steps code IsPlace at.from (c k).words (deed_at code b c k at facts) at.answered free writes range
@@ -80,7 +81,7 @@ module _ {S : Type 0} (code : Code S) (b : Bounds) (c : ℕ → Core S) (acts : 
     did_tags tags = subst (λ z. Tags IsPlace z.words z.threads) (sym at.leads)
         (handed_tags code IsPlace step after at.from.local (set_at (c k).threads t (Some thread_after))
         (step_tags code IsPlace (c k).words after (c k).threads facts tags moves t at.from thread_after at.stands step a log_step
-        (knows_at code b c acts run k (let below = get_below acts k (did t step a) here in omega (arith, below)) t at.from at.stands)))
+        (knows_at code b c acts run k (let below = slice_get_within acts k (did t step a) here in omega (arith, below)) t at.from at.stands)))
 
   quiet_tags : (k t : ℕ) → k ≤ length acts → QuietAt code b c k t → Known code (c k) → TagsAt k → TagsAt (suc k)
   quiet_tags k t within at facts tags = subst (λ z. Tags IsPlace z.words z.threads) (sym at.leads)
@@ -108,7 +109,7 @@ module _ {S : Type 0} (code : Code S) (b : Bounds) (c : ℕ → Core S) (acts : 
       range_here r i v wants = (plain.in_range k t at.from (Write r i v) within at.stands wants).2
 
   act_tags : (k : ℕ) (x : Act) → slice_get acts k ≡ Some x → ActAt code b c k x → Known code (c k) → TagsAt k → TagsAt (suc k)
-  act_tags k (quiet t) here at facts tags = quiet_tags k t (let below = get_below acts k (quiet t) here in omega (arith, below)) at facts tags
+  act_tags k (quiet t) here at facts tags = quiet_tags k t (let below = slice_get_within acts k (quiet t) here in omega (arith, below)) at facts tags
   act_tags k (did t step a) here at facts tags = did_tags k t step a here at facts tags
   act_tags k (beside t step a) here at facts tags =
       subst (λ z. Tags IsPlace z.words z.threads) (sym at.leads) (beside_tags IsPlace step (c k).words (c k).threads at.is tags)
@@ -128,4 +129,4 @@ module _ {S : Type 0} (code : Code S) (b : Bounds) (c : ℕ → Core S) (acts : 
 
   pub tags_at : (k : ℕ) → k ≤ length acts → Known code (c k) × TagsAt k
   tags_at k within = along code b c acts run.leads (λ n. Known code (c n) × TagsAt n) (facts_at code b c acts run 0 (omega arith), first_tags)
-      (λ n x here at so. (facts_at code b c acts run (suc n) (get_below acts n x here), act_tags n x here at so.0 so.1)) k within
+      (λ n x here at so. (facts_at code b c acts run (suc n) (slice_get_within acts n x here), act_tags n x here at so.0 so.1)) k within

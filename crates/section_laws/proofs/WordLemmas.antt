@@ -15,10 +15,6 @@ use Rattle.step_port.specs.declared.step.Effect.{Effect}
 use Rattle.step_port.specs.declared.step.Effect.TheVariants.{Load, Store, Exchange, Add}
 use Rattle.step_port.specs.Words.{Words, area_eq, put_at, put_by, answer_to}
 
-pub by_if : {A : Type 0} (P : A → Type 0) (t : Bool) (x y : A) → (t ≡ true → P x) → (t ≡ false → P y) → P (if t then x else y)
-by_if P true x y when other = when refl
-by_if P false x y when other = other refl
-
 -- ---- states and tags
 
 pub state_replaced : (w n : ℕ) → n < 2 ^ 8 → state_of (with_state w n) ≡ n

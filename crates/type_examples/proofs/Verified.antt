@@ -2,6 +2,7 @@
 use Rattle.std.proofs.Common.{◌≡◌, ℕ, zero, suc, Option, Some, [], ◌∷◌, refl, sym, subst}
 use Rattle.std.proofs.lemmas.Option.{none-some, same_Some}
 use Rattle.rules.specs.Rules.{Rules, each}
+use Rattle.rules.proofs.RuleLaws.{one_holds}
 use Rattle.builtin_world.specs.Library.{library}
 use Rattle.code_decode.specs.declared.code.Code.{Code}
 use Rattle.code_decode.specs.declared.code.ClassUnit.{ClassUnit}
@@ -40,10 +41,6 @@ safe_rules : (file method : ℕ) (o : Option Environment) (env : Environment) �
 safe_rules file method o env e safe = subst (λ (x : Option Environment). (method_type_rules file method x).Hold) (sym e) safe
 
 -- ---- the rules of items one behind the other
-
-one_holds : {E X : Type 0} (rules : ℕ → X → Rules E) (x : X) → (rules 0 x).Hold → (each rules (x ∷ [])).Hold
-one_holds {X = X} rules x first zero y e = subst (λ (z : X). (rules 0 z).Hold) (same_Some x y e) first
-one_holds rules x first (suc i) y e = absurd (none-some y e)
 
 two_hold : {E X : Type 0} (rules : ℕ → X → Rules E) (x z : X) → (rules 0 x).Hold → (rules 1 z).Hold → (each rules (x ∷ z ∷ [])).Hold
 two_hold {X = X} rules x z first second zero y e = subst (λ (w : X). (rules 0 w).Hold) (same_Some x y e) first

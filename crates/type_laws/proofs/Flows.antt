@@ -1,7 +1,7 @@
 -- Where instructions lead, and where handlers begin.
 use Rattle.std.proofs.Common.{◌≡◌, ◌<◌, ◌⊎◌, ℕ, suc, Bool, true, false, not, ◌||◌, nat_lt, Option, None, Some, List, [], ◌∷◌, length, refl, sym, subst, inl, inr, ap, ◌∙◌, slice_get, option_and_then, if◌then◌else◌}
 use Rattle.std.specs.List.{AllByRecursion}
-use Rattle.std.proofs.lemmas.Bool.{ltb-true, true≢false}
+use Rattle.std.proofs.lemmas.Bool.{ltb-true, true≢false, not-true}
 use Rattle.std.proofs.lemmas.Option.{same_Some, none-some, slice_get_within}
 use Rattle.instructions.specs.declared.what.Instr.{Instr}
 use Rattle.instructions.specs.declared.what.Target.{Target}
@@ -14,7 +14,7 @@ use Rattle.type_rules.specs.TypeSafe.{falling, fallen, IsAssignment}
 use Rattle.type_rules.proofs.Falling.{step_there}
 use Rattle.type_laws.specs.Frames.{OfEach, Enters, GoesOn, IsEntered, HandlersAreEntered}
 use Rattle.type_laws.proofs.Chains.{none_of, holds}
-use Rattle.type_laws.proofs.Kept.{at_each, not_true}
+use Rattle.type_laws.proofs.Kept.{at_each}
 use Rattle.type_laws.proofs.Padded.{goes_to_padded}
 use Rattle.type_laws.proofs.Rooms.{no_meeting_fault}
 
@@ -94,7 +94,7 @@ handler_entered env frames typed f h e =
     let first = none_of _ _ e in
     let second = none_of (flow_to env (thrown_frame f h) (env.map_at h.entry)) _ first.1 in
     record {
-      initialized = not_true _ (holds _ _ first.0);
+      initialized = not-true _ (holds _ _ first.0);
       entry = enters env frames typed (thrown_frame f h) h.entry second.0;
       caught = holds _ _ second.1;
     }

@@ -1,8 +1,8 @@
 -- What each rule that holds at an instruction says.
-use Rattle.std.proofs.Common.{◌≡◌, ℕ, Bool, true, false, not, ◌&&◌, nat_le, None, List, [], ◌∷◌, length, refl, sym, ap, ◌∙◌}
+use Rattle.std.proofs.Common.{◌≡◌, ℕ, true, false, not, ◌&&◌, nat_le, None, List, [], ◌∷◌, length, refl, sym, ap, ◌∙◌}
 use Rattle.std.specs.List.{AllByRecursion, list_any}
 use Rattle.std.specs.Option.{option_map_or}
-use Rattle.std.proofs.lemmas.Bool.{and_parts, leb-true, true≢false}
+use Rattle.std.proofs.lemmas.Bool.{and_parts, leb-true, true≢false, not-true}
 use Rattle.std.proofs.lemmas.Option.{slice_get_within}
 use Rattle.instructions.specs.declared.what.Instr.{Instr}
 use Rattle.instructions.specs.declared.what.Target.{Target}
@@ -42,10 +42,6 @@ all_right (right ∷ vs) e d = (refl, all_right vs e d)
 all_right (wrong ∷ vs) e d = absurd (true≢false e)
 all_right (uninitialized ∷ vs) e d = absurd (true≢false d)
 
-pub not_true : (b : Bool) → not b ≡ true → b ≡ false
-not_true true e = absurd (true≢false (sym e))
-not_true false e = refl
-
 -- each rule of the instruction itself
 pub record OwnRulesHold (env : Environment) (i : Instr Target) (f : TypeFrame) : Type 0 where
   pub shape : nat_le (words_wanted (wants env i.what)) (length f.stack) ≡ true
@@ -75,8 +71,8 @@ has_wanted : (env : Environment) (i : Instr Target) (f : TypeFrame) → OwnRules
 has_wanted env i f own = record {
   enough = leb-true _ _ own.shape;
   right = all_right (verdicts env (wants env i.what) f.stack)
-      (not_true _ (and_parts _ _ own.types).0)
-      (not_true _ (and_parts _ _ own.objects).0);
+      (not-true _ (and_parts _ _ own.types).0)
+      (not-true _ (and_parts _ _ own.objects).0);
 }
 
 uses_right : (env : Environment) (i : Instr Target) (f : TypeFrame) → OwnRulesHold env i f → UsesRightTypes env i f

@@ -17,8 +17,8 @@ use Rattle.type_rules.specs.declared.types.VerificationType.{VerificationType}
 use Rattle.type_rules.specs.declared.types.VerificationType.TheVariants.{Top, Int, Float, Long, Double, Second, Null, UninitThis, Uninit, Object}
 use Rattle.type_rules.specs.Assignable.{Hierarchy, is_class_assignable, is_same_element, is_same_object, is_same_type}
 use Rattle.type_rules.specs.Environments.{hierarchy_of}
+use Rattle.type_rules.proofs.SameTypes.{same_type}
 use Rattle.type_laws.specs.Itself.{class_in_element, class_in_object, TypesGoToThemselves}
-use Rattle.type_laws.proofs.SameTypes.{same_type}
 
 -- ---- the same
 

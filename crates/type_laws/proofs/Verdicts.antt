@@ -1,10 +1,11 @@
 -- The methods of a program one by one.
-use Rattle.std.proofs.Common.{◌≡◌, ◌<◌, ◌≤◌, ◌⊎◌, ℕ, zero, suc, Option, None, Some, List, [], ◌∷◌, length, refl, sym, subst, inl, inr, ap, ◌∙◌, arith, slice_get}
+use Rattle.std.proofs.Common.{◌≡◌, ◌≤◌, ◌⊎◌, ℕ, zero, suc, Option, None, Some, List, length, refl, sym, subst, inl, inr, ap, ◌∙◌, arith, slice_get}
 use Rattle.std.proofs.lemmas.Option.{same_Some}
 use Rattle.rules.specs.Rules.{Rules, HoldBelow, each}
 use Rattle.rules.proofs.RuleLaws.{one_more, none_yet, all_hold}
 use Rattle.rules.proofs.SharpLaws.{IsSharp, sharp_each}
 use Rattle.code_decode.specs.declared.code.ClassUnit.{ClassUnit}
+use Rattle.code_decode.proofs.HandlerLaws.{item_at}
 use Rattle.instructions.specs.declared.what.Instr.{Instr}
 use Rattle.instructions.specs.declared.what.Target.{Target}
 use Rattle.type_rules.specs.declared.refusal.VerifyRefusal.{VerifyRefusal}
@@ -46,16 +47,11 @@ decided_method file method (Some env) =
 
 -- ---- of items one behind the other
 
-item_there : {X : Type 0} (xs : List X) (j : ℕ) → j < length xs → (x : X) × (slice_get xs j ≡ Some x)
-item_there [] j h = absurd (omega arith)
-item_there (x ∷ xs) zero h = (x, refl)
-item_there (x ∷ xs) (suc j) h = item_there xs j (omega arith)
-
 decided_below : {E X : Type 0} (rules : ℕ → X → Rules E) (xs : List X) → ((i : ℕ) (x : X) → IsDecided (rules i x)) → (n : ℕ) → n ≤ length xs
     → HoldBelow rules xs n ⊎ ((e : E) × (each rules xs).Refuse e)
 decided_below rules xs decided zero le = inl (none_yet rules xs)
 decided_below rules xs decided (suc n) le =
-    let here = item_there xs n (omega arith) in
+    let here = item_at xs n (omega arith) in
     elim (decided_below rules xs decided n (omega arith)) [
       | inr refused ↦ inr refused
       | inl below ↦ elim (decided n here.0) [

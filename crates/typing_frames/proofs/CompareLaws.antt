@@ -1,5 +1,6 @@
 -- Frames that are compared.
 use Rattle.std.proofs.Common.{◌≡◌, ◌≢◌, suc, ◌≤◌, Bool, true, false, not, ◌&&◌, ◌||◌, List, [], ◌∷◌, length, refl, sym, ◌∙◌, ap, subst}
+use Rattle.std.proofs.Math.Bool.{and-false}
 use Rattle.type_rules.specs.declared.types.VerificationType.{VerificationType}
 use Rattle.type_rules.specs.Assignable.{Hierarchy, is_assignable, are_assignable, are_locals_assignable}
 use Rattle.type_rules.specs.Environment.{Environment, TypeFrame}
@@ -63,16 +64,12 @@ module _ (old new : FrameStores) where
 
 -- ---- frames that are assignable
 
-and_false : (a : Bool) → (a && false) ≡ false
-and_false true = refl
-and_false false = refl
-
 unequal : (h : Hierarchy) (low high : List VerificationType) → length low ≢ length high → are_assignable h low high ≡ false
 unequal h [] [] ne = absurd (ne refl)
 unequal h [] (b ∷ high) ne = refl
 unequal h (a ∷ low) [] ne = refl
 unequal h (a ∷ low) (b ∷ high) ne =
-    ap (λ x. is_assignable h a b && x) (unequal h low high (λ e. ne (ap suc e))) ∙ and_false (is_assignable h a b)
+    ap (λ x. is_assignable h a b && x) (unequal h low high (λ e. ne (ap suc e))) ∙ and-false (is_assignable h a b)
 
 pub depths_apart : (env : Environment) (low high : TypeFrame) → length low.stack ≢ length high.stack → false ≡ is_frame_assignable env low high
 depths_apart env low high ne =
@@ -84,7 +81,7 @@ flags_apart env low high l h =
     let locals = are_locals_assignable env.hierarchy low.locals high.locals in
     sym (ap (λ x. stacks && (locals && (not x || high.flag_this_uninit))) l
     ∙ ap (λ x. stacks && (locals && x)) h
-    ∙ ap (λ x. stacks && x) (and_false locals) ∙ and_false stacks)
+    ∙ ap (λ x. stacks && x) (and-false locals) ∙ and-false stacks)
 
 pub stacks_apart : (env : Environment) (low high : TypeFrame) → are_assignable env.hierarchy low.stack high.stack ≡ false → false ≡ is_frame_assignable env low high
 stacks_apart env low high e =

@@ -1,20 +1,12 @@
 -- The rules of what look-up finds.
 use mathlib.Core.Bool.{beq}
-use Rattle.std.proofs.Common.{◌≡◌, Bool, true, false, not, Option, None, Some, Result, Ok, Err, inr, refl}
+use Rattle.std.proofs.Common.{◌≡◌, Bool, true, false, not, Option, None, Some, refl}
 use Rattle.std.specs.Option.{option_map}
 use Rattle.std.proofs.lemmas.Option.{same_Some}
-use Rattle.rules.specs.Rules.{Rules, ◌then◌}
-use Rattle.link_types.specs.declared.refusal.LinkRefusal.{LinkRefusal}
-use Rattle.class_supers.specs.Answers.{KeepsExactly}
 
 pub mapped_some : {A B : Type 0} (f : A → B) (y : B) (o : Option A) → Some y ≡ option_map f o → (d : A) × (o ≡ Some d) × (y ≡ f d)
 mapped_some f y None e = absurd cc
 mapped_some f y (Some d) e = (d, refl, same_Some y (f d) e)
-
--- rules behind others that hold
-pub keeps_behind : {T : Type 0} (first rest : Rules LinkRefusal) (r : Result T LinkRefusal) → first.Hold → KeepsExactly r rest → KeepsExactly r (first then rest)
-keeps_behind first rest (Ok x) holds keeps = (holds, keeps)
-keeps_behind first rest (Err e) holds keeps = inr (holds, keeps)
 
 pub same_bools : (a b : Bool) → not (beq a b) ≡ false → a ≡ b
 same_bools true true e = refl

@@ -78,10 +78,6 @@ there_is cs pool at i r f is entry known =
     ∙ ap (λ o. is_class_there cs (unwrap_or o [])) (class_is pool (slice_get pool at) r is)
     ∙ sym (ap (λ o. is_class_there cs (unwrap_or o (reference_of [] [] [])).class) is)
 
-pub not_true : (b : Bool) → not b ≡ true → b ≡ false
-not_true true e = absurd cc
-not_true false e = refl
-
 pub not_false : (b : Bool) → not b ≡ false → b ≡ true
 not_false true e = refl
 not_false false e = absurd cc

@@ -1,4 +1,5 @@
 use Rattle.std.proofs.Common.{ap, subst}
+use Rattle.class_supers.proofs.RuleLaws.{keeps_behind}
 use Rattle.rules.specs.Rules.{given}
 use Rattle.link_types.specs.declared.refusal.LinkRefusal.TheVariants.{At}
 use Rattle.link_types.specs.declared.refusal.LinkKind.TheVariants.{NoField}
@@ -7,7 +8,6 @@ use Rattle.link_rules.specs.Members.{found_field}
 use Rattle.use_rules.specs.declared.members.MemberFacts.{MemberFacts}
 use Rattle.use_rules.specs.Facts.{AreFactsOf}
 use Rattle.use_rules.specs.FoundRules.{found_field_rules}
-use Rattle.use_rules.proofs.CheckLaws.{keeps_behind}
 use Rattle.use_rules.proofs.checks.check_field.Goals as goal
 
 pub returns-in-Some : goal.returns-in-Some

@@ -1,9 +1,10 @@
 use Rattle.std.proofs.Common.{◌≡◌, List, [], slice_get, sym, ◌∙◌, ap, unwrap_or}
+use Rattle.std.proofs.lemmas.Bool.{not-true}
 use Rattle.class_pool.specs.Pool.{reference_of}
 use Rattle.class_pool.specs.Lookup.{reference_in}
 use Rattle.link_rules.specs.Classes.{NamedClass, classes_of, reference_at}
 use Rattle.use_rules.specs.Facts.{class_entry, member_facts}
-use Rattle.use_rules.proofs.MemberLaws.{numbered, there_is, class_there, class_missing, not_true, not_false}
+use Rattle.use_rules.proofs.MemberLaws.{numbered, there_is, class_there, class_missing, not_false}
 use Rattle.use_rules.proofs.members.member_at.Goals as goal
 
 pub member_facts-requires-clause-holder : goal.member_facts-requires-clause-holder
@@ -19,7 +20,7 @@ returns-then-not-class_at c =
     let n = numbered c.args.lookup.now (reference_in pool (slice_get pool c.args.index)) c.in_ok-reference.reference (c.in_ok-reference.ensures c.args.unit.now c.requires.there) in
     let entry = c.class_index-class.ensures ∙ ap (λ p. class_entry (slice_get p c.args.index)) c.as_slice.ensures in
     let there = there_is cs pool c.args.index c.class_index-class.result n.reference c.class_at.result n.is entry c.class_at.ensures in
-    class_missing cs c.args.place (reference_at pool c.args.index).class (sym there ∙ not_true c.class_at.result.is_there c.if-not-class_at.true)
+    class_missing cs c.args.place (reference_at pool c.args.index).class (sym there ∙ not-true c.class_at.result.is_there c.if-not-class_at.true)
 
 pub returns : goal.returns
 returns c =
