@@ -12,6 +12,7 @@ mod worlds;
 
 use accepts::{show_accepted, show_verified};
 use cases::{Case, Wanted, cases_of};
+use class_read::MOST_BYTES;
 use linker::World;
 use links::{Answer, Fault, file_of_text, link_files};
 use std::env;
@@ -19,9 +20,6 @@ use std::fs::{self, File};
 use std::io::{self, Read};
 use std::rt::{Env, Files};
 use worlds::show_world;
-
-/// How many bytes of a class file are read at most.
-const MOST_READ: u64 = 1_048_577;
 
 fn fault_text(fault: Fault) -> &'static str {
     match fault {
@@ -92,7 +90,7 @@ fn show_cases<R: Print + AllocGlobal + Files>(rt: &R, path: &str) -> io::Result<
 fn class_file<R: AllocGlobal + Files>(rt: &R, path: &str) -> io::Result<Vec<u8>> {
     let mut bytes = Vec::new(rt.alloc());
     File::open(rt, path)?
-        .take(MOST_READ)
+        .take(MOST_BYTES as u64 + 1)
         .read_to_end(&mut bytes)?;
     Ok(bytes)
 }
