@@ -1,4 +1,4 @@
--- The tests of sameness tell equality.
+-- Lists of types that are the same by their test are equal.
 use Rattle.std.proofs.Common.{◌≡◌, true, List, [], ◌∷◌, refl, ap, ◌∙◌, sym}
 use Rattle.std.proofs.lemmas.Bool.{and_parts, true≢false}
 use Rattle.type_rules.specs.declared.types.VerificationType.{VerificationType}
