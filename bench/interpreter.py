@@ -17,7 +17,7 @@ import tempfile
 
 PROGRAM = os.path.join("crates", "jrev_main", "out", "jrev_main")
 SOURCES = os.path.join("bench", "java")
-LOOPS = ["Arithmetic", "Calls", "Fields", "Arrays", "Exceptions", "Monitors"]
+LOOPS = ["Arithmetic", "Calls", "Fields", "Arrays", "Exceptions", "Monitors", "Appends", "CharAts"]
 COMPILED = ["java", "-XX:+UseSerialGC", "-cp"]
 JAVA = ["java", "-Xint", "-XX:+UseSerialGC", "-cp"]
 TURNS = 8 * 76923 * 13

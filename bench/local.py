@@ -53,7 +53,7 @@ use std::rt::{Clock, Env, Files};
 use std::time::Instant;
 
 const METHOD: MethodId = MethodId {
-    class: 28,
+    class: 29,
     method: 1,
 };
 

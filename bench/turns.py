@@ -51,16 +51,17 @@ impl From<NoMemory> for Stopped {
 MAIN = """//! Times turns.
 #![tactic(auto)]
 
-mod seat;
 mod setting;
 mod stopped;
+mod turning;
 
-use crate::seat::{Came, Seat, add, give_turn};
 use crate::setting::{FIRST, opening, words_of};
 use crate::stopped::Stopped;
+use crate::turning::{Came, add, give_turn};
 use anyhow::Result;
 use op_core::{Limits, Op};
 use plain_words::PlainWords;
+use rollback_core::ReadyThread;
 use std::alloc::Global;
 use std::env;
 use std::rt::{Clock, Env};
@@ -84,13 +85,13 @@ fn push_all(steps: &mut Vec<ToyStep>, of: &[ToyStep]) -> Result<(), Stopped> {
     Ok(())
 }
 
-fn repeated(alloc: Global, before: &[ToyStep], of: &[ToyStep], times: u32, behind: &[ToyStep]) -> Result<Vec<ToyStep>, Stopped> {
+fn repeated(alloc: Global, before: &[ToyStep], of: &[ToyStep], times: u32, after: &[ToyStep]) -> Result<Vec<ToyStep>, Stopped> {
     let mut steps = Vec::new(alloc);
     push_all(&mut steps, before)?;
     for _time in 0..times {
         push_all(&mut steps, of)?;
     }
-    push_all(&mut steps, behind)?;
+    push_all(&mut steps, after)?;
     Ok(steps)
 }
 
@@ -108,28 +109,28 @@ fn steps_of(alloc: Global, mode: &str, count: u32) -> Result<Vec<ToyStep>, Stopp
     }
 }
 
-fn is_over(seats: &[Seat<Toy<'_>>], place: usize) -> bool {
-    match seats.get(place) {
-        Some(seat) => seat.thread().is_over(),
+fn is_over(threads: &[ReadyThread<Toy<'_>>], place: usize) -> bool {
+    match threads.get(place) {
+        Some(ready) => ready.thread().is_over(),
         None => true,
     }
 }
 
-fn counted(seats: &[Seat<Toy<'_>>], place: usize) -> u64 {
-    match seats.get(place) {
-        Some(seat) => seat.thread().counted(),
+fn counted(threads: &[ReadyThread<Toy<'_>>], place: usize) -> u64 {
+    match threads.get(place) {
+        Some(ready) => ready.thread().counted(),
         None => u64::MAX,
     }
 }
 
 // Gives a thread turns until it has ended, or has had so many that count.
-fn until(seats: &mut Vec<Seat<Toy<'_>>>, words: &mut PlainWords, place: usize, most: u64) -> Result<u64, Stopped> {
+fn until(threads: &mut Vec<ReadyThread<Toy<'_>>>, words: &mut PlainWords, place: usize, most: u64) -> Result<u64, Stopped> {
     let mut turns: u64 = 0;
     for _turn in 0..u32::MAX {
-        if is_over(seats, place) || counted(seats, place) >= most {
+        if is_over(threads, place) || counted(threads, place) >= most {
             return Ok(turns);
         }
-        if let Came::Spent(_) = give_turn(seats, place, words)? {
+        if let Came::Spent(_) = give_turn(threads, place, words)? {
             return Err(Stopped);
         }
         turns = turns.saturating_add(1);
@@ -137,12 +138,12 @@ fn until(seats: &mut Vec<Seat<Toy<'_>>>, words: &mut PlainWords, place: usize, m
     Ok(turns)
 }
 
-fn begin<'a>(alloc: Global, scripts: &'a [ToyScript<'a>]) -> Result<(Vec<Seat<Toy<'a>>>, PlainWords), Stopped> {
-    let mut seats = Vec::new(alloc);
+fn begin<'a>(alloc: Global, scripts: &'a [ToyScript<'a>]) -> Result<(Vec<ReadyThread<Toy<'a>>>, PlainWords), Stopped> {
+    let mut threads = Vec::new(alloc);
     let main = Toy::new(alloc, scripts, 0);
-    add(&mut seats, Seat::first(alloc, main, 1, 5, BOUNDS))?;
+    add(&mut threads, ReadyThread::first(alloc, main, 1, 5, BOUNDS))?;
     let words = words_of(alloc, &opening(alloc)?, &BOUNDS.limits)?;
-    Ok((seats, words))
+    Ok((threads, words))
 }
 
 fn times<R: Print + Clock + AllocGlobal>(rt: &R, mode: &str, count: u32) -> Result<()> {
@@ -150,11 +151,11 @@ fn times<R: Print + Clock + AllocGlobal>(rt: &R, mode: &str, count: u32) -> Resu
         return Ok(());
     };
     let scripts = [ToyScript { object: 0, steps: &steps }];
-    let Ok((mut seats, mut words)) = begin(rt.alloc(), &scripts) else {
+    let Ok((mut threads, mut words)) = begin(rt.alloc(), &scripts) else {
         return Ok(());
     };
     let start = Instant::now(rt)?;
-    let turns = until(&mut seats, &mut words, 0, u64::MAX);
+    let turns = until(&mut threads, &mut words, 0, u64::MAX);
     let nanos = start.elapsed(rt)?.as_nanos();
     if let Ok(turns) = turns {
         println!(rt; "{turns} {nanos}")?;
@@ -163,14 +164,14 @@ fn times<R: Print + Clock + AllocGlobal>(rt: &R, mode: &str, count: u32) -> Resu
 }
 
 // The turns of the second and of the third thread, one of each by turns, until the third one has ended.
-fn waited(seats: &mut Vec<Seat<Toy<'_>>>, words: &mut PlainWords) -> Result<u64, Stopped> {
+fn waited(threads: &mut Vec<ReadyThread<Toy<'_>>>, words: &mut PlainWords) -> Result<u64, Stopped> {
     let mut turns: u64 = 0;
     for _turn in 0..u32::MAX {
-        if is_over(seats, 2) {
+        if is_over(threads, 2) {
             return Ok(turns);
         }
-        let _third = give_turn(seats, 2, words)?;
-        let _second = give_turn(seats, 1, words)?;
+        let _third = give_turn(threads, 2, words)?;
+        let _second = give_turn(threads, 1, words)?;
         turns = turns.saturating_add(2);
     }
     Ok(turns)
@@ -185,10 +186,10 @@ fn wait_for(alloc: Global, length: u32, priority: u8) -> Result<u64, Stopped> {
         ToyScript { object: 11, steps: &second },
         ToyScript { object: 16, steps: &third },
     ];
-    let (mut seats, mut words) = begin(alloc, &scripts)?;
-    let _main = until(&mut seats, &mut words, 0, u64::MAX)?;
-    let _half = until(&mut seats, &mut words, 1, (length / 2) as u64 + 3)?;
-    waited(&mut seats, &mut words)
+    let (mut threads, mut words) = begin(alloc, &scripts)?;
+    let _main = until(&mut threads, &mut words, 0, u64::MAX)?;
+    let _half = until(&mut threads, &mut words, 1, (length / 2) as u64 + 3)?;
+    waited(&mut threads, &mut words)
 }
 
 fn waits<R: Print + AllocGlobal>(rt: &R, length: u32) -> Result<()> {
@@ -227,7 +228,7 @@ def lent(text):
 def files():
     """The files of the program, two of them and their words as the tests have them."""
     made = {"src/main.rt": MAIN, "src/stopped.rt": STOPPED}
-    for path in ["src/seat.rt", "src/setting.rt", "specs/Seat.antt", "specs/Lib.antt"]:
+    for path in ["src/setting.rt", "src/turning.rt", "specs/MadeSteps.antt", "specs/Lib.antt"]:
         with open(os.path.join("crates", "turns_tests", path)) as source:
             made[path] = lent(source.read())
     return made

@@ -5,7 +5,7 @@
 #   tells LINE       a line on the standard error
 #   status N         where it isn't 0
 #   not java: WHAT   what `java` does instead, which isn't asked then
-# and behind them, in the language of docs/assembler.md, the code of main of the class A, and more classes.
+# and after them, in the language of docs/assembler.md, the code of main of the class A, and more classes.
 . checks/lib
 
 # What java writes of threads that died, as `died` lines. Its Thread-0 is thread 2, where threads start as they are made.

@@ -44,7 +44,8 @@ def library():
     classes = [
         built_in(lang + "Object", None, "1 <init>()V 17 wait()V 17 notify()V 17 notifyAll()V 1 equals(Ljava/lang/Object;)Z"),
         built_in(lang + "Class"),
-        built_in(lang + "String"),
+        built_in(lang + "String", methods="1 length()I 1 charAt(I)C 1 equals(Ljava/lang/Object;)Z "
+                 "1 concat(Ljava/lang/String;)Ljava/lang/String;", words=1),
         built_in(lang + "System", fields=[Member(PUBLIC | STATIC, "out", "Ljava/io/PrintStream;")]),
         built_in("java/io/PrintStream", methods="1 println()V 1 println(I)V 1 println(J)V 1 println(C)V 1 println(Z)V "
                  "1 println(Ljava/lang/String;)V"),
@@ -64,7 +65,15 @@ def library():
         ExceptionInInitializerError LinkageError IncompatibleClassChangeError LinkageError""".split()
     for name, above in zip(below[::2], below[1::2]):
         classes.append(built_in(lang + name, above, two))
+    gives = "Ljava/lang/StringBuilder;"
+    append = " ".join("1 append(%s)%s" % (kind, gives) for kind in ["I", "J", "C", "Z", "Ljava/lang/String;"])
+    classes.append(built_in(lang + "StringBuilder", methods=two + " " + append + " 1 length()I 1 toString()Ljava/lang/String;",
+                            words=1))
     return classes
+
+
+# the number of the first class of a file
+FIRST = len(library()) + 1
 
 
 # ---- what javap prints
@@ -204,7 +213,7 @@ class Program:
                     self.strings.append(text_at(f.pool, numbers(text)[0]))
 
     def array_names(self):
-        named = {"[Ljava/lang/String;"}
+        named = {"[C", "[Ljava/lang/String;"}
         for f in self.files:
             for word, operand in f.code:
                 if word == "newarray":
@@ -298,7 +307,7 @@ class Program:
         return sum(self.at(c).words + own_words(self.at(c).fields, 0) for c in self.up(number))
 
     def statics(self, number):
-        return own_words(self.at(number).fields, STATIC) if number > 27 else 0
+        return own_words(self.at(number).fields, STATIC) if number >= FIRST else 0
 
     def place(self, number, field):
         fields = self.at(number).fields
@@ -311,7 +320,7 @@ class Program:
         return 1 + sum(sizes)
 
     def string(self, text):
-        return self.object(len(self.classes) + len(self.arrays) + 1) + 9 + 2 * self.strings.index(text)
+        return self.object(len(self.classes) + len(self.arrays) + 1) + 9 + 3 * self.strings.index(text)
 
     def descriptor(self, number):
         named = len(self.classes)
@@ -408,11 +417,11 @@ class Program:
         out = self.object(len(self.classes) + len(self.arrays) + 1)
         yield "out %d thread %d arguments %d" % (out, out + 2, out + 7)
         for n, text in enumerate(self.strings):
-            yield "string %d at %d %s" % (n, out + 9 + 2 * n, text)
-        yield "free %d" % (out + 9 + 2 * len(self.strings))
+            yield "string %d at %d %s" % (n, out + 9 + 3 * n, text)
+        yield "free %d" % (out + 9 + 3 * len(self.strings))
 
     def call_lines(self, number):
-        for owner in [1, 6] + list(range(28, len(self.classes) + 1)):
+        for owner in [1, 6] + list(range(FIRST, len(self.classes) + 1)):
             calls = [(owner, place) for place in range(len(self.at(owner).methods))]
             yield "object %d calls of %d:%s" % (number, owner, "".join(" " + shown(self.select(number, c)) for c in calls))
 
@@ -452,16 +461,16 @@ class Program:
     def lines(self):
         named, count = len(self.classes), len(self.classes) + len(self.arrays)
         yield "classes %d and arrays %d" % (named, count)
-        for number in range(28, named + 1):
+        for number in range(FIRST, named + 1):
             yield from self.class_lines(number)
         for number in range(named + 1, count + 1):
             yield from self.array_lines(number)
-        for number in range(28, count + 1):
+        for number in range(FIRST, count + 1):
             yield self.supertype_line(number)
         yield from self.fixed_lines()
-        for number in range(28, named + 2):
+        for number in range(FIRST, named + 2):
             yield from self.call_lines(number)
-        for number in range(28, named + 1):
+        for number in range(FIRST, named + 1):
             pool = self.at(number).pool
             for index in sorted(i for i in pool if i < MOST_INDICES):
                 text = self.operand(number, pool, index)

@@ -16,14 +16,14 @@ use Rattle.link_rules.proofs.Numbers.{in_library, file_class, is_file}
 use Rattle.base_order.specs.Bases.{name_of}
 use Rattle.array_classes.specs.Numbers.{AreNamed}
 
-library_named : (us : List ClassUnit) → map (λ c. spells_class_name false (name_of (classes_of us) c)) (range_with_len 1 27) ≡ map (λ _. true) (range_with_len 1 27)
+library_named : (us : List ClassUnit) → map (λ c. spells_class_name false (name_of (classes_of us) c)) (range_with_len 1 28) ≡ map (λ _. true) (range_with_len 1 28)
 unfolding library spells_class_name
 library_named us = refl
 
 pub classes_named : (us : List ClassUnit) → AreUnits us → AreNamed (classes_of us)
-classes_named us decoded c is = elim (cases_lt 27 c) [
+classes_named us decoded c is = elim (cases_lt 28 c) [
   | inr low ↦ name_spelled (name_of (classes_of us) c)
-      (in_library 1 27 (λ c. spells_class_name false (name_of (classes_of us) c)) (λ _. true) (library_named us) c (let some = is.0 in omega (arith, some)) (omega arith))
+      (in_library 1 28 (λ c. spells_class_name false (name_of (classes_of us) c)) (λ _. true) (library_named us) c (let some = is.0 in omega (arith, some)) (omega arith))
   | inl read ↦ of_file (is_file us c read is.1)
 ]
   where

@@ -9,11 +9,12 @@ use Rattle.link_types.specs.declared.types.ElementType.TheVariants as elements
 use Rattle.link_rules.specs.Classes.{classes_of}
 use Rattle.link_rules.specs.Units.{AreUnits}
 use Rattle.link_rules.specs.LinkRules.{link_rules}
-use Rattle.link_rules.specs.Arrays.{arguments_array}
+use Rattle.instructions.specs.declared.operation.PrimitiveType.TheVariants.{Char}
+use Rattle.link_rules.specs.Arrays.{arguments_array, primitive_array}
 use Rattle.link_rules.proofs.Numbers.{class_count_is}
 use Rattle.array_order.specs.Order.{array_text}
 use Rattle.base_order.specs.Bases.{base_text}
-use Rattle.array_kinds.specs.Kinds.{array_kind}
+use Rattle.array_kinds.specs.Kinds.{array_kind, primitive_kind}
 use Rattle.array_uses.specs.Most.{IsArrayIn}
 use Rattle.array_uses.specs.Uses.{IsCodeRight, AreCodesRight}
 
@@ -39,3 +40,10 @@ arguments_in us = record {
   some = omega arith;
   few = omega arith;
 }
+
+-- the arrays of the units of Strings
+abbrev pub units_array : List ℕ
+units_array = primitive_array Char
+
+pub units_in : (us : List ClassUnit) → IsArrayIn (classes_of us) (primitive_kind Char) units_array
+units_in us = record { base = tt; spelled = refl; some = omega arith; few = omega arith }

@@ -21,7 +21,7 @@ use builtin_world::number::STRING;
 use class_supers::Supers;
 use class_walk::Constant;
 use code_decode::{ClassUnit, Code};
-use instructions::{ClassUse, Instr, Target, What};
+use instructions::{ClassUse, Instr, PrimitiveType, Target, What};
 use link_types::{ElementType, ObjectType};
 use pool_types::PoolTypes;
 use std::alloc::{AllocError, Global};
@@ -124,6 +124,7 @@ pub fn most_dimensions(
         dimensions: 1,
         base: ElementType::Class(STRING),
     };
+    add_array(&mut most, order, primitive_array(PrimitiveType::Char));
     add_array(&mut most, order, arguments);
     let units = supers.units();
     for (file, unit) in units.iter().enumerate() {

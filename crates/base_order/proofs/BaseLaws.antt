@@ -21,28 +21,28 @@ use Rattle.base_order.specs.Bases.{name_of, base_text, text_of_base, primitive_b
 
 -- ---- names
 
-library_names : (us : List ClassUnit) → map (λ c. bytes_eq (option_map_or (λ (r : LibraryRow). r.name) (library_row c) []) (name_of (classes_of us) c)) (range_with_len 0 28) ≡ map (λ _. true) (range_with_len 0 28)
+library_names : (us : List ClassUnit) → map (λ c. bytes_eq (option_map_or (λ (r : LibraryRow). r.name) (library_row c) []) (name_of (classes_of us) c)) (range_with_len 0 29) ≡ map (λ _. true) (range_with_len 0 29)
 unfolding rows library
 library_names us = refl
 
-pub library_name : (us : List ClassUnit) (c : ℕ) → c ≤ 27 → option_map_or (λ (r : LibraryRow). r.name) (library_row c) [] ≡ name_of (classes_of us) c
+pub library_name : (us : List ClassUnit) (c : ℕ) → c ≤ 28 → option_map_or (λ (r : LibraryRow). r.name) (library_row c) [] ≡ name_of (classes_of us) c
 library_name us c low =
     (bytes_eq-Decides (option_map_or (λ (r : LibraryRow). r.name) (library_row c) []) (name_of (classes_of us) c)).0
-    (in_library 0 28 (λ c. bytes_eq (option_map_or (λ (r : LibraryRow). r.name) (library_row c) []) (name_of (classes_of us) c)) (λ _. true) (library_names us) c (omega arith) (omega arith))
+    (in_library 0 29 (λ c. bytes_eq (option_map_or (λ (r : LibraryRow). r.name) (library_row c) []) (name_of (classes_of us) c)) (λ _. true) (library_names us) c (omega arith) (omega arith))
 
-pub file_name_is : (us : List ClassUnit) (c : ℕ) → 27 < c → option_map_or (λ (u : ClassUnit). (class_of_unit u).name) (slice_get us (c - 28)) [] ≡ name_of (classes_of us) c
-file_name_is us c high = go (slice_get us (c - 28)) refl
+pub file_name_is : (us : List ClassUnit) (c : ℕ) → 28 < c → option_map_or (λ (u : ClassUnit). (class_of_unit u).name) (slice_get us (c - 29)) [] ≡ name_of (classes_of us) c
+file_name_is us c high = go (slice_get us (c - 29)) refl
   where
-    same : number_of_file (c - 28) ≡ c
+    same : number_of_file (c - 29) ≡ c
     same = omega arith
 
     past_all : (c : ℕ) → length (classes_of us) < c → class_numbered (classes_of us) c ≡ None
     past_all zero lt = refl
     past_all (suc i) lt = slice_get_past (classes_of us) i (omega arith)
 
-    go : (o : Option ClassUnit) → slice_get us (c - 28) ≡ o → option_map_or (λ (u : ClassUnit). (class_of_unit u).name) o [] ≡ name_of (classes_of us) c
-    go (Some u) at = sym (ap (λ o. option_map_or (λ (k : NamedClass). k.name) o []) (ap (class_numbered (classes_of us)) (sym same) ∙ file_class us (c - 28) u at))
-    go None at = elim (slice_get_cases us (c - 28)).1 [
+    go : (o : Option ClassUnit) → slice_get us (c - 29) ≡ o → option_map_or (λ (u : ClassUnit). (class_of_unit u).name) o [] ≡ name_of (classes_of us) c
+    go (Some u) at = sym (ap (λ o. option_map_or (λ (k : NamedClass). k.name) o []) (ap (class_numbered (classes_of us)) (sym same) ∙ file_class us (c - 29) u at))
+    go None at = elim (slice_get_cases us (c - 29)).1 [
       | inl there ↦ absurd (none-some there.0 (sym at ∙ there.2))
       | inr past ↦ sym (ap (λ o. option_map_or (λ (k : NamedClass). k.name) o []) (past_all c (let le = past.0 in let count = class_count_is us in omega arith)))
     ]

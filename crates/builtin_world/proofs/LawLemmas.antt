@@ -6,12 +6,12 @@ use Rattle.std.specs.Option.{option_map_or, IfSome, IsSomeAnd}
 use Rattle.std.proofs.lemmas.Bool.{eqb-true, ltb-true}
 use Rattle.std.proofs.lemmas.List.Elements.{All-weaker}
 use Rattle.builtin_world.specs.declared.Native.{Native}
-use Rattle.builtin_world.specs.declared.Native.TheVariants.{ObjectInit, ObjectWait, ObjectNotify, ObjectNotifyAll, ObjectEquals, PrintlnEmpty, PrintlnInt, PrintlnLong, PrintlnChar, PrintlnBoolean, PrintlnString, RunnableRun, ThreadInit, ThreadInitTarget, ThreadStart, ThreadRun, ThreadJoin, ThreadSetPriority, ThreadGetPriority, ThreadCurrentThread, ThreadYield, ThrowableInit, ThrowableInitMessage, ThrowableGetMessage}
+use Rattle.builtin_world.specs.declared.Native.TheVariants.{ObjectInit, ObjectWait, ObjectNotify, ObjectNotifyAll, ObjectEquals, PrintlnEmpty, PrintlnInt, PrintlnLong, PrintlnChar, PrintlnBoolean, PrintlnString, RunnableRun, ThreadInit, ThreadInitTarget, ThreadStart, ThreadRun, ThreadJoin, ThreadSetPriority, ThreadGetPriority, ThreadCurrentThread, ThreadYield, ThrowableInit, ThrowableInitMessage, ThrowableGetMessage, StringLength, StringCharAt, StringEquals, StringConcat, BuilderInit, BuilderInitText, AppendInt, AppendLong, AppendChar, AppendBoolean, AppendString, BuilderLength, BuilderToString}
 use Rattle.access_flags.specs.declared.TheConstants.{FINAL, INTERFACE}
 use Rattle.builtin_world.specs.Library.{Class, library}
 use Rattle.builtin_world.specs.BuiltinClass.{ClassRow, rows, row_named, row_numbered, number_of}
 use Rattle.builtin_world.specs.Native.{member_of, member_at, method_with, native_at}
-use Rattle.builtin_world.specs.Laws.{NumbersRunFromOne, NamesAreDistinct, NumbersAreDistinct, SupersComeFirst, InterfacesComeFirst, SupersAreOpen, InterfacesAreInterfaces, ThrowablesComeLast, SubclassesKeepWords, MethodsAreDistinct, MethodsAreFew, NativesAreOwn, ConstantsAreNumbers, number_constants, words_of}
+use Rattle.builtin_world.specs.Laws.{NumbersRunFromOne, NamesAreDistinct, NumbersAreDistinct, SupersComeFirst, InterfacesComeFirst, SupersAreOpen, InterfacesAreInterfaces, ThrowablesComeTogether, is_throwable, SubclassesKeepWords, MethodsAreDistinct, MethodsAreFew, NativesAreOwn, ConstantsAreNumbers, number_constants, words_of}
 use Rattle.builtin_world.proofs.Tables.{All-from_map, All-from_map_within, All-from_test, IfSome-from_test, IsSomeAnd-from_test}
 
 pub numbers_run : NumbersRunFromOne
@@ -65,9 +65,9 @@ interfaces_are_interfaces =
     (All-from_map_within (λ (r : ClassRow). r.interfaces)
     (λ r i. option_map_or (λ s. nat_eq (bit_and s.flags INTERFACE) INTERFACE) (row_numbered i) false) (λ r i. true) rows refl)
 
-pub throwables_come_last : ThrowablesComeLast
+pub throwables_come_together : ThrowablesComeTogether
 unfolding rows library
-throwables_come_last = All-from_map (λ (r : ClassRow). nat_le 8 r.number) (λ r. r.number == 8 || nat_le 8 r.super_number) rows refl
+throwables_come_together = All-from_map (λ (r : ClassRow). is_throwable r.number) (λ r. r.number == 8 || is_throwable r.super_number) rows refl
 
 pub subclasses_keep_words : SubclassesKeepWords
 unfolding library
@@ -120,3 +120,16 @@ native_at-member_of ThreadYield = refl
 native_at-member_of ThrowableInit = refl
 native_at-member_of ThrowableInitMessage = refl
 native_at-member_of ThrowableGetMessage = refl
+native_at-member_of StringLength = refl
+native_at-member_of StringCharAt = refl
+native_at-member_of StringEquals = refl
+native_at-member_of StringConcat = refl
+native_at-member_of BuilderInit = refl
+native_at-member_of BuilderInitText = refl
+native_at-member_of AppendInt = refl
+native_at-member_of AppendLong = refl
+native_at-member_of AppendChar = refl
+native_at-member_of AppendBoolean = refl
+native_at-member_of AppendString = refl
+native_at-member_of BuilderLength = refl
+native_at-member_of BuilderToString = refl

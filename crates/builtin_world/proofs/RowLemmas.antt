@@ -17,11 +17,11 @@ numbers_start : All (λ (r : ClassRow). 0 < r.number) rows
 unfolding rows library
 numbers_start = All-from_test (λ r. nat_lt 0 r.number) (λ r. 0 < r.number) (λ r. ltb-true 0 r.number) rows refl
 
-numbers_end : All (λ (r : ClassRow). r.number ≤ 27) rows
+numbers_end : All (λ (r : ClassRow). r.number ≤ 28) rows
 unfolding rows library
-numbers_end = All-from_test (λ r. nat_le r.number 27) (λ r. r.number ≤ 27) (λ r. leb-true r.number 27) rows refl
+numbers_end = All-from_test (λ r. nat_le r.number 28) (λ r. r.number ≤ 28) (λ r. leb-true r.number 28) rows refl
 
-pub numbers_in_range : All (λ (r : ClassRow). (0 < r.number) × (r.number ≤ 27)) rows
+pub numbers_in_range : All (λ (r : ClassRow). (0 < r.number) × (r.number ≤ 28)) rows
 numbers_in_range k d within = (numbers_start k d within, numbers_end k d within)
 
 pub row_numbered-zero : row_numbered 0 ≡ None

@@ -1,8 +1,8 @@
 -- What holds of the table as a whole.
-use Rattle.std.specs.Prelude.{◌≡◌, ◌<◌, ◌+◌, ◌^◌, ◌==◌, ◌||◌, nat_le, bit_and, IfSome, IsSomeAnd, ℕ, List, [], ◌∷◌, Option, Some, All, map, length, take, find, position, codes, bytes_eq}
+use Rattle.std.specs.Prelude.{◌≡◌, ◌<◌, ◌+◌, ◌^◌, ◌==◌, ◌||◌, nat_le, nat_lt, Bool, ◌&&◌, bit_and, IfSome, IsSomeAnd, ℕ, List, [], ◌∷◌, Option, Some, All, map, length, take, find, position, codes, bytes_eq}
 use Rattle.std.specs.List.{range_with_len}
 use Rattle.std.specs.Option.{option_map_or}
-use Rattle.builtin_world.specs.declared.number.TheConstants.{OBJECT, CLASS, STRING, SYSTEM, PRINT_STREAM, RUNNABLE, THREAD, THROWABLE, EXCEPTION, RUNTIME_EXCEPTION, ERROR, INTERRUPTED_EXCEPTION, ARITHMETIC_EXCEPTION, NULL_POINTER_EXCEPTION, INDEX_OUT_OF_BOUNDS_EXCEPTION, ARRAY_INDEX_OUT_OF_BOUNDS_EXCEPTION, NEGATIVE_ARRAY_SIZE_EXCEPTION, ARRAY_STORE_EXCEPTION, CLASS_CAST_EXCEPTION, ILLEGAL_MONITOR_STATE_EXCEPTION, ILLEGAL_ARGUMENT_EXCEPTION, ILLEGAL_THREAD_STATE_EXCEPTION, ILLEGAL_STATE_EXCEPTION, LINKAGE_ERROR, NO_CLASS_DEF_FOUND_ERROR, EXCEPTION_IN_INITIALIZER_ERROR, INCOMPATIBLE_CLASS_CHANGE_ERROR}
+use Rattle.builtin_world.specs.declared.number.TheConstants.{OBJECT, CLASS, STRING, SYSTEM, PRINT_STREAM, RUNNABLE, THREAD, THROWABLE, EXCEPTION, RUNTIME_EXCEPTION, ERROR, INTERRUPTED_EXCEPTION, ARITHMETIC_EXCEPTION, NULL_POINTER_EXCEPTION, INDEX_OUT_OF_BOUNDS_EXCEPTION, ARRAY_INDEX_OUT_OF_BOUNDS_EXCEPTION, NEGATIVE_ARRAY_SIZE_EXCEPTION, ARRAY_STORE_EXCEPTION, CLASS_CAST_EXCEPTION, ILLEGAL_MONITOR_STATE_EXCEPTION, ILLEGAL_ARGUMENT_EXCEPTION, ILLEGAL_THREAD_STATE_EXCEPTION, ILLEGAL_STATE_EXCEPTION, LINKAGE_ERROR, NO_CLASS_DEF_FOUND_ERROR, EXCEPTION_IN_INITIALIZER_ERROR, INCOMPATIBLE_CLASS_CHANGE_ERROR, STRING_BUILDER}
 use Rattle.access_flags.specs.declared.TheConstants.{FINAL, INTERFACE}
 use Rattle.builtin_world.specs.Library.{library}
 use Rattle.builtin_world.specs.BuiltinClass.{rows, row_named, row_numbered, number_of}
@@ -34,11 +34,14 @@ abbrev pub InterfacesAreInterfaces : Type 0
 InterfacesAreInterfaces =
     All (λ r. All (λ i. IsSomeAnd (row_numbered i) (λ s. bit_and s.flags INTERFACE ≡ INTERFACE)) r.interfaces) rows
 
--- Throwable and the classes below it are the last: a class is one of them where it is Throwable
--- or its superclass is one of them
-abbrev pub ThrowablesComeLast : Type 0
-ThrowablesComeLast =
-    All (λ r. nat_le THROWABLE r.number ≡ (r.number == THROWABLE || nat_le THROWABLE r.super_number)) rows
+-- Throwable and the classes below it come one after another, up to the last one before StringBuilder: a class is one of
+-- them where it is Throwable or its superclass is one of them
+abbrev pub is_throwable : ℕ → Bool
+is_throwable n = nat_le THROWABLE n && nat_lt n STRING_BUILDER
+
+abbrev pub ThrowablesComeTogether : Type 0
+ThrowablesComeTogether =
+    All (λ r. is_throwable r.number ≡ (r.number == THROWABLE || is_throwable r.super_number)) rows
 
 -- the words of a class
 abbrev pub words_of : List ℕ → List (List ℕ)
@@ -90,6 +93,7 @@ number_constants =
     ∷ (codes "java/lang/NoClassDefFoundError", NO_CLASS_DEF_FOUND_ERROR)
     ∷ (codes "java/lang/ExceptionInInitializerError", EXCEPTION_IN_INITIALIZER_ERROR)
     ∷ (codes "java/lang/IncompatibleClassChangeError", INCOMPATIBLE_CLASS_CHANGE_ERROR)
+    ∷ (codes "java/lang/StringBuilder", STRING_BUILDER)
     ∷ []
 
 abbrev pub ConstantsAreNumbers : Type 0

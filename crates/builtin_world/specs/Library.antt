@@ -5,7 +5,7 @@ use Prim.Native.String.{String}
 use Rattle.std.specs.Prelude.{ℕ, ◌+◌, List, [], ◌∷◌, codes}
 use Rattle.access_flags.specs.declared.TheConstants.{PUBLIC, STATIC, FINAL, INTERFACE, ABSTRACT}
 use Rattle.builtin_world.specs.declared.Native.{Native}
-use Rattle.builtin_world.specs.declared.Native.TheVariants.{ObjectInit, ObjectWait, ObjectNotify, ObjectNotifyAll, ObjectEquals, PrintlnEmpty, PrintlnInt, PrintlnLong, PrintlnChar, PrintlnBoolean, PrintlnString, RunnableRun, ThreadInit, ThreadInitTarget, ThreadStart, ThreadRun, ThreadJoin, ThreadSetPriority, ThreadGetPriority, ThreadCurrentThread, ThreadYield, ThrowableInit, ThrowableInitMessage, ThrowableGetMessage}
+use Rattle.builtin_world.specs.declared.Native.TheVariants.{ObjectInit, ObjectWait, ObjectNotify, ObjectNotifyAll, ObjectEquals, PrintlnEmpty, PrintlnInt, PrintlnLong, PrintlnChar, PrintlnBoolean, PrintlnString, RunnableRun, ThreadInit, ThreadInitTarget, ThreadStart, ThreadRun, ThreadJoin, ThreadSetPriority, ThreadGetPriority, ThreadCurrentThread, ThreadYield, ThrowableInit, ThrowableInitMessage, ThrowableGetMessage, StringLength, StringCharAt, StringEquals, StringConcat, BuilderInit, BuilderInitText, AppendInt, AppendLong, AppendChar, AppendBoolean, AppendString, BuilderLength, BuilderToString}
 
 -- a field that a class file can name
 pub record Field : Type 0 where
@@ -65,6 +65,45 @@ bare_class number name fields = record {
   words = [];
   fields = fields;
   methods = [];
+}
+
+abbrev pub string : Class
+string = record {
+  number = 3;
+  name = codes "java/lang/String";
+  super = codes "java/lang/Object";
+  interfaces = [];
+  flags = PUBLIC + FINAL;
+  words = codes "units" ∷ [];
+  fields = [];
+  methods =
+      method PUBLIC "length" "()I" StringLength
+      ∷ method PUBLIC "charAt" "(I)C" StringCharAt
+      ∷ method PUBLIC "equals" "(Ljava/lang/Object;)Z" StringEquals
+      ∷ method PUBLIC "concat" "(Ljava/lang/String;)Ljava/lang/String;" StringConcat
+      ∷ [];
+}
+
+abbrev pub string_builder : Class
+string_builder = record {
+  number = 28;
+  name = codes "java/lang/StringBuilder";
+  super = codes "java/lang/Object";
+  interfaces = [];
+  flags = PUBLIC + FINAL;
+  words = codes "text" ∷ [];
+  fields = [];
+  methods =
+      method PUBLIC "<init>" "()V" BuilderInit
+      ∷ method PUBLIC "<init>" "(Ljava/lang/String;)V" BuilderInitText
+      ∷ method PUBLIC "append" "(I)Ljava/lang/StringBuilder;" AppendInt
+      ∷ method PUBLIC "append" "(J)Ljava/lang/StringBuilder;" AppendLong
+      ∷ method PUBLIC "append" "(C)Ljava/lang/StringBuilder;" AppendChar
+      ∷ method PUBLIC "append" "(Z)Ljava/lang/StringBuilder;" AppendBoolean
+      ∷ method PUBLIC "append" "(Ljava/lang/String;)Ljava/lang/StringBuilder;" AppendString
+      ∷ method PUBLIC "length" "()I" BuilderLength
+      ∷ method PUBLIC "toString" "()Ljava/lang/String;" BuilderToString
+      ∷ [];
 }
 
 abbrev pub system_out : Field
@@ -151,7 +190,7 @@ unfoldable pub library : List Class
 library =
     object
     ∷ bare_class 2 "java/lang/Class" []
-    ∷ bare_class 3 "java/lang/String" []
+    ∷ string
     ∷ bare_class 4 "java/lang/System" (system_out ∷ [])
     ∷ print_stream
     ∷ runnable
@@ -177,4 +216,5 @@ library =
     ∷ exception 25 "java/lang/NoClassDefFoundError" "java/lang/LinkageError"
     ∷ exception 26 "java/lang/ExceptionInInitializerError" "java/lang/LinkageError"
     ∷ exception 27 "java/lang/IncompatibleClassChangeError" "java/lang/LinkageError"
+    ∷ string_builder
     ∷ []

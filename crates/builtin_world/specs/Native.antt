@@ -1,9 +1,9 @@
 -- The constructor or method of the library that each native stands for.
 use Prim.Native.String.{String}
-use Rattle.std.specs.Prelude.{ℕ, ◌&&◌, nat_le, List, Option, find, codes, bytes_eq, if◌then◌else◌}
+use Rattle.std.specs.Prelude.{ℕ, ◌&&◌, nat_le, nat_lt, List, Option, find, codes, bytes_eq, if◌then◌else◌}
 use Rattle.std.specs.Option.{option_map, option_and_then}
 use Rattle.builtin_world.specs.declared.Native.{Native}
-use Rattle.builtin_world.specs.declared.Native.TheVariants.{ObjectInit, ObjectWait, ObjectNotify, ObjectNotifyAll, ObjectEquals, PrintlnEmpty, PrintlnInt, PrintlnLong, PrintlnChar, PrintlnBoolean, PrintlnString, RunnableRun, ThreadInit, ThreadInitTarget, ThreadStart, ThreadRun, ThreadJoin, ThreadSetPriority, ThreadGetPriority, ThreadCurrentThread, ThreadYield, ThrowableInit, ThrowableInitMessage, ThrowableGetMessage}
+use Rattle.builtin_world.specs.declared.Native.TheVariants.{ObjectInit, ObjectWait, ObjectNotify, ObjectNotifyAll, ObjectEquals, PrintlnEmpty, PrintlnInt, PrintlnLong, PrintlnChar, PrintlnBoolean, PrintlnString, RunnableRun, ThreadInit, ThreadInitTarget, ThreadStart, ThreadRun, ThreadJoin, ThreadSetPriority, ThreadGetPriority, ThreadCurrentThread, ThreadYield, ThrowableInit, ThrowableInitMessage, ThrowableGetMessage, StringLength, StringCharAt, StringEquals, StringConcat, BuilderInit, BuilderInitText, AppendInt, AppendLong, AppendChar, AppendBoolean, AppendString, BuilderLength, BuilderToString}
 use Rattle.builtin_world.specs.Library.{Class, Method}
 use Rattle.builtin_world.specs.BuiltinClass.{row_named, number_of}
 
@@ -42,11 +42,26 @@ member_of ThreadYield = member "java/lang/Thread" "yield" "()V"
 member_of ThrowableInit = member "java/lang/Throwable" "<init>" "()V"
 member_of ThrowableInitMessage = member "java/lang/Throwable" "<init>" "(Ljava/lang/String;)V"
 member_of ThrowableGetMessage = member "java/lang/Throwable" "getMessage" "()Ljava/lang/String;"
+member_of StringLength = member "java/lang/String" "length" "()I"
+member_of StringCharAt = member "java/lang/String" "charAt" "(I)C"
+member_of StringEquals = member "java/lang/String" "equals" "(Ljava/lang/Object;)Z"
+member_of StringConcat = member "java/lang/String" "concat" "(Ljava/lang/String;)Ljava/lang/String;"
+member_of BuilderInit = member "java/lang/StringBuilder" "<init>" "()V"
+member_of BuilderInitText = member "java/lang/StringBuilder" "<init>" "(Ljava/lang/String;)V"
+member_of AppendInt = member "java/lang/StringBuilder" "append" "(I)Ljava/lang/StringBuilder;"
+member_of AppendLong = member "java/lang/StringBuilder" "append" "(J)Ljava/lang/StringBuilder;"
+member_of AppendChar = member "java/lang/StringBuilder" "append" "(C)Ljava/lang/StringBuilder;"
+member_of AppendBoolean = member "java/lang/StringBuilder" "append" "(Z)Ljava/lang/StringBuilder;"
+member_of AppendString = member "java/lang/StringBuilder" "append" "(Ljava/lang/String;)Ljava/lang/StringBuilder;"
+member_of BuilderLength = member "java/lang/StringBuilder" "length" "()I"
+member_of BuilderToString = member "java/lang/StringBuilder" "toString" "()Ljava/lang/String;"
 
 -- the class under whose name a method of c has its native: the constructors of each class below
--- Throwable, which all come after it, do what those of Throwable do
+-- Throwable, which all come after it up to StringBuilder, do what those of Throwable do
 abbrev pub owner_of : Class → List ℕ
-owner_of c = if nat_le (number_of (codes "java/lang/Throwable")) c.number then codes "java/lang/Throwable" else c.name
+owner_of c =
+    if nat_le (number_of (codes "java/lang/Throwable")) c.number && nat_lt c.number (number_of (codes "java/lang/StringBuilder"))
+    then codes "java/lang/Throwable" else c.name
 
 -- a method of a class as a member
 abbrev pub member_at : Class → Method → Member

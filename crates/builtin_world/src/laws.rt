@@ -1,6 +1,6 @@
 //! What holds of the table as a whole. Each function does nothing: its contract is the law.
 ghost use Rattle.std.specs.Prelude.{◌≡◌, Some};
-ghost use Rattle.builtin_world.specs.Laws.{NumbersRunFromOne, NamesAreDistinct, NumbersAreDistinct, SupersComeFirst, InterfacesComeFirst, SupersAreOpen, InterfacesAreInterfaces, ThrowablesComeLast, SubclassesKeepWords, MethodsAreDistinct, MethodsAreFew, NativesAreOwn};
+ghost use Rattle.builtin_world.specs.Laws.{NumbersRunFromOne, NamesAreDistinct, NumbersAreDistinct, SupersComeFirst, InterfacesComeFirst, SupersAreOpen, InterfacesAreInterfaces, ThrowablesComeTogether, SubclassesKeepWords, MethodsAreDistinct, MethodsAreFew, NativesAreOwn};
 ghost use Rattle.builtin_world.specs.Native.{member_of, native_at};
 
 use crate::Native;
@@ -28,9 +28,9 @@ pub fn supers_can_be_extended()
     ensures interfaces { InterfacesAreInterfaces }
 {}
 
-/// The built-in classes from Throwable on are Throwable and the classes below it.
-pub fn throwables_come_last()
-    ensures { ThrowablesComeLast }
+/// Throwable and the classes below it are the built-in classes from Throwable up to the one before StringBuilder.
+pub fn throwables_come_together()
+    ensures { ThrowablesComeTogether }
 {}
 
 /// An object of a built-in class begins with the words of an object of its superclass.

@@ -67,6 +67,32 @@ pub enum Native {
     ThrowableInitMessage,
     /// `Throwable.getMessage()`.
     ThrowableGetMessage,
+    /// `String.length()`.
+    StringLength,
+    /// `String.charAt(int)`.
+    StringCharAt,
+    /// `String.equals(Object)`: whether it is a String with the same text.
+    StringEquals,
+    /// `String.concat(String)`.
+    StringConcat,
+    /// `StringBuilder()`, which does nothing.
+    BuilderInit,
+    /// `StringBuilder(String)`.
+    BuilderInitText,
+    /// `StringBuilder.append(int)`.
+    AppendInt,
+    /// `StringBuilder.append(long)`.
+    AppendLong,
+    /// `StringBuilder.append(char)`.
+    AppendChar,
+    /// `StringBuilder.append(boolean)`.
+    AppendBoolean,
+    /// `StringBuilder.append(String)`.
+    AppendString,
+    /// `StringBuilder.length()`.
+    BuilderLength,
+    /// `StringBuilder.toString()`.
+    BuilderToString,
 }
 
 /// A field of a built-in class that a class file can name.

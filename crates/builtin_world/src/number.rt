@@ -55,8 +55,10 @@ pub const EXCEPTION_IN_INITIALIZER_ERROR: u32 = 26;
 
 pub const INCOMPATIBLE_CLASS_CHANGE_ERROR: u32 = 27;
 
+pub const STRING_BUILDER: u32 = 28;
+
 /// How many built-in classes there are: the first class of a program has the next number.
-pub const COUNT: u32 = 27;
+pub const COUNT: u32 = 28;
 
 /// Each constant above is the number of the class that it names.
 pub fn constants_are_numbers()

@@ -38,6 +38,25 @@ const OBJECT_METHODS: [BuiltinMethod; 5] = [
     method!(PUBLIC, "equals" "(Ljava/lang/Object;)Z" => ObjectEquals),
 ];
 
+const STRING_METHODS: [BuiltinMethod; 4] = [
+    method!(PUBLIC, "length" "()I" => StringLength),
+    method!(PUBLIC, "charAt" "(I)C" => StringCharAt),
+    method!(PUBLIC, "equals" "(Ljava/lang/Object;)Z" => StringEquals),
+    method!(PUBLIC, "concat" "(Ljava/lang/String;)Ljava/lang/String;" => StringConcat),
+];
+
+const STRING_BUILDER_METHODS: [BuiltinMethod; 9] = [
+    method!(PUBLIC, "<init>" "()V" => BuilderInit),
+    method!(PUBLIC, "<init>" "(Ljava/lang/String;)V" => BuilderInitText),
+    method!(PUBLIC, "append" "(I)Ljava/lang/StringBuilder;" => AppendInt),
+    method!(PUBLIC, "append" "(J)Ljava/lang/StringBuilder;" => AppendLong),
+    method!(PUBLIC, "append" "(C)Ljava/lang/StringBuilder;" => AppendChar),
+    method!(PUBLIC, "append" "(Z)Ljava/lang/StringBuilder;" => AppendBoolean),
+    method!(PUBLIC, "append" "(Ljava/lang/String;)Ljava/lang/StringBuilder;" => AppendString),
+    method!(PUBLIC, "length" "()I" => BuilderLength),
+    method!(PUBLIC, "toString" "()Ljava/lang/String;" => BuilderToString),
+];
+
 const PRINT_STREAM_METHODS: [BuiltinMethod; 6] = [
     method!(PUBLIC, "println" "()V" => PrintlnEmpty),
     method!(PUBLIC, "println" "(I)V" => PrintlnInt),
@@ -70,7 +89,7 @@ const EXCEPTION_METHODS: [BuiltinMethod; 2] = [
     method!(PUBLIC, "<init>" "(Ljava/lang/String;)V" => ThrowableInitMessage),
 ];
 
-pub(crate) static CLASSES: [BuiltinClass; 27] = [
+pub(crate) static CLASSES: [BuiltinClass; 28] = [
     BuiltinClass {
         number: number::OBJECT,
         name: "java/lang/Object",
@@ -97,9 +116,9 @@ pub(crate) static CLASSES: [BuiltinClass; 27] = [
         super_number: number::OBJECT,
         interfaces: &[],
         flags: PUBLIC | FINAL,
-        words: 0,
+        words: 1,
         fields: &[],
-        methods: &[],
+        methods: &STRING_METHODS,
     },
     BuiltinClass {
         number: number::SYSTEM,
@@ -183,4 +202,14 @@ pub(crate) static CLASSES: [BuiltinClass; 27] = [
         extends LINKAGE_ERROR),
     exception!(INCOMPATIBLE_CLASS_CHANGE_ERROR: "java/lang/IncompatibleClassChangeError"
         extends LINKAGE_ERROR),
+    BuiltinClass {
+        number: number::STRING_BUILDER,
+        name: "java/lang/StringBuilder",
+        super_number: number::OBJECT,
+        interfaces: &[],
+        flags: PUBLIC | FINAL,
+        words: 1,
+        fields: &[],
+        methods: &STRING_BUILDER_METHODS,
+    },
 ];

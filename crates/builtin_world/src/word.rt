@@ -10,6 +10,10 @@ pub const THREAD_START: u32 = 1;
 pub const THREAD_TARGET: u32 = 2;
 /// The message of a Throwable, or null.
 pub const THROWABLE_MESSAGE: u32 = 0;
+/// The char array with the units of a String's text, or null where it is a literal.
+pub const STRING_UNITS: u32 = 0;
+/// The String with the text of a StringBuilder, or null where it is empty.
+pub const BUILDER_TEXT: u32 = 0;
 
 /// Each constant above is the place of the word that it names.
 pub fn constants_are_places()
@@ -17,4 +21,6 @@ pub fn constants_are_places()
     ensures start { word_place (codes "java/lang/Thread") (codes "start") ≡ Some THREAD_START }
     ensures target { word_place (codes "java/lang/Thread") (codes "target") ≡ Some THREAD_TARGET }
     ensures message { word_place (codes "java/lang/Throwable") (codes "message") ≡ Some THROWABLE_MESSAGE }
+    ensures units { word_place (codes "java/lang/String") (codes "units") ≡ Some STRING_UNITS }
+    ensures text { word_place (codes "java/lang/StringBuilder") (codes "text") ≡ Some BUILDER_TEXT }
 {}

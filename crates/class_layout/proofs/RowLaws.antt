@@ -36,10 +36,10 @@ no_super cs c none = ap (λ o. option_map_or (λ (k : NamedClass). option_map_or
 words_on : List NamedClass → List ℕ → ℕ
 words_on cs xs = option_map_or built_in_words (find is_built_in xs) 0 + Rattle.std.proofs.Common.sum_by (added_words cs) xs
 
-nothing_on : (cs : List NamedClass) (c : ℕ) → 27 < c → fields_of cs c ≡ [] → words_on cs (c ∷ []) ≡ 0
+nothing_on : (cs : List NamedClass) (c : ℕ) → 28 < c → fields_of cs c ≡ [] → words_on cs (c ∷ []) ≡ 0
 unfolding words_on
 nothing_on cs c high none =
-    let file : is_built_in c ≡ false = lt-leb c 27 high in
+    let file : is_built_in c ≡ false = lt-leb c 28 high in
     let found : find is_built_in (c ∷ []) ≡ None = ap (λ b. cond b (Some c) None) file in
     let added : added_words cs c ≡ 0 = ap (λ b. cond b 0 (own_words false (fields_of cs c))) file ∙ ap (own_words false) none in
     let built : option_map_or built_in_words (find is_built_in (c ∷ [])) 0 ≡ 0 = ap (λ o. option_map_or built_in_words o 0) found in
@@ -56,12 +56,12 @@ unfolding words_on
 no_words us c h = elim h [
   | inl none ↦ ap (instance_words (classes_of us)) none ∙ ap (words_on (classes_of us)) (up_none (classes_of us) (length (classes_of us)))
   | inr past ↦
-      let count : length (classes_of us) ≡ 27 + length us = class_count_is us in
+      let count : length (classes_of us) ≡ 28 + length us = class_count_is us in
       let none : class_numbered (classes_of us) c ≡ None = past_all (classes_of us) c past in
       let some : c ≢ 0 = λ e. omega arith in
-      let size : length (classes_of us) ≡ suc (26 + length us) = omega arith in
+      let size : length (classes_of us) ≡ suc (27 + length us) = omega arith in
       ap (λ n. words_on (classes_of us) (superclasses_within (classes_of us) n c)) size
-      ∙ ap (words_on (classes_of us)) (alone (classes_of us) (26 + length us) c some (no_super (classes_of us) c none))
+      ∙ ap (words_on (classes_of us)) (alone (classes_of us) (27 + length us) c some (no_super (classes_of us) c none))
       ∙ nothing_on (classes_of us) c (omega arith) (no_fields (classes_of us) c none)
 ]
 
@@ -77,17 +77,17 @@ no_statics cs c none = go (is_built_in c)
 
 -- ---- built-in classes
 
-library_words : map (λ c. option_map_or (λ (r : LibraryRow). r.words) (library_row c) 0 == built_in_words c && nat_le (built_in_words c) 3) (range_with_len 0 28) ≡ map (λ _. true) (range_with_len 0 28)
+library_words : map (λ c. option_map_or (λ (r : LibraryRow). r.words) (library_row c) 0 == built_in_words c && nat_le (built_in_words c) 3) (range_with_len 0 29) ≡ map (λ _. true) (range_with_len 0 29)
 unfolding rows library
 library_words = refl
 
-words_of_library : (c : ℕ) → c ≤ 27 → (option_map_or (λ (r : LibraryRow). r.words) (library_row c) 0 ≡ built_in_words c) × (built_in_words c ≤ 3)
+words_of_library : (c : ℕ) → c ≤ 28 → (option_map_or (λ (r : LibraryRow). r.words) (library_row c) 0 ≡ built_in_words c) × (built_in_words c ≤ 3)
 words_of_library c low =
     let both = and_parts (option_map_or (λ (r : LibraryRow). r.words) (library_row c) 0 == built_in_words c) (nat_le (built_in_words c) 3)
-    (in_library 0 28 (λ c. option_map_or (λ (r : LibraryRow). r.words) (library_row c) 0 == built_in_words c && nat_le (built_in_words c) 3) (λ _. true) library_words c (omega arith) (omega arith)) in
+    (in_library 0 29 (λ c. option_map_or (λ (r : LibraryRow). r.words) (library_row c) 0 == built_in_words c && nat_le (built_in_words c) 3) (λ _. true) library_words c (omega arith) (omega arith)) in
     (eqb-true (option_map_or (λ (r : LibraryRow). r.words) (library_row c) 0) (built_in_words c) both.0, leb-true (built_in_words c) 3 both.1)
 
-library_fields : (us : List ClassUnit) → map (λ c. nat_le (length (fields_of (classes_of us) c)) 1 && list_all (λ (f : NamedMember). has f.flags STATIC) (fields_of (classes_of us) c)) (range_with_len 0 28) ≡ map (λ _. true) (range_with_len 0 28)
+library_fields : (us : List ClassUnit) → map (λ c. nat_le (length (fields_of (classes_of us) c)) 1 && list_all (λ (f : NamedMember). has f.flags STATIC) (fields_of (classes_of us) c)) (range_with_len 0 29) ≡ map (λ _. true) (range_with_len 0 29)
 unfolding library
 library_fields us = refl
 
@@ -98,39 +98,39 @@ first_place cs c zero (f ∷ fs) are few static =
     ap (λ b. cond b (own_words true (take 0 (fields_of cs c))) (instance_words cs (superclass_of cs c) + own_words false (take 0 (fields_of cs c)))) kind
 first_place cs c (suc i) (f ∷ fs) are few static = ap (λ o. option_map_or (field_place cs c (suc i)) o 0) (slice_get_past fs i (omega arith))
 
-library_places : (us : List ClassUnit) (c i : ℕ) → c ≤ 27 → place_numbered (classes_of us) c i ≡ 0
+library_places : (us : List ClassUnit) (c i : ℕ) → c ≤ 28 → place_numbered (classes_of us) c i ≡ 0
 library_places us c i low =
     let both = and_parts (nat_le (length (fields_of (classes_of us) c)) 1) (list_all (λ (f : NamedMember). has f.flags STATIC) (fields_of (classes_of us) c))
-    (in_library 0 28 (λ c. nat_le (length (fields_of (classes_of us) c)) 1 && list_all (λ (f : NamedMember). has f.flags STATIC) (fields_of (classes_of us) c)) (λ _. true) (library_fields us) c (omega arith) (omega arith)) in
+    (in_library 0 29 (λ c. nat_le (length (fields_of (classes_of us) c)) 1 && list_all (λ (f : NamedMember). has f.flags STATIC) (fields_of (classes_of us) c)) (λ _. true) (library_fields us) c (omega arith) (omega arith)) in
     first_place (classes_of us) c i (fields_of (classes_of us) c) refl (leb-true (length (fields_of (classes_of us) c)) 1 both.0) both.1
 
 module _ (us : List ClassUnit) (order : List ℕ) (first : PutsSupersFirst (classes_of us) order) where
-  library_instances : (c : ℕ) → c ≢ 0 → c ≤ 27 → instance_words (classes_of us) c ≡ built_in_words c
+  library_instances : (c : ℕ) → c ≢ 0 → c ≤ 28 → instance_words (classes_of us) c ≡ built_in_words c
   library_instances c some low =
       library_words_are (classes_of us) order first (library_stays us) c some (let count = class_count_is us in omega arith) low
 
-  pub library_class_row : (c : ℕ) (b : BuiltinClass) (row : ClassRow) → (0 < c) × (c ≤ 27) → Some (shown_class b) ≡ library_row c
+  pub library_class_row : (c : ℕ) (b : BuiltinClass) (row : ClassRow) → (0 < c) × (c ≤ 28) → Some (shown_class b) ≡ library_row c
       → row ≡ record { places = []; static_words = 0; instance_words = b.words } → IsRowOf (classes_of us) c row
   library_class_row c b row (some, low) shown is =
       let words : b.words ≡ built_in_words c = ap (λ o. option_map_or (λ (r : LibraryRow). r.words) o 0) shown ∙ (words_of_library c low).0 in
       subst (IsRowOf (classes_of us) c) (sym is) (record {
         instances = words ∙ sym (library_instances c (λ e. omega arith) low);
-        statics = sym (ap (λ x. cond x 0 (own_words true (fields_of (classes_of us) c))) (le-leb c 27 low));
+        statics = sym (ap (λ x. cond x 0 (own_words true (fields_of (classes_of us) c))) (le-leb c 28 low));
         places = λ i. sym (library_places us c i low);
       })
 
-  pub file_class_row : (c : ℕ) (u : ClassUnit) (inherited : ℕ) (row : ClassRow) → 27 < c → unit_numbered us c ≡ Some u
+  pub file_class_row : (c : ℕ) (u : ClassUnit) (inherited : ℕ) (row : ClassRow) → 28 < c → unit_numbered us c ≡ Some u
       → inherited ≡ instance_words (classes_of us) (superclass_of (classes_of us) c)
       → ArePlaced (map (member_of_file u.file.pool) u.file.fields) inherited row → IsRowOf (classes_of us) c row
   file_class_row c u inherited row high at above are =
-      let there : slice_get us (c - 28) ≡ Some u = sym (ap (λ b. cond b None (slice_get us (c - 28))) (lt-leb c 27 high)) ∙ at in
-      let lt : c - 28 < length us = slice_get_within us (c - 28) u there in
-      let same : number_of_file (c - 28) ≡ c = omega arith in
+      let there : slice_get us (c - 29) ≡ Some u = sym (ap (λ b. cond b None (slice_get us (c - 29))) (lt-leb c 28 high)) ∙ at in
+      let lt : c - 29 < length us = slice_get_within us (c - 29) u there in
+      let same : number_of_file (c - 29) ≡ c = omega arith in
       let within : c ≤ length (classes_of us) = (let count = class_count_is us in omega arith) in
-      let fields : fields_of (classes_of us) c ≡ map (member_of_file u.file.pool) u.file.fields = ap (fields_of (classes_of us)) (sym same) ∙ fields_of_file us (c - 28) u there in
+      let fields : fields_of (classes_of us) c ≡ map (member_of_file u.file.pool) u.file.fields = ap (fields_of (classes_of us)) (sym same) ∙ fields_of_file us (c - 29) u there in
       record {
         instances = are.instances ∙ ap (λ n. n + own_words false (map (member_of_file u.file.pool) u.file.fields)) above ∙ sym (words_of_file (classes_of us) order first c high within ∙ ap (λ fs. instance_words (classes_of us) (superclass_of (classes_of us) c) + own_words false fs) fields);
-        statics = are.statics ∙ sym (ap (λ x. cond x 0 (own_words true (fields_of (classes_of us) c))) (lt-leb c 27 high) ∙ ap (own_words true) fields);
+        statics = are.statics ∙ sym (ap (λ x. cond x 0 (own_words true (fields_of (classes_of us) c))) (lt-leb c 28 high) ∙ ap (own_words true) fields);
         places = λ i. ap (λ o. option_map_or (λ (n : ℕ). n) o 0) (are.places i)
             ∙ place i (slice_get (map (member_of_file u.file.pool) u.file.fields) i)
             ∙ ap (λ fs. option_map_or (λ f. cond (has f.flags STATIC) (own_words true (take i fs)) (instance_words (classes_of us) (superclass_of (classes_of us) c) + own_words false (take i fs))) (slice_get fs i) 0) (sym fields);
@@ -152,14 +152,14 @@ module _ (us : List ClassUnit) (order : List ℕ) (first : PutsSupersFirst (clas
     | inl none ↦ (let e = no_words us c (inl none) in omega arith)
     | inr some ↦ elim (cases_lt (length (classes_of us)) c) [
       | inl past ↦ (let e = no_words us c (inr past) in omega arith)
-      | inr within ↦ elim (cases_lt 27 c) [
+      | inr within ↦ elim (cases_lt 28 c) [
         | inr low ↦ (let e = library_instances c some low in let few = (words_of_library c low).1 in omega arith)
         | inl high ↦ file (bound_at decoded b) within high (superclass_of (classes_of us) c) refl
       ]
     ]
   ]
     where
-      file : ((j d : ℕ) → j < b → slice_get order j ≡ Some d → instance_words (classes_of us) d ≤ 131072 * (j + 1)) → c ≤ length (classes_of us) → 27 < c → (s : ℕ) → superclass_of (classes_of us) c ≡ s → instance_words (classes_of us) c ≤ 131072 * (i + 1)
+      file : ((j d : ℕ) → j < b → slice_get order j ≡ Some d → instance_words (classes_of us) d ≤ 131072 * (j + 1)) → c ≤ length (classes_of us) → 28 < c → (s : ℕ) → superclass_of (classes_of us) c ≡ s → instance_words (classes_of us) c ≤ 131072 * (i + 1)
       file again within high s is =
           let f = is_file us c high within in
           let fields : fields_of (classes_of us) c ≡ map (member_of_file f.1.file.pool) f.1.file.fields = ap (fields_of (classes_of us)) f.3 ∙ fields_of_file us f.0 f.1 f.2 in
@@ -186,7 +186,7 @@ pub record FirstHaveRows (us : List ClassUnit) (order : List ℕ) (n : ℕ) (tab
   pub count : length table ≡ length (classes_of us)
   pub each : (j c : ℕ) (row : ClassRow) → j < n → slice_get order j ≡ Some c → row_numbered table c ≡ Some row → IsRowOf (classes_of us) c row
 
-pub none_have_rows : (us : List ClassUnit) (order : List ℕ) (table : List ClassRow) → length table ≡ 27 + length us → FirstHaveRows us order 0 table
+pub none_have_rows : (us : List ClassUnit) (order : List ℕ) (table : List ClassRow) → length table ≡ 28 + length us → FirstHaveRows us order 0 table
 none_have_rows us order table count = record {
   count = count ∙ sym (class_count_is us);
   each = λ j c row lt at is. absurd (omega arith);
@@ -256,27 +256,27 @@ super_is_small us order n class decoded few first at = go (superclass_of (classe
         let h : (j : ℕ) × (j < n) × (slice_get order j ≡ Some (suc s)) = first.before n class (suc s) at ((λ z. omega (arith, z)), inl e) in
         let lt : n < length order = slice_get_within order n class at in
         let bound = first.bound in
-        let count : length (classes_of us) ≡ 27 + length us = class_count_is us in
+        let count : length (classes_of us) ≡ 28 + length us = class_count_is us in
         let its : instance_words (classes_of us) (suc s) ≤ 131072 * (h.0 + 1) = bound_at us order first decoded (suc h.0) h.0 (suc s) (omega arith) h.2 in
         let less = h.1 in
         omega arith
 
 -- the static words of a class are few
 pub statics_few : (us : List ClassUnit) (c : ℕ) → AreUnits us → c ≤ length (classes_of us) → static_words (classes_of us) c < 2 ^ 17
-statics_few us c decoded within = elim (cases_lt 27 c) [
-  | inr low ↦ (let none : static_words (classes_of us) c ≡ 0 = ap (λ x. cond x 0 (own_words true (fields_of (classes_of us) c))) (le-leb c 27 low) in omega arith)
+statics_few us c decoded within = elim (cases_lt 28 c) [
+  | inr low ↦ (let none : static_words (classes_of us) c ≡ 0 = ap (λ x. cond x 0 (own_words true (fields_of (classes_of us) c))) (le-leb c 28 low) in omega arith)
   | inl high ↦
       let f = is_file us c high within in
       let fields : fields_of (classes_of us) c ≡ map (member_of_file f.1.file.pool) f.1.file.fields = ap (fields_of (classes_of us)) f.3 ∙ fields_of_file us f.0 f.1 f.2 in
       let few : length f.1.file.fields < 2 ^ 16 = (small f.1.file (decoded f.0 f.1 f.2).file).fields in
       let many : length (fields_of (classes_of us) c) ≡ length f.1.file.fields = ap length fields ∙ Rattle.std.proofs.lemmas.List.length-map f.1.file.fields (member_of_file f.1.file.pool) in
       let own : own_words true (fields_of (classes_of us) c) ≤ 2 * length (fields_of (classes_of us) c) = own_few true (fields_of (classes_of us) c) in
-      let is : static_words (classes_of us) c ≡ own_words true (fields_of (classes_of us) c) = ap (λ x. cond x 0 (own_words true (fields_of (classes_of us) c))) (lt-leb c 27 high) in
+      let is : static_words (classes_of us) c ≡ own_words true (fields_of (classes_of us) c) = ap (λ x. cond x 0 (own_words true (fields_of (classes_of us) c))) (lt-leb c 28 high) in
       omega arith
 ]
 
 -- what is no class has an empty row
-pub no_class_row : (us : List ClassUnit) (c : ℕ) (row : ClassRow) → ((c ≡ 0) ⊎ (27 < c)) → unit_numbered us c ≡ None → row ≡ empty_row → IsRowOf (classes_of us) c row
+pub no_class_row : (us : List ClassUnit) (c : ℕ) (row : ClassRow) → ((c ≡ 0) ⊎ (28 < c)) → unit_numbered us c ≡ None → row ≡ empty_row → IsRowOf (classes_of us) c row
 no_class_row us c row h no_unit is =
     subst (IsRowOf (classes_of us) c) (sym is) (record {
       instances = sym (no_words us c past);
@@ -294,31 +294,31 @@ no_class_row us c row h no_unit is =
     past = elim h [
       | inl e ↦ inl e
       | inr high ↦
-          let nothing : slice_get us (c - 28) ≡ None = sym (ap (λ b. cond b None (slice_get us (c - 28))) (lt-leb c 27 high)) ∙ no_unit in
-          elim (slice_get_cases us (c - 28)).1 [
+          let nothing : slice_get us (c - 29) ≡ None = sym (ap (λ b. cond b None (slice_get us (c - 29))) (lt-leb c 28 high)) ∙ no_unit in
+          elim (slice_get_cases us (c - 29)).1 [
             | inl there ↦ absurd (none-some there.0 (sym nothing ∙ there.2))
             | inr behind ↦ inr (let le = behind.0 in let count = class_count_is us in omega arith)
           ]
     ]
 
 -- a number that no built-in class has
-pub not_of_library : (c : ℕ) → (0 < c → c ≤ 27 → ⊥) → (c ≡ 0) ⊎ (27 < c)
-not_of_library c none = elim (cases_lt 27 c) [
+pub not_of_library : (c : ℕ) → (0 < c → c ≤ 28 → ⊥) → (c ≡ 0) ⊎ (28 < c)
+not_of_library c none = elim (cases_lt 28 c) [
   | inl high ↦ inr high
   | inr low ↦ elim (cases_eq c 0) [ inl e ↦ inl e | inr ne ↦ absurd (none (omega (arith, ne)) low) ]
 ]
 
 -- a class of a file
-pub unit_is_read : (us : List ClassUnit) (c : ℕ) (u : ClassUnit) → unit_numbered us c ≡ Some u → 27 < c
-unit_is_read us c u at = elim (cases_lt 27 c) [
+pub unit_is_read : (us : List ClassUnit) (c : ℕ) (u : ClassUnit) → unit_numbered us c ≡ Some u → 28 < c
+unit_is_read us c u at = elim (cases_lt 28 c) [
   | inl high ↦ high
-  | inr low ↦ absurd (none-some u (sym (ap (λ b. cond b None (slice_get us (c - 28))) (le-leb c 27 low)) ∙ at))
+  | inr low ↦ absurd (none-some u (sym (ap (λ b. cond b None (slice_get us (c - 29))) (le-leb c 28 low)) ∙ at))
 ]
 
 pub unit_few : (us : List ClassUnit) (c : ℕ) (u : ClassUnit) → AreUnits us → unit_numbered us c ≡ Some u → length u.file.fields < 65536
 unit_few us c u decoded at =
-    let there : slice_get us (c - 28) ≡ Some u = sym (ap (λ b. cond b None (slice_get us (c - 28))) (lt-leb c 27 (unit_is_read us c u at))) ∙ at in
-    (small u.file (decoded (c - 28) u there).file).fields
+    let there : slice_get us (c - 29) ≡ Some u = sym (ap (λ b. cond b None (slice_get us (c - 29))) (lt-leb c 28 (unit_is_read us c u at))) ∙ at in
+    (small u.file (decoded (c - 29) u there).file).fields
 
 -- the words of objects by all rows
 pub instance_right : (us : List ClassUnit) (table : List ClassRow) → AreRowsOf (classes_of us) table → (c : ℕ) → instance_in table c ≡ instance_words (classes_of us) c

@@ -15,7 +15,7 @@ use Rattle.link_rules.specs.Classes.{classes_of, class_of_unit, library_class}
 use Rattle.link_rules.proofs.Numbers.{class_count_is}
 
 -- the first files
-pub take_classes : (us : List ClassUnit) (k : ℕ) → take (27 + k) (classes_of us) ≡ classes_of (take k us)
+pub take_classes : (us : List ClassUnit) (k : ℕ) → take (28 + k) (classes_of us) ≡ classes_of (take k us)
 unfolding library
 take_classes us k =
     take-append-add (map library_class library) (map class_of_unit us) k ∙ ap (λ xs. map library_class library ++ xs) (take-map class_of_unit k us)
@@ -26,8 +26,8 @@ classes_more us k u at =
     ∙ ap (λ xs. map library_class library ++ xs) (map-append class_of_unit (take k us) (u ∷ []))
     ∙ sym (append_assoc (map library_class library) (map class_of_unit (take k us)) (class_of_unit u ∷ []))
 
-pub count_of_first : (us : List ClassUnit) (k : ℕ) → k ≤ length us → length (classes_of (take k us)) ≡ 27 + k
-count_of_first us k le = class_count_is (take k us) ∙ ap (λ n. 27 + n) (length-take-le k us le)
+pub count_of_first : (us : List ClassUnit) (k : ℕ) → k ≤ length us → length (classes_of (take k us)) ≡ 28 + k
+count_of_first us k le = class_count_is (take k us) ∙ ap (λ n. 28 + n) (length-take-le k us le)
 
 -- the class of the library that is shown
 pub record Shows (i : ℕ) (b : BuiltinClass) : Type 0 where
@@ -54,6 +54,6 @@ library_count i c at =
     let lt : i < length library = slice_get_within library i c at in
     length-map (take i library) library_class ∙ length-take-le i library (omega arith)
 
-pub whole_library : (i : ℕ) → 27 ≤ i → map library_class (take i library) ≡ classes_of []
+pub whole_library : (i : ℕ) → 28 ≤ i → map library_class (take i library) ≡ classes_of []
 unfolding library
 whole_library i le = ap (map library_class) (take_all i library le)

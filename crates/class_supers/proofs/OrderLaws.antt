@@ -33,7 +33,7 @@ nothing_above cs c (e ∷ way) d none h = names_nothing cs c e none h.0
 abbrev names_lower : List NamedClass → ℕ → Bool
 names_lower cs c = nat_lt (superclass_of cs c) c && list_all (λ d. nat_lt d c) (interfaces_of cs c)
 
-library_names_lower : (us : List ClassUnit) → map (names_lower (classes_of us)) (range_with_len 1 27) ≡ map (λ _. true) (range_with_len 1 27)
+library_names_lower : (us : List ClassUnit) → map (names_lower (classes_of us)) (range_with_len 1 28) ≡ map (λ _. true) (range_with_len 1 28)
 unfolding library
 library_names_lower us = refl
 
@@ -46,17 +46,17 @@ all_lower (x ∷ xs) c d e h =
       | inr there ↦ all_lower xs c d both.1 there
     ]
 
-built_in_lower : (us : List ClassUnit) (c d : ℕ) → c ≤ 27 → HasSuper (classes_of us) c d → d < c
+built_in_lower : (us : List ClassUnit) (c d : ℕ) → c ≤ 28 → HasSuper (classes_of us) c d → d < c
 built_in_lower us zero d le h = absurd (names_nothing (classes_of us) 0 d refl h)
 built_in_lower us (suc i) d le h =
-    let lower : names_lower (classes_of us) (suc i) ≡ true = in_library 1 27 (names_lower (classes_of us)) (λ _. true) (library_names_lower us) (suc i) (omega arith) (omega arith) in
+    let lower : names_lower (classes_of us) (suc i) ≡ true = in_library 1 28 (names_lower (classes_of us)) (λ _. true) (library_names_lower us) (suc i) (omega arith) (omega arith) in
     let both = and_parts (nat_lt (superclass_of (classes_of us) (suc i)) (suc i)) (list_all (λ d. nat_lt d (suc i)) (interfaces_of (classes_of us) (suc i))) lower in
     elim h.1 [
       | inl super ↦ subst (λ y. y < suc i) super (ltb-true (superclass_of (classes_of us) (suc i)) (suc i) both.0)
       | inr interface ↦ all_lower (interfaces_of (classes_of us) (suc i)) (suc i) d both.1 interface
     ]
 
-above_lower : (us : List ClassUnit) (c : ℕ) (way : List ℕ) (d : ℕ) → c ≤ 27 → IsWayUp (classes_of us) c way d → d < c
+above_lower : (us : List ClassUnit) (c : ℕ) (way : List ℕ) (d : ℕ) → c ≤ 28 → IsWayUp (classes_of us) c way d → d < c
 above_lower us c [] d le h = built_in_lower us c d le h
 above_lower us c (e ∷ way) d le h =
     let first : e < c = built_in_lower us c e le h.0 in
@@ -64,7 +64,7 @@ above_lower us c (e ∷ way) d le h =
     omega arith
 
 pub none_above_itself : (us : List ClassUnit) → (hierarchy_rules us).Hold → (c : ℕ) → ¬ IsAbove (classes_of us) c c
-none_above_itself us hold c h = elim (cases_lt 27 c) [
+none_above_itself us hold c h = elim (cases_lt 28 c) [
   | inr low ↦ let lt : c < c = above_lower us c h.0 c low h.1 in omega arith
   | inl high ↦ elim (cases_lt (length (classes_of us)) c) [
     | inl past ↦ nothing_above (classes_of us) c h.0 c (past_all (classes_of us) c past) h.1

@@ -1,17 +1,19 @@
 -- What the ordinary state shows of each act: an entry of a list in which undoing is seen.
-use Rattle.std.specs.Prelude.{◌≡◌, ℕ, suc, ◌+◌, Some, List, [], ◌∷◌}
+use Rattle.std.specs.Prelude.{◌≡◌, ℕ, suc, ◌+◌, ◌-◌, Option, None, Some, List, [], ◌∷◌, length, slice_get}
 use Rattle.op_core.specs.declared.Next.{Next}
 use Rattle.op_core.specs.declared.Next.TheVariants.{Want}
 use Rattle.op_core.specs.ThreadCode.{Code}
 use Rattle.op_core.specs.OrdinaryState.{HasWord}
 use Rattle.op_core.specs.InPlaceList.{Entry, silent, event, put_back, give_back, go_back, unseen}
 use Rattle.heap_words.specs.Words.{value_of}
-use Rattle.step_port.specs.declared.answer.Answer.{Answer}
+use Rattle.section_state.specs.SectionWord.{revoke_of}
+use Rattle.monitor_core.specs.Monitors.{monitor_depth}
+use Rattle.step_port.specs.declared.answer.StepAnswer.{StepAnswer}
 use Rattle.step_port.specs.declared.step.Step.{Step}
-use Rattle.step_port.specs.declared.step.Step.TheVariants.{RestoreWord, Release, MarkUndone}
+use Rattle.step_port.specs.declared.step.Step.TheVariants.{RestoreWord, SetDepth, Release, MarkUndone}
 use Rattle.thread_automaton.specs.declared.Bounds.{Bounds}
-use Rattle.thread_automaton.specs.declared.Stage.{Stage}
-use Rattle.thread_automaton.specs.declared.Stage.TheVariants.{Undoing}
+use Rattle.thread_automaton.specs.declared.Attempt.{Attempt}
+use Rattle.thread_automaton.specs.declared.Attempt.TheVariants.{Undoing}
 use Rattle.thread_automaton.specs.ThreadState.{ThreadState}
 use Rattle.thread_automaton.specs.Told.{Told, advanced, told}
 use Rattle.core_runs.specs.Cores.{Core}
@@ -22,25 +24,31 @@ abbrev pub event_told : ℕ → Next → Told → Entry
 event_told t (Want op) (advanced (Some reply)) = event t op reply
 event_told t next told = unseen
 
--- thread t goes back to where it opened what it had open
-abbrev pub back_to : ℕ → List ℕ → Entry
-back_to t [] = unseen
-back_to t (p ∷ levels) = go_back t p
+-- thread t goes back to where it opened level n
+abbrev pub go_back_to : ℕ → Option ℕ → Entry
+go_back_to t None = unseen
+go_back_to t (Some p) = go_back t p
 
--- a release is a part of undoing, or what else it shows
-abbrev pub release_shows : ℕ → Stage → ℕ → Entry → Entry
-release_shows t (Undoing w) r e = give_back t r 0
-release_shows t stage r e = e
+abbrev pub back_to : ℕ → Attempt → List ℕ → Entry
+back_to t (Undoing w) levels = go_back_to t (slice_get levels (length levels - revoke_of w))
+back_to t attempt levels = unseen
+
+-- a monitor gets another depth, or is released, as a part of undoing, or else the step shows e
+abbrev pub monitor_shows : ℕ → Attempt → ℕ → ℕ → Entry → Entry
+monitor_shows t (Undoing w) r count e = give_back t r count
+monitor_shows t attempt r count e = e
 
 -- a word is put back where it lies in an object
 abbrev pub IsPutBack : {S : Type 0} → Core S → ℕ → ℕ → Entry → Type 0
 IsPutBack c at old e = (r i : ℕ) × HasWord c.objects r i × (at ≡ r + 2 + i) × (e ≡ put_back r i (value_of old))
 
-abbrev pub StepShows : {S : Type 0} → Code S → Bounds → Core S → ℕ → ThreadState S → Step → Answer → Entry → Type 0
+abbrev pub StepShows : {S : Type 0} → Code S → Bounds → Core S → ℕ → ThreadState S → Step → StepAnswer → Entry → Type 0
 StepShows code b c t th (RestoreWord at old) answer e = IsPutBack c at old e
 StepShows code b c t th (Release r) answer e =
-    e ≡ release_shows t th.stage r (event_told t (code.next th.local) (told code b th (Release r) answer))
-StepShows code b c t th (MarkUndone s w) answer e = e ≡ back_to t (c.levels t)
+    e ≡ monitor_shows t th.attempt r 0 (event_told t (code.next th.local) (told code b th (Release r) answer))
+StepShows code b c t th (SetDepth r new) answer e =
+    e ≡ monitor_shows t th.attempt r (monitor_depth new) (event_told t (code.next th.local) (told code b th (SetDepth r new) answer))
+StepShows code b c t th (MarkUndone s w) answer e = e ≡ back_to t th.attempt (c.levels t)
 StepShows code b c t th step answer e = e ≡ event_told t (code.next th.local) (told code b th step answer)
 
 abbrev pub Shows : {S : Type 0} → Code S → Bounds → Core S → Act → Entry → Type 0

@@ -1,8 +1,11 @@
 -- What a thread does of a run, and runs in which each thread does what comes next for it.
-use Rattle.std.specs.Prelude.{◌≡◌, ℕ, zero, suc, Bool, true, false, Some, List, [], ◌∷◌, Contains}
+use Rattle.std.specs.Prelude.{◌≡◌, ℕ, zero, suc, Bool, true, false, ◌&&◌, nat_lt, nat_le, Some, List, [], ◌∷◌, Contains}
 use Rattle.op_core.specs.ThreadCode.{Code, quiet_step}
+use Rattle.section_state.specs.declared.State.TheVariants.{Live}
+use Rattle.section_state.specs.SectionWord.{pinned_of, depth_of}
+use Rattle.monitor_core.specs.Contention.{is_in}
 use Rattle.step_port.specs.declared.step.Step.{Step}
-use Rattle.step_port.specs.declared.step.Step.TheVariants.{LoadStop, SetStop, Split}
+use Rattle.step_port.specs.declared.step.Step.TheVariants.{LoadStop, SetStop, Split, LookMonitor, LookSection, BreakLevel}
 use Rattle.step_port.specs.Words.{Words}
 use Rattle.thread_automaton.specs.declared.Bounds.{Bounds}
 use Rattle.thread_automaton.specs.declared.Move.TheVariants.{Quiet, Make}
@@ -11,13 +14,21 @@ use Rattle.thread_automaton.specs.NextMove.{next_move}
 use Rattle.thread_automaton.specs.Told.{after_answer, after_quiet}
 use Rattle.core_runs.specs.WordRuns.{StepMade, RunEntry, IsWordRun, part_of}
 
--- the host's steps stand beside what its thread does
+-- the section of this word is live, and the level is open and not pinned
+abbrev pub can_break : ℕ → ℕ → Bool
+can_break word level = is_in Live word && nat_lt (pinned_of word) level && nat_le level (depth_of word)
+
+-- Steps that are made beside what their thread does: the host's, and those with which a cycle of waiting threads is found and
+-- broken.
 abbrev pub is_beside : Step → Bool
 is_beside LoadStop = true
 is_beside SetStop = true
+is_beside (LookMonitor r) = true
+is_beside (LookSection s) = true
+is_beside (BreakLevel s old level) = can_break old level
 is_beside step = false
 
--- the thread x makes so many silent moves, and is then y
+-- the thread x makes this number of silent moves, and is then y
 abbrev pub Quietly : {S : Type 0} → Code S → Bounds → ℕ → ThreadState S → ThreadState S → Type 0
 Quietly code b zero x y = x ≡ y
 Quietly {S} code b (suc n) x y =
@@ -29,7 +40,7 @@ abbrev pub MakesOwn : {S : Type 0} → Bool → Code S → Bounds → StepMade �
 MakesOwn true code b m z y = z ≡ y
 MakesOwn false code b m z y = (next_move code b z ≡ Make m.step) × (y ≡ after_answer code b z m.step m.answer)
 
--- a thread that began as x has made these steps, with silent moves before each, and is y behind the last
+-- a thread that began as x has made these steps, with silent moves before each, and is y after the last
 abbrev pub OwnTo : {S : Type 0} → Code S → Bounds → ThreadState S → List StepMade → ThreadState S → Type 0
 OwnTo code b x [] y = x ≡ y
 OwnTo {S} code b x (m ∷ part) y =

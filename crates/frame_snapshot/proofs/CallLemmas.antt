@@ -5,7 +5,7 @@ use Rattle.std.proofs.Math.Seq.{take-add}
 use Rattle.frame_snapshot.specs.declared.activation.Activation.{Activation}
 use Rattle.frame_snapshot.specs.declared.activation.Save.{Save}
 use Rattle.frame_snapshot.specs.declared.frames.NewFrame.{NewFrame}
-use Rattle.frame_snapshot.specs.declared.stage.Stage.TheVariants.{Begun}
+use Rattle.frame_snapshot.specs.declared.stage.FrameStage.TheVariants.{Begun}
 use Rattle.frame_snapshot.specs.FrameStack.{Frame, with_call, without_call}
 use Rattle.frame_snapshot.specs.Layout.{frame_in, saved_in, frames_over, IsPlaced, AreSaves, FitTogether}
 use Rattle.frame_snapshot.proofs.FrameLemmas.{take_same, cut_same, below_same, lie_wider, saves_bound, saves_deeper, saves_higher, seen_deeper}

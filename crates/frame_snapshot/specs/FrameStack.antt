@@ -2,8 +2,8 @@
 use Rattle.std.specs.Prelude.{ℕ, suc, ◌+◌, ◌-◌, ◌==◌, Bool, List, [], ◌∷◌, ◌++◌, length, take, drop, reverse, replicate, slice_set}
 use Rattle.std.specs.List.{list_any}
 use Rattle.link_types.specs.declared.operands.MethodId.{MethodId}
-use Rattle.frame_snapshot.specs.declared.stage.Stage.{Stage}
-use Rattle.frame_snapshot.specs.declared.stage.Stage.TheVariants.{Begun}
+use Rattle.frame_snapshot.specs.declared.stage.FrameStage.{FrameStage}
+use Rattle.frame_snapshot.specs.declared.stage.FrameStage.TheVariants.{Begun}
 use Rattle.frame_snapshot.specs.declared.frames.NewFrame.{NewFrame}
 
 -- a frame; the top of the operand stack stands first
@@ -11,7 +11,7 @@ pub record Frame : Type 0 where
   pub method : MethodId
   -- the number of the instruction
   pub step : ℕ
-  pub stage : Stage
+  pub stage : FrameStage
   -- the object that a synchronized method entered, or 0
   pub monitor : ℕ
   pub locals : List ℕ
@@ -31,7 +31,7 @@ pub record FrameStack : Type 0 where
   pub saves : List Saved
 
 -- the lowest frame of a thread, alone
-abbrev pub launch_frame : MethodId → Stage → ℕ → FrameStack
+abbrev pub launch_frame : MethodId → FrameStage → ℕ → FrameStack
 launch_frame method stage room = record {
   here = record { method = method; step = 0; stage = stage; monitor = 0; locals = []; stack = []; free = room };
   below = [];
@@ -45,7 +45,7 @@ with_here s f = record s { here = f }
 abbrev pub with_step : FrameStack → ℕ → FrameStack
 with_step s step = with_here s (record s.here { step = step })
 
-abbrev pub with_stage : FrameStack → Stage → FrameStack
+abbrev pub with_stage : FrameStack → FrameStage → FrameStack
 with_stage s stage = with_here s (record s.here { stage = stage })
 
 abbrev pub with_local : FrameStack → ℕ → ℕ → FrameStack

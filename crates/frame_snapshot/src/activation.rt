@@ -1,6 +1,6 @@
 //! Where a frame lies.
 
-use crate::stage::Stage;
+use crate::stage::FrameStage;
 use link_types::MethodId;
 
 /// A frame: what it executes, and where its words lie. Its locals are those from `base` on, its operand stack those from
@@ -9,7 +9,7 @@ use link_types::MethodId;
 pub struct Activation {
     pub method: MethodId,
     pub step: usize,
-    pub stage: Stage,
+    pub stage: FrameStage,
     pub monitor: u32,
     pub base: usize,
     pub floor: usize,

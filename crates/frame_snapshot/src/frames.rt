@@ -6,7 +6,7 @@ ghost use Rattle.frame_snapshot.specs.FrameStack.{with_step, with_stage, with_lo
 
 use crate::activation::{Activation, Save};
 use crate::row::{append_cut, make_room, move_down, put_back};
-use crate::stage::Stage;
+use crate::stage::FrameStage;
 use link_types::MethodId;
 use std::alloc::{AllocError, Global};
 use std::marker::Model;
@@ -47,7 +47,7 @@ pub struct NewFrame {
     /// The most words that the operand stack may have.
     pub max_stack: u16,
     /// Where the caller stands while the call goes on.
-    pub caller: Stage,
+    pub caller: FrameStage,
 }
 
 /// Why a frame wasn't made.
@@ -78,7 +78,7 @@ impl Frames {
     pub fn launch(
         alloc: Global,
         method: MethodId,
-        stage: Stage,
+        stage: FrameStage,
         room: u16,
     ) -> Result<Frames, AllocError>
         ensures { IfOk result (λ frames. frames ≡ launch_frame method stage room) }
@@ -162,7 +162,7 @@ impl Frames {
 
     /// Where the top frame stands inside its instruction.
     #[inline(always)]
-    pub fn stage(&self) -> Stage
+    pub fn stage(&self) -> FrameStage
         ensures { result ≡ self.now.here.stage }
     {
         self.here.stage
@@ -170,7 +170,7 @@ impl Frames {
 
     /// The same, where the top frame keeps it.
     #[inline(always)]
-    pub fn stage_here(&self) -> &Stage
+    pub fn stage_here(&self) -> &FrameStage
         ensures { result.now ≡ self.now.here.stage }
     {
         &self.here.stage
@@ -288,7 +288,7 @@ impl Frames {
 
     /// Puts the top frame elsewhere inside its instruction.
     #[inline(always)]
-    pub fn set_stage(&mut self, stage: Stage)
+    pub fn set_stage(&mut self, stage: FrameStage)
         ensures { self.new ≡ with_stage self.old stage }
     {
         self.here.stage = stage;
@@ -320,7 +320,7 @@ impl Frames {
         self.here = Activation {
             method: call.method,
             step: 0,
-            stage: Stage::Begun,
+            stage: FrameStage::Begun,
             monitor: call.monitor,
             base,
             floor,

@@ -8,8 +8,10 @@ mod activation;
 mod frames;
 mod row;
 mod stage;
+mod text;
 mod todo;
 
 pub use frames::{Frames, NewFrame, PushRefusal};
-pub use stage::{CallSite, Caller, Outcome, Stage};
+pub use stage::{CallSite, Caller, FrameEnd, FrameStage};
+pub use text::{Appended, TextJob};
 pub use todo::{Then, Todo, Value};

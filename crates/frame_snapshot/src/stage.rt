@@ -18,7 +18,7 @@ pub struct CallSite {
 
 /// How a frame ends, behind the exit of its monitor.
 #[derive(Clone, Copy)]
-pub enum Outcome {
+pub enum FrameEnd {
     /// It returns a value.
     Returned(Value),
     /// It throws an object.
@@ -29,13 +29,15 @@ pub enum Outcome {
 
 /// Where a frame stands inside its instruction.
 #[derive(Clone, Copy)]
-pub enum Stage {
+pub enum FrameStage {
     /// At the instruction's beginning.
     Begun,
     /// Inside it.
     Inside(Todo),
     /// A method that it called goes on above it.
     Calls(Caller),
+    /// Inside a method that reads or makes texts, which takes many operations: the thread keeps where.
+    Text,
     /// The initializer of the class at a place of those that are initialized, from the named one upward, goes on above it.
     Initializing { caller: Caller, place: u32 },
 }

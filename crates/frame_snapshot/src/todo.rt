@@ -3,7 +3,8 @@
 //! An object is given by its reference, a class by its number, and a place is one of the classes that are initialized,
 //! from the named one upward.
 
-use crate::stage::{CallSite, Caller, Outcome};
+use crate::stage::{CallSite, Caller, FrameEnd};
+use crate::text::TextJob;
 use instructions::ElementKind;
 use link_types::MethodId;
 use op_core::Op;
@@ -80,7 +81,7 @@ pub enum Then {
     /// The class of the object is known, which is thrown.
     Thrown(u32),
     /// The monitor of the frame was exited, or wasn't owned: the frame ends.
-    Leaves(Outcome),
+    Leaves(FrameEnd),
     /// The new exception of this class is thrown.
     Raised {
         caller: Caller,
@@ -120,7 +121,12 @@ pub enum Then {
     Notified(CallSite),
     /// The same for `notifyAll`.
     NotifiedAll(Caller),
-    /// The number of a string's text is known, which is printed.
+    /// The word of a string was read: 0, or the array of its units, which is printed.
+    PrintsWord {
+        site: CallSite,
+        string: u32,
+    },
+    /// The number of a literal's text is known, which is printed.
     PrintsText(CallSite),
     /// The priority of the current thread was read for a new thread, whose target is written behind it if it has one.
     Inherits {
@@ -160,7 +166,7 @@ pub enum Todo {
         object: u32,
     },
     /// A silent step ends the frame.
-    Ends(Outcome),
+    Ends(FrameEnd),
     /// A silent step makes the frame of a method, whose monitor was entered where it isn't 0.
     Calls {
         method: MethodId,
@@ -173,6 +179,8 @@ pub enum Todo {
         caller: Caller,
         place: u32,
     },
+    /// A method that reads or makes texts, which has asked for nothing so far.
+    Texts(CallSite, TextJob),
     /// Nothing: the thread has ended.
     Over,
     /// There is nothing that it could do.

@@ -12,13 +12,13 @@ use Rattle.type_rules.specs.declared.types.VerificationType.TheVariants.{Top}
 use Rattle.type_rules.specs.Assignable.{Hierarchy, is_assignable, is_same_type, are_locals_assignable}
 use Rattle.type_rules.specs.Environment.{Environment, TypedHandler}
 use Rattle.type_rules.specs.TypeFaults.{is_covered, handler_fault, handlers_fault}
-use Rattle.shared_words.specs.declared.store.Words.{Words}
-use Rattle.shared_words.specs.Store.{word_at, IsKept}
-use Rattle.shared_words.specs.Differ.{DifferAt}
-use Rattle.shared_words.specs.Shown.{first_words, EndsBy}
-use Rattle.shared_words.proofs.ListLaws.{first_count}
-use Rattle.shared_words.proofs.StoreLaws.{kept_are_fixed}
-use Rattle.shared_words.proofs.ShownLaws.{locals_told}
+use Rattle.type_lists.specs.declared.store.Words.{Words}
+use Rattle.type_lists.specs.Store.{word_at, IsKept}
+use Rattle.type_lists.specs.Differ.{DifferAt}
+use Rattle.type_lists.specs.Shown.{first_words, EndsBy}
+use Rattle.type_lists.proofs.ListLaws.{first_count}
+use Rattle.type_lists.proofs.StoreLaws.{kept_are_fixed}
+use Rattle.type_lists.proofs.ShownLaws.{locals_told}
 use Rattle.typing_frames.specs.declared.stores.FrameStores.{FrameStores}
 use Rattle.typing_frames.specs.declared.stores.CurrentFrame.{CurrentFrame}
 use Rattle.typing_frames.specs.Frames.{shown, StoresFollow}

@@ -4,9 +4,9 @@ use Rattle.std.specs.List.{All, Contains}
 use Rattle.std.specs.List.Sorted.{IsNonDecreasingBy}
 use Rattle.type_rules.specs.Assignable.{Hierarchy, is_assignable, are_locals_assignable}
 use Rattle.type_rules.specs.Environment.{Environment, TypedHandler}
-use Rattle.shared_words.specs.declared.store.Words.{Words}
-use Rattle.shared_words.specs.Shown.{EndsBy}
-use Rattle.shared_words.specs.Store.{word_at, IsFixed}
+use Rattle.type_lists.specs.declared.store.Words.{Words}
+use Rattle.type_lists.specs.Shown.{EndsBy}
+use Rattle.type_lists.specs.Store.{word_at, IsFixed}
 use Rattle.typing_frames.specs.declared.stores.FrameStores.{FrameStores}
 use Rattle.typing_frames.specs.declared.stores.CurrentFrame.{CurrentFrame}
 use Rattle.map_frames.specs.Mapped.{shown_locals}

@@ -14,8 +14,8 @@ use crate::method::MethodHandlers;
 use crate::ordered::check_in_order;
 use crate::span::Span;
 use map_frames::PoolOperands;
-use shared_words::Words;
 use std::alloc::{AllocError, Global};
+use type_lists::Words;
 use typing_frames::{CheckStop, CurrentFrame, FrameStores};
 use word_types::{ClassHierarchy, is_assignable};
 
@@ -48,8 +48,8 @@ impl CoveringHandlers {
     ghost use Rattle.std.specs.Prelude.{◌≤◌, true, false, slice_get, length};
     ghost use Rattle.std.specs.List.{All};
     ghost use Rattle.std.specs.List.Sorted.{IsNonDecreasingBy};
-    ghost use Rattle.shared_words.specs.Shown.{EndsBy};
-    ghost use Rattle.shared_words.specs.Store.{word_at};
+    ghost use Rattle.type_lists.specs.Shown.{EndsBy};
+    ghost use Rattle.type_lists.specs.Store.{word_at};
     ghost use Rattle.handler_frames.specs.Known.{AreStill, FitsStores, GoesAt, GoesOn, GoToFirst, GoTo, HasBegun, HasSameSpans, KnowsHandlers, TakesFrame};
 
     /// What is known of a method's handlers before its first instruction.

@@ -2,7 +2,7 @@
 
 ghost use Rattle.std.specs.Prelude.{◌≡◌, ◌≤◌};
 
-use shared_words::Words;
+use type_lists::Words;
 
 // Instructions from the first one on, before the end, and locals to which those of their frames have to go.
 #[derive(Clone, Copy)]

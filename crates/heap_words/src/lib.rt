@@ -12,4 +12,4 @@ pub mod laws;
 mod words;
 
 pub use areas::{Area, Areas, control};
-pub use words::{ClassWord, Header, HeapWord, WaitWord, notified};
+pub use words::{ClassWord, Header, HeapWord, Tag, WaitWord, class_state, class_thread, notified};

@@ -1,14 +1,44 @@
 //! How the words of objects, headers, waits and classes are packed into 64 bits.
 
 ghost use Rattle.std.specs.Prelude.{◌≡◌, ◌+◌, ◌*◌, ◌/◌, ◌%◌, ◌^◌, ◌<◌, MatchOption};
-ghost use Rattle.heap_words.specs.Words.{pack, value_of, tag_of, pack_header, header_class, header_length, wait_word, wait_object, wait_state, wait_word_of, SaysOfWait, class_state, class_word_of, SaysOfClass};
+ghost use Rattle.heap_words.specs.Words.{pack_tag, tag_section, tag_level, pack, value_of, tag_of, pack_header, header_class, header_length, wait_word, wait_object, wait_state, wait_word_of, SaysOfWait, class_state, class_thread, class_word_of, SaysOfClass};
+
+/// In which section a word was written, and how deep in it.
+#[derive(Clone, Copy)]
+pub struct Tag {
+    /// The number of the section, or 0.
+    pub section: u32,
+    /// How many of its levels were open, or 0.
+    pub level: u8,
+}
+
+impl Tag {
+    /// The tag that says this, with the 24 low bits of the section's number.
+    #[tactic(auto, unfolding(crate::specs::Words::pack_tag))]
+    pub fn pack(self) -> u32
+        ensures { result ≡ pack_tag self.section self.level }
+    {
+        self.section % 0x100_0000 + self.level as u32 * 0x100_0000
+    }
+
+    /// What a tag says.
+    #[tactic(auto, unfolding(crate::specs::Words::tag_section, crate::specs::Words::tag_level))]
+    pub fn unpack(tag: u32) -> Tag
+        ensures { result ≡ record { section = tag_section tag; level = tag_level tag } }
+    {
+        Tag {
+            section: tag % 0x100_0000,
+            level: (tag / 0x100_0000) as u8,
+        }
+    }
+}
 
 /// A word of an object: a field, a static field or an array element, or half of one that is long.
 #[derive(Clone, Copy)]
 pub struct HeapWord {
     /// The value that Java code reads.
     pub value: u32,
-    /// The number of the section in which the value was written, or 0 where it was written in none.
+    /// In which section the value was written, and how deep in it ([`Tag`]), or 0 where it was written in none.
     pub tag: u32,
 }
 
@@ -139,18 +169,33 @@ impl ClassWord {
 
     /// What a word says: `None` exactly where its lowest eight bits are above 3. The bits from 16 on say nothing, and
     /// those from 8 on only where a thread is at it.
-    #[tactic(auto, unfolding(crate::specs::Words::class_state, crate::specs::Words::class_thread))]
     pub fn unpack(word: u64) -> Option<ClassWord>
         ensures { MatchOption result (3 < class_state word) (SaysOfClass word) }
     {
-        match word % 256 {
+        match class_state(word) {
             0 => Some(ClassWord::Unready),
-            1 => Some(ClassWord::Claimed((word / 256 % 256) as u8)),
+            1 => Some(ClassWord::Claimed(class_thread(word))),
             2 => Some(ClassWord::Ready),
             3 => Some(ClassWord::Bad),
             _ => None,
         }
     }
+}
+
+/// How far a class is, by its word: 0 to 3 in the order of [`ClassWord`]; a greater number says nothing.
+#[tactic(auto, unfolding(crate::specs::Words::class_state))]
+pub fn class_state(word: u64) -> u8
+    ensures { result ≡ class_state word }
+{
+    (word % 256) as u8
+}
+
+/// The thread that is at the class's initialization, where the class's word says that one is.
+#[tactic(auto, unfolding(crate::specs::Words::class_thread))]
+pub fn class_thread(word: u64) -> u8
+    ensures { result ≡ class_thread word }
+{
+    (word / 256 % 256) as u8
 }
 
 fn joined(low: u32, high: u32) -> u64

@@ -8,7 +8,7 @@ use Rattle.frame_snapshot.specs.FrameStack.{Frame as StackFrame, FrameStack, res
 use Rattle.frame_snapshot.specs.declared.stage.CallSite.{CallSite}
 use Rattle.frame_snapshot.specs.declared.stage.Caller.{Caller}
 use Rattle.frame_snapshot.specs.declared.stage.Caller.TheVariants.{Instruction, Launch}
-use Rattle.frame_snapshot.specs.declared.stage.Stage.TheVariants as stages
+use Rattle.frame_snapshot.specs.declared.stage.FrameStage.TheVariants as stages
 use Rattle.op_core.specs.declared.Op.TheVariants.{Notify, ClassOf}
 use Rattle.java_rows.specs.Calls.{after_call, goes_on_at}
 use Rattle.java_rows.specs.Plan.{notifies, finds, Frame, FrameEnd, ends, ready, Plan, want, stuck, use_in}

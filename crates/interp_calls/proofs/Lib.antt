@@ -5,3 +5,5 @@ pub mod AgainLemmas
 pub mod SilentLemmas
 pub mod RunLemmas
 pub mod MainLemmas
+pub mod TextLemmas
+pub mod StateLemmas

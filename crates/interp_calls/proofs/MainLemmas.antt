@@ -3,7 +3,7 @@ use Rattle.std.proofs.Common.{◌≡◌, ℕ, List, [], ◌∷◌, drop, refl, a
 use Rattle.code_decode.specs.declared.code.ClassUnit.{ClassUnit}
 use Rattle.frame_snapshot.specs.FrameStack.{FrameStack, launch_frame, with_stage, with_word}
 use Rattle.frame_snapshot.specs.declared.stage.Caller.TheVariants.{Launch}
-use Rattle.frame_snapshot.specs.declared.stage.Stage.TheVariants.{Begun, Inside}
+use Rattle.frame_snapshot.specs.declared.stage.FrameStage.TheVariants.{Begun, Inside}
 use Rattle.frame_snapshot.specs.declared.todo.Todo.{Todo}
 use Rattle.link_rules.specs.FixedObjects.{arguments_object, main_thread_object}
 use Rattle.link_rules.specs.Names.{program_names}

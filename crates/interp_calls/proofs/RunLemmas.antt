@@ -4,7 +4,7 @@ use Rattle.std.proofs.lemmas.Bool.{cases_lt}
 use Rattle.std.specs.Option.{option_and_then}
 use Rattle.code_decode.specs.declared.code.ClassUnit.{ClassUnit}
 use Rattle.frame_snapshot.specs.FrameStack.{Saved, FrameStack, frame_count}
-use Rattle.frame_snapshot.specs.declared.stage.Stage.TheVariants.{Begun}
+use Rattle.frame_snapshot.specs.declared.stage.FrameStage.TheVariants.{Begun}
 use Rattle.instructions.specs.declared.what.Instr.{Instr}
 use Rattle.instructions.specs.declared.what.Target.{Target}
 use Rattle.interp_local.specs.Frames.{frame_now}

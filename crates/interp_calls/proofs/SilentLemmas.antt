@@ -94,7 +94,7 @@ saves_leave us me below plan (v ∷ vs) ending =
     ∙ ap (λ n. (length v.below == n) || leaves_with us me below vs plan) (depth_of us me below)
     ∙ ap (λ b. (length v.below == length below) || b) (saves_leave us me below plan vs ending)
 
-saves_stay : (us : List ClassUnit) (me : ℕ) (below : List StackFrame) (plan : Plan) (saves : List Saved) → is_end plan ≡ false
+pub saves_stay : (us : List ClassUnit) (me : ℕ) (below : List StackFrame) (plan : Plan) (saves : List Saved) → is_end plan ≡ false
     → leaves_with us me below saves plan ≡ false
 saves_stay us me below plan [] ending = refl
 saves_stay us me below plan (v ∷ vs) ending =

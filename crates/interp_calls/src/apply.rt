@@ -2,7 +2,7 @@
 
 ghost use Rattle.std.specs.Prelude.{◌≡◌, ◌≤◌, ◌++◌, length, drop};
 ghost use Rattle.std.specs.Prelude.{IfSome, IsNone};
-ghost use Rattle.frame_snapshot.specs.declared.stage.Stage.{Stage};
+ghost use Rattle.frame_snapshot.specs.declared.stage.FrameStage.{FrameStage};
 ghost use Rattle.frame_snapshot.specs.FrameStack.{with_stage};
 ghost use Rattle.interp_local.specs.declared.step.LocalStep.{LocalStep};
 ghost use Rattle.interp_local.specs.Effects.{with_words};
@@ -15,7 +15,7 @@ ghost use Rattle.interp_plans.specs.Todos.{plan_at, plan_of, plan_reached};
 ghost use Rattle.interp_plans.specs.Uses.{frame_of, value_words};
 ghost use Rattle.interp_calls.specs.Local.{local_of, waiting_below};
 
-use frame_snapshot::{Caller, Frames, Stage, Then, Todo, Value};
+use frame_snapshot::{Caller, FrameStage, Frames, Then, Todo, Value};
 use interp_local::one;
 use interp_plans::{Here, JavaProgram, Reached};
 use op_core::Op;
@@ -23,20 +23,20 @@ use op_core::Op;
 /// The top frame goes on with what is to be done.
 #[inline(always)]
 pub fn go_on(frames: &mut Frames, todo: Todo)
-    ensures { frames.new ≡ with_stage frames.old (Stage.Inside todo) }
+    ensures { frames.new ≡ with_stage frames.old (FrameStage.Inside todo) }
 {
-    frames.set_stage(Stage::Inside(todo));
+    frames.set_stage(FrameStage::Inside(todo));
 }
 
 /// What is to be done next in the top frame; `None` where its instruction needs no operation.
 pub fn todo_of<P: JavaProgram>(program: &P, thread: u32, frames: &Frames) -> Option<Todo>
     ensures some { IfSome result (λ todo. plan_at (P.units program.now) thread (frame_of frames.now.here) frames.now.here.stage
         ≡ plan_of (P.units program.now) thread (frame_of frames.now.here) todo) }
-    ensures begun { IsNone result → frames.now.here.stage ≡ Stage.Begun }
+    ensures begun { IsNone result → frames.now.here.stage ≡ FrameStage.Begun }
     ensures none { IsNone result → kind_of (local_now (P.units program.now) (steps_of (P.units program.now) frames.now.here.method) frames.now) ≡ LocalStep.Moved }
 {
     match frames.stage() {
-        Stage::Begun => {
+        FrameStage::Begun => {
             let here = Here {
                 program,
                 thread,
@@ -44,7 +44,7 @@ pub fn todo_of<P: JavaProgram>(program: &P, thread: u32, frames: &Frames) -> Opt
             };
             here.begin()
         }
-        Stage::Inside(todo) => Some(todo),
+        FrameStage::Inside(todo) => Some(todo),
         _ => Some(Todo::Stuck),
     }
 }
@@ -111,7 +111,7 @@ fn complete<P: JavaProgram>(
     frames.drop_words(taken);
     push_value(frames, value);
     frames.set_step(next);
-    frames.set_stage(Stage::Begun);
+    frames.set_stage(FrameStage::Begun);
 }
 
 /// An object of a class is thrown in the top frame.

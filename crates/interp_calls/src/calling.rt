@@ -9,7 +9,7 @@ ghost use Rattle.interp_plans.specs.Uses.{frame_of};
 ghost use Rattle.interp_calls.specs.Local.{paused, room_for};
 
 use crate::apply::go_on;
-use frame_snapshot::{Frames, NewFrame, PushRefusal, Stage, Todo};
+use frame_snapshot::{FrameStage, Frames, NewFrame, PushRefusal, Todo};
 use interp_plans::JavaProgram;
 use link_types::MethodId;
 
@@ -22,7 +22,7 @@ pub struct MethodCall {
     /// The object whose monitor was entered for it, or 0.
     pub monitor: u32,
     /// Where the caller stands meanwhile.
-    pub caller: Stage,
+    pub caller: FrameStage,
 }
 
 // The words of the locals and of the stack of a method's frame that has so many arguments; none where it has no code or

@@ -1,7 +1,7 @@
 //! The end of a frame, and how the one below goes on.
 
 ghost use Rattle.std.specs.Prelude.{◌≡◌, false};
-ghost use Rattle.frame_snapshot.specs.declared.stage.Stage.{Stage};
+ghost use Rattle.frame_snapshot.specs.declared.stage.FrameStage.{FrameStage};
 ghost use Rattle.frame_snapshot.specs.FrameStack.{was_saved};
 ghost use Rattle.java_rows.specs.Plan.{ends, ready};
 ghost use Rattle.java_rows.specs.Thread.{settled};
@@ -12,7 +12,7 @@ ghost use Rattle.interp_calls.specs.Local.{local_of, waiting_below};
 
 use crate::apply::{apply, go_on};
 use builtin_world::number::ILLEGAL_MONITOR_STATE_EXCEPTION;
-use frame_snapshot::{CallSite, Caller, Frames, Outcome, Stage, Then, Todo};
+use frame_snapshot::{CallSite, Caller, FrameEnd, FrameStage, Frames, Then, Todo};
 use interp_plans::{Here, JavaProgram, Reached};
 use op_core::Op;
 
@@ -22,7 +22,7 @@ fn initializer_ended<P: JavaProgram>(
     here: &Here<'_, P>,
     caller: Caller,
     place: u32,
-    outcome: Outcome,
+    outcome: FrameEnd,
 ) -> Reached
     ensures { after_initializer (P.units here.now.program.now) here.now.thread (frame_of here.now.frames.now.here) caller (chain_of (P.units here.now.program.now) (frame_of here.now.frames.now.here) caller) place (end_of outcome)
         ≡ plan_reached (P.units here.now.program.now) here.now.thread (frame_of here.now.frames.now.here) result }
@@ -31,11 +31,11 @@ fn initializer_ended<P: JavaProgram>(
         return Reached::Goes(Todo::Stuck);
     };
     match outcome {
-        Outcome::Returned(_) => {
+        FrameEnd::Returned(_) => {
             let then = Then::Settled { caller, place };
             Reached::Goes(Todo::Wants(Op::InitDone(initialized, true), then))
         }
-        Outcome::Threw { object, class } => {
+        FrameEnd::Threw { object, class } => {
             let then = Then::Broken {
                 caller,
                 place,
@@ -44,7 +44,7 @@ fn initializer_ended<P: JavaProgram>(
             };
             Reached::Goes(Todo::Wants(Op::InitDone(initialized, false), then))
         }
-        Outcome::Broke => {
+        FrameEnd::Broke => {
             let class = ILLEGAL_MONITOR_STATE_EXCEPTION;
             let then = Then::Error {
                 caller,
@@ -57,8 +57,8 @@ fn initializer_ended<P: JavaProgram>(
 }
 
 // How a caller goes on where a call in it has ended.
-fn call_ended<P: JavaProgram>(here: &Here<'_, P>, caller: Caller, outcome: Outcome) -> Reached
-    ensures { waiting (P.units here.now.program.now) here.now.thread (frame_of here.now.frames.now.here) (Stage.Calls caller) (end_of outcome)
+fn call_ended<P: JavaProgram>(here: &Here<'_, P>, caller: Caller, outcome: FrameEnd) -> Reached
+    ensures { waiting (P.units here.now.program.now) here.now.thread (frame_of here.now.frames.now.here) (FrameStage.Calls caller) (end_of outcome)
         ≡ plan_reached (P.units here.now.program.now) here.now.thread (frame_of here.now.frames.now.here) result }
 {
     let site = CallSite {
@@ -66,27 +66,29 @@ fn call_ended<P: JavaProgram>(here: &Here<'_, P>, caller: Caller, outcome: Outco
         operands: 0,
     };
     match outcome {
-        Outcome::Returned(value) => here.value(site, value),
-        Outcome::Threw { object, class } => here.thrown(caller, object, class),
-        Outcome::Broke => Reached::Goes(here.raise(site, ILLEGAL_MONITOR_STATE_EXCEPTION)),
+        FrameEnd::Returned(value) => here.value(site, value),
+        FrameEnd::Threw { object, class } => here.thrown(caller, object, class),
+        FrameEnd::Broke => Reached::Goes(here.raise(site, ILLEGAL_MONITOR_STATE_EXCEPTION)),
     }
 }
 
 // What the end of the frame above leads to in the frame that is on top now.
-fn resumed<P: JavaProgram>(here: &Here<'_, P>, outcome: Outcome) -> Reached
+fn resumed<P: JavaProgram>(here: &Here<'_, P>, outcome: FrameEnd) -> Reached
     ensures { waiting (P.units here.now.program.now) here.now.thread (frame_of here.now.frames.now.here) here.now.frames.now.here.stage (end_of outcome)
         ≡ plan_reached (P.units here.now.program.now) here.now.thread (frame_of here.now.frames.now.here) result }
 {
     match here.frames.stage() {
-        Stage::Calls(caller) => call_ended(here, caller, outcome),
-        Stage::Initializing { caller, place } => initializer_ended(here, caller, place, outcome),
+        FrameStage::Calls(caller) => call_ended(here, caller, outcome),
+        FrameStage::Initializing { caller, place } => initializer_ended(
+            here, caller, place, outcome,
+        ),
         _ => Reached::Goes(Todo::Stuck),
     }
 }
 
 /// The top frame ends, which was on top at no save.
 #[tactic(auto, using(crate::proofs::AgainLemmas::ends_resumed))]
-pub fn end<P: JavaProgram>(program: &P, thread: u32, frames: &mut Frames, outcome: Outcome)
+pub fn end<P: JavaProgram>(program: &P, thread: u32, frames: &mut Frames, outcome: FrameEnd)
     requires { was_saved frames.old ≡ false }
     ensures state { local_of (P.units program.now) thread frames.new
         ≡ settled (P.units program.now) thread (ready (ends (end_of outcome))) (waiting_below (P.units program.now) thread frames.old.below) }

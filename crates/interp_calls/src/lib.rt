@@ -11,6 +11,7 @@ mod ending;
 mod java_code;
 mod running;
 mod silent;
+mod texts;
 
 pub use interp_plans::JavaProgram;
 pub use java_code::JavaCode;

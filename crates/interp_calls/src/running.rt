@@ -2,7 +2,7 @@
 
 ghost use Rattle.std.specs.Prelude.{◌≡◌, ◌≢◌, ◌≤◌, Some};
 ghost use Rattle.op_core.specs.ThreadCode.{quiet_steps, LeavesNoSave};
-ghost use Rattle.frame_snapshot.specs.declared.stage.Stage.{Stage};
+ghost use Rattle.frame_snapshot.specs.declared.stage.FrameStage.{FrameStage};
 ghost use Rattle.interp_local.specs.declared.step.LocalStep.{LocalStep};
 ghost use Rattle.interp_local.specs.Steps.{kind_of, local_now};
 ghost use Rattle.java_rows.specs.Program.{steps_of};
@@ -10,7 +10,7 @@ ghost use Rattle.java_rows.specs.Thread.{java_code};
 ghost use Rattle.interp_calls.specs.Local.{local_of, saved_locals};
 
 use crate::apply::go_on;
-use frame_snapshot::{Frames, Stage};
+use frame_snapshot::Frames;
 use instructions::{Instr, Target};
 use interp_local::{LocalStep, run_local};
 use interp_plans::{Here, JavaProgram};
@@ -25,7 +25,7 @@ fn keep_next<P: JavaProgram>(
     step: LocalStep,
 )
     requires steps { steps.now ≡ steps_of (P.units program.now) frames.old.here.method }
-    requires begun { frames.old.here.stage ≡ Stage.Begun }
+    requires begun { frames.old.here.stage ≡ FrameStage.Begun }
     requires step { step ≢ LocalStep.Moved → step ≡ kind_of (local_now (P.units program.now) (steps_of (P.units program.now) frames.old.here.method) frames.old) }
     ensures state { local_of (P.units program.now) thread frames.new ≡ local_of (P.units program.now) thread frames.old }
     ensures saves { frames.new.saves ≡ frames.old.saves }
@@ -43,17 +43,15 @@ fn keep_next<P: JavaProgram>(
     }
 }
 
-/// Makes silent steps of instructions that need no operation, at most so many, and answers how many. What the instruction
+/// Makes silent steps of instructions that need no operation, from the beginning of one on, at most so many, and answers how many. What the instruction
 /// behind them wants is kept, so that it isn't found anew. Takes no memory.
 pub fn run<P: JavaProgram>(program: &P, thread: u32, frames: &mut Frames, most: u64) -> u64
+    requires { frames.old.here.stage ≡ FrameStage.Begun }
     ensures steps { quiet_steps java_code result (local_of (P.units program.now) thread frames.old) ≡ Some (local_of (P.units program.now) thread frames.new) }
     ensures stays { LeavesNoSave java_code (saved_locals (P.units program.now) thread frames.old) result (local_of (P.units program.now) thread frames.old) }
     ensures saves { frames.new.saves ≡ frames.old.saves }
     ensures most { result ≤ most }
 {
-    let Stage::Begun = frames.stage() else {
-        return 0;
-    };
     frames.has_few();
     let method = frames.method();
     match program.code(method) {

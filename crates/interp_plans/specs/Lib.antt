@@ -4,3 +4,4 @@ pub mod Replies
 pub mod Todos
 pub mod Operands
 pub mod Calls
+pub mod Jobs

@@ -15,7 +15,7 @@ use Rattle.java_rows.specs.Calls.{after_call, invokes_selected}
 use Rattle.java_rows.specs.Natives.{on_woken, on_started, not_owner, prints}
 use Rattle.java_rows.specs.Numbers.{is_index}
 use Rattle.java_rows.specs.Objects.{reads_element, kept_element, writes_long, stores_checked}
-use Rattle.java_rows.specs.Plan.{notifies, finds, Frame, broke, ends, Plan, want, silently, calls, ready, over, stuck, on_class, on_value, on_made, on_done, on_owner, on_init, reads, writes, makes, Use, raises, completes, thrown_in, fails}
+use Rattle.java_rows.specs.Plan.{notifies, finds, Frame, broke, ends, Plan, want, silently, calls, ready, over, stuck, on_class, on_value, on_made, on_done, on_owner, on_init, asks_class, reads, writes, makes, Use, raises, completes, thrown_in, fails}
 use Rattle.java_rows.specs.Program.{is_subclass, takes_element, select, select_for, runnable_run}
 use Rattle.interp_plans.specs.Initializing.{chain_of, broken_at, done_at, asks_at}
 use Rattle.interp_plans.specs.Uses.{use_by, use_at, arguments_at, thrown_by, end_of}
@@ -134,6 +134,9 @@ then_of us me f (thens.Waited site r) =
 then_of us me f (thens.Notified site) =
     on_woken ((use_at f site).value []) ((use_at f site).value []) (not_owner (use_at f site))
 then_of us me f (thens.NotifiedAll caller) = notified_all_then f caller f.stack
+then_of us me f (thens.PrintsWord site s) = on_value (λ array.
+    if array == 0 then asks_class s (λ c n. prints (lines.Text n) (use_at f site))
+    else prints (lines.Made array) (use_at f site))
 then_of us me f (thens.PrintsText site) = on_class (λ c n. prints (lines.Text n) (use_at f site))
 then_of us me f (thens.Inherits site t target) =
     on_value (λ p. writes t THREAD_PRIORITY p (inherits_then (use_at f site) t target))

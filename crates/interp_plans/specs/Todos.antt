@@ -2,16 +2,18 @@
 use Rattle.std.specs.Prelude.{ℕ, List, [], ◌∷◌, ◌++◌, drop}
 use Rattle.code_decode.specs.declared.code.ClassUnit.{ClassUnit}
 use Rattle.frame_snapshot.specs.declared.stage.Caller.{Caller}
-use Rattle.frame_snapshot.specs.declared.stage.Stage.{Stage}
-use Rattle.frame_snapshot.specs.declared.stage.Stage.TheVariants as stages
+use Rattle.frame_snapshot.specs.declared.stage.FrameStage.{FrameStage}
+use Rattle.frame_snapshot.specs.declared.stage.FrameStage.TheVariants as stages
 use Rattle.frame_snapshot.specs.declared.todo.Todo.{Todo}
 use Rattle.frame_snapshot.specs.declared.todo.Todo.TheVariants as todos
 use Rattle.java_rows.specs.Calls.{after_call}
 use Rattle.java_rows.specs.Plan.{at_step, notifies, finds, Frame, FrameEnd, goes, ends, Plan, want, silently, calls, ready, over, stuck, completes, thrown_in}
 use Rattle.java_rows.specs.Thread.{begun}
+use Rattle.text_stages.specs.Stages.{stage_plan, start_of}
 use Rattle.interp_plans.specs.declared.reached.Reached.{Reached}
 use Rattle.interp_plans.specs.declared.reached.Reached.TheVariants as reached
 use Rattle.interp_plans.specs.Initializing.{chain_of, after_initializer}
+use Rattle.interp_plans.specs.Jobs.{job_of}
 use Rattle.interp_plans.specs.Replies.{then_of}
 use Rattle.interp_plans.specs.Uses.{use_by, use_at, arguments_at, end_of, value_words}
 
@@ -25,6 +27,8 @@ plan_of us me f (todos.Calls id site monitor) =
     calls id (arguments_at f site) monitor (after_call (use_at f site))
 plan_of us me f (todos.Initializes id caller i) =
     calls id [] 0 (after_initializer us me f caller (chain_of us f caller) i)
+plan_of us me f (todos.Texts site job) =
+    stage_plan us (use_at f site) (job_of job) (start_of (job_of job)) [] [] []
 plan_of us me f todos.Over = over
 plan_of us me f todos.Stuck = stuck
 
@@ -46,13 +50,13 @@ plan_reached us me f (reached.Finds caller v) =
 -- ---- frames
 
 -- of the top frame
-abbrev pub plan_at : List ClassUnit → ℕ → Frame → Stage → Plan
+abbrev pub plan_at : List ClassUnit → ℕ → Frame → FrameStage → Plan
 plan_at us me f stages.Begun = begun us me f
 plan_at us me f (stages.Inside todo) = plan_of us me f todo
 plan_at us me f _ = stuck
 
 -- of a frame below it
-abbrev pub waiting : List ClassUnit → ℕ → Frame → Stage → FrameEnd → Plan
+abbrev pub waiting : List ClassUnit → ℕ → Frame → FrameStage → FrameEnd → Plan
 waiting us me f (stages.Calls caller) = after_call (use_by f caller f.stack)
 waiting us me f (stages.Initializing caller i) = after_initializer us me f caller (chain_of us f caller) i
 waiting us me f _ = λ outcome. stuck

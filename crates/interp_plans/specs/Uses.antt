@@ -4,8 +4,8 @@ use Rattle.frame_snapshot.specs.FrameStack.{Frame as StackFrame}
 use Rattle.frame_snapshot.specs.declared.stage.CallSite.{CallSite}
 use Rattle.frame_snapshot.specs.declared.stage.Caller.{Caller}
 use Rattle.frame_snapshot.specs.declared.stage.Caller.TheVariants.{Instruction, Launch}
-use Rattle.frame_snapshot.specs.declared.stage.Outcome.{Outcome}
-use Rattle.frame_snapshot.specs.declared.stage.Outcome.TheVariants.{Returned, Threw, Broke}
+use Rattle.frame_snapshot.specs.declared.stage.FrameEnd.{FrameEnd as StackFrameEnd}
+use Rattle.frame_snapshot.specs.declared.stage.FrameEnd.TheVariants.{Returned, Threw, Broke}
 use Rattle.frame_snapshot.specs.declared.todo.Value.{Value}
 use Rattle.frame_snapshot.specs.declared.todo.Value.TheVariants as values
 use Rattle.java_rows.specs.Plan.{at_step, Frame, FrameEnd, returned, threw, broke, Plan, Use, use_in}
@@ -45,7 +45,7 @@ arguments_at f site = reverse (take site.operands f.stack)
 abbrev pub thrown_by : Frame → Caller → ℕ → ℕ → Plan
 thrown_by f caller = (use_by f caller []).thrown
 
-abbrev pub end_of : Outcome → FrameEnd
+abbrev pub end_of : StackFrameEnd → FrameEnd
 end_of (Returned value) = returned (value_words value)
 end_of (Threw r c) = threw r c
 end_of Broke = broke

@@ -10,7 +10,7 @@ ghost use Rattle.interp_plans.specs.Uses.{end_of, frame_of};
 use crate::here::Here;
 use crate::program::JavaProgram;
 use code_decode::Handler;
-use frame_snapshot::{Outcome, Then, Todo};
+use frame_snapshot::{FrameEnd, Then, Todo};
 use link_types::MethodId;
 use op_core::Op;
 
@@ -22,7 +22,7 @@ fn covers(step: usize, handler: &Handler) -> bool
 
 impl<'a, P: JavaProgram> Here<'a, P> {
     /// The frame ends, behind the exit of its monitor.
-    pub fn leave(&self, outcome: Outcome) -> Todo
+    pub fn leave(&self, outcome: FrameEnd) -> Todo
         ensures { leaves (frame_of self.now.frames.now.here) (end_of outcome)
             ≡ plan_of (P.units self.now.program.now) self.now.thread (frame_of self.now.frames.now.here) result }
     {
@@ -74,7 +74,7 @@ impl<'a, P: JavaProgram> Here<'a, P> {
                 entry: handler.entry,
                 object,
             },
-            None => self.leave(Outcome::Threw { object, class }),
+            None => self.leave(FrameEnd::Threw { object, class }),
         }
     }
 }

@@ -11,7 +11,7 @@ use crate::here::Here;
 use crate::program::JavaProgram;
 use crate::values::with_operands;
 use builtin_world::number::NULL_POINTER_EXCEPTION;
-use frame_snapshot::{Outcome, Then, Todo, Value};
+use frame_snapshot::{FrameEnd, Then, Todo, Value};
 use instructions::ValueKind;
 use interp_local::{one, two};
 use op_core::Op;
@@ -99,13 +99,13 @@ impl<'a, P: JavaProgram> Here<'a, P> {
             ≡ plan_of (P.units self.now.program.now) self.now.thread (frame_of self.now.frames.now.here) result }
     {
         match kind {
-            None => self.leave(Outcome::Returned(Value::None)),
+            None => self.leave(FrameEnd::Returned(Value::None)),
             Some(ValueKind::Long) => match two(self.frames) {
-                Some((high, low)) => self.leave(Outcome::Returned(Value::Long { high, low })),
+                Some((high, low)) => self.leave(FrameEnd::Returned(Value::Long { high, low })),
                 None => Todo::Stuck,
             },
             Some(_) => match one(self.frames) {
-                Some(word) => self.leave(Outcome::Returned(Value::Word(word))),
+                Some(word) => self.leave(FrameEnd::Returned(Value::Word(word))),
                 None => Todo::Stuck,
             },
         }

@@ -14,6 +14,7 @@ pub trait JavaProgram: Constants {
     ghost use Rattle.link_types.specs.declared.operands.FieldOperand.{FieldOperand};
     ghost use Rattle.link_types.specs.declared.operands.Operand.{Operand};
     ghost use Rattle.java_rows.specs.Initialization.{statics_of};
+    ghost use Rattle.java_rows.specs.Units.{literal_units};
     ghost use Rattle.java_rows.specs.Program.{argument_words, body_of, field_at, initialized_with, is_boolean_array, is_subclass, method_has, select, steps_of, takes_element};
     ghost use Rattle.link_rules.specs.Classes.{classes_of};
     ghost use Rattle.link_rules.specs.FixedObjects.{arguments_object, class_object, main_thread_object, system_out_object};
@@ -98,6 +99,10 @@ pub trait JavaProgram: Constants {
     /// The array with the arguments of `main`.
     fn arguments(&self) -> u32
         ensures { result ≡ arguments_object (program_names (Self.units self.now)) };
+
+    /// The UTF-16 code units of the string literal of a number, none where the program has none.
+    fn literal_units(&self, string: u32) -> &[u16]
+        ensures { result.now ≡ literal_units (Self.units self.now) string };
 
     /// How many words a new object of a class has, with so many elements where it is an array.
     fn words(&self, class: u32, elements: u32) -> u64

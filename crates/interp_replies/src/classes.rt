@@ -9,7 +9,7 @@ ghost use Rattle.interp_plans.specs.Uses.{frame_of};
 
 use crate::values::STUCK;
 use builtin_world::number::{ERROR, EXCEPTION_IN_INITIALIZER_ERROR, NO_CLASS_DEF_FOUND_ERROR};
-use frame_snapshot::{CallSite, Caller, Outcome, Then, Todo};
+use frame_snapshot::{CallSite, Caller, FrameEnd, Then, Todo};
 use interp_plans::{Here, JavaProgram, Reached};
 use link_types::MethodId;
 use op_core::{Op, Reply};
@@ -99,13 +99,13 @@ pub fn raised<P: JavaProgram>(
 }
 
 /// The monitor of the frame was exited.
-pub fn leaves<P: JavaProgram>(here: &Here<'_, P>, outcome: Outcome, reply: Reply) -> Reached
+pub fn leaves<P: JavaProgram>(here: &Here<'_, P>, outcome: FrameEnd, reply: Reply) -> Reached
     ensures { then_of (P.units here.now.program.now) here.now.thread (frame_of here.now.frames.now.here) (Then.Leaves outcome) reply
         ≡ plan_reached (P.units here.now.program.now) here.now.thread (frame_of here.now.frames.now.here) result }
 {
     match reply {
         Reply::Done => Reached::Goes(Todo::Ends(outcome)),
-        Reply::NotOwner => Reached::Goes(Todo::Ends(Outcome::Broke)),
+        Reply::NotOwner => Reached::Goes(Todo::Ends(FrameEnd::Broke)),
         _ => STUCK,
     }
 }

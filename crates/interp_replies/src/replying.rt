@@ -11,7 +11,7 @@ use crate::classes::{
 use crate::elements::{checked, loads, stores};
 use crate::monitors::{entered, exited, notified, notified_all, waited};
 use crate::threads::{
-    finds_run, inherits, prints_text, runs_target, started, starts_with, writes_target,
+    finds_run, inherits, prints_text, prints_word, runs_target, started, starts_with, writes_target,
 };
 use crate::values::{
     STUCK, cast, done, high_read, length, low_read, low_written, made, read, tested,
@@ -82,6 +82,7 @@ pub fn answer<P: JavaProgram>(here: &Here<'_, P>, then: Then, reply: Reply) -> R
         Then::Waited { site, object } => waited(here, site, object, reply),
         Then::Notified(site) => notified(here, site, reply),
         Then::NotifiedAll(caller) => notified_all(here, caller, reply),
+        Then::PrintsWord { site, string } => prints_word(here, site, string, reply),
         Then::PrintsText(site) => prints_text(here, site, reply),
         Then::Inherits {
             site,

@@ -16,7 +16,27 @@ use interp_plans::{Here, JavaProgram, Reached};
 use link_types::MethodId;
 use op_core::{Line, Op, Reply};
 
-/// The number of a string's text is known.
+/// The word of a string was read, which is printed.
+pub fn prints_word<P: JavaProgram>(
+    here: &Here<'_, P>,
+    site: CallSite,
+    string: u32,
+    reply: Reply,
+) -> Reached
+    ensures { then_of (P.units here.now.program.now) here.now.thread (frame_of here.now.frames.now.here) (Then.PrintsWord site string) reply
+        ≡ plan_reached (P.units here.now.program.now) here.now.thread (frame_of here.now.frames.now.here) result }
+{
+    match reply {
+        Reply::Value(0) => Reached::Goes(Todo::Wants(Op::ClassOf(string), Then::PrintsText(site))),
+        Reply::Value(array) => {
+            let print = Op::Print(Line::Made(array));
+            Reached::Goes(Todo::Wants(print, Then::Done(site)))
+        }
+        _ => STUCK,
+    }
+}
+
+/// The number of a literal's text is known.
 pub fn prints_text<P: JavaProgram>(here: &Here<'_, P>, site: CallSite, reply: Reply) -> Reached
     ensures { then_of (P.units here.now.program.now) here.now.thread (frame_of here.now.frames.now.here) (Then.PrintsText site) reply
         ≡ plan_reached (P.units here.now.program.now) here.now.thread (frame_of here.now.frames.now.here) result }

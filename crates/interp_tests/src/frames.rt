@@ -1,7 +1,7 @@
 //! Tests of a thread's frames: calls, returns, saves and copies.
 
 use crate::setting::{METHOD, frames_with, push, stack_is};
-use frame_snapshot::{Caller, Frames, NewFrame, PushRefusal, Stage};
+use frame_snapshot::{Caller, FrameStage, Frames, NewFrame, PushRefusal};
 use std::test::Fail;
 
 /// Calls a method of three locals, or says why not.
@@ -15,7 +15,7 @@ fn enter(frames: &mut Frames, arguments: usize) -> Option<PushRefusal> {
         arguments,
         max_locals: 3,
         max_stack: 2,
-        caller: Stage::Calls(Caller::Instruction),
+        caller: FrameStage::Calls(Caller::Instruction),
     };
     frames.push(call).err()
 }

@@ -1,12 +1,12 @@
 //! What the tests of frames and instructions begin with.
 
-use frame_snapshot::{Frames, Stage};
+use frame_snapshot::{FrameStage, Frames};
 use interp_local::{Constant, Constants};
 use link_types::MethodId;
 use std::alloc::{AllocError, Global};
 
 pub const METHOD: MethodId = MethodId {
-    class: 28,
+    class: 29,
     method: 0,
 };
 
@@ -25,7 +25,7 @@ impl Constants for NoConstants {
 
 /// Frames whose top one has these words on its stack, the last on top, and room for eight.
 pub fn frames_with(alloc: Global, words: &[u32]) -> Result<Frames, AllocError> {
-    let mut frames = Frames::launch(alloc, METHOD, Stage::Begun, 8)?;
+    let mut frames = Frames::launch(alloc, METHOD, FrameStage::Begun, 8)?;
     for word in words {
         push(&mut frames, *word);
     }

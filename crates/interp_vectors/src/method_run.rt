@@ -4,7 +4,7 @@ ghost use Rattle.std.specs.Prelude.{◌≡◌};
 ghost use Rattle.interp_local.specs.Quick.{quicks_of};
 
 use code_decode::{Code, Instr, Plain, Target, ValueKind, What};
-use frame_snapshot::{Caller, Frames, NewFrame, PushRefusal, Stage};
+use frame_snapshot::{Caller, FrameStage, Frames, NewFrame, PushRefusal};
 use interp_local::{Constant, Constants, LocalStep, Quick, make_quicks, run_local};
 use link_types::MethodId;
 use std::alloc::{AllocError, Global};
@@ -16,7 +16,7 @@ const MOST_AT_ONCE: u64 = 5;
 const MOST_CALLS: usize = 200_000;
 
 const METHOD: MethodId = MethodId {
-    class: 28,
+    class: 29,
     method: 0,
 };
 
@@ -90,14 +90,14 @@ fn run_steps(steps: &[Instr<Target>], quicks: &[Quick], frames: &mut Frames) -> 
 
 /// Runs a method up to its return.
 pub fn run_method(alloc: Global, code: &Code) -> Result<Answer, AllocError> {
-    let mut frames = Frames::launch(alloc, METHOD, Stage::Begun, 2)?;
+    let mut frames = Frames::launch(alloc, METHOD, FrameStage::Begun, 2)?;
     let call = NewFrame {
         method: METHOD,
         monitor: 0,
         arguments: 0,
         max_locals: code.max_locals,
         max_stack: code.max_stack,
-        caller: Stage::Calls(Caller::Launch),
+        caller: FrameStage::Calls(Caller::Launch),
     };
     let steps = code.steps.as_slice();
     let quicks = make_quicks(alloc, steps)?;

@@ -73,7 +73,7 @@ abbrev pub one : ℕ → Code → List ClassUnit
 one flags code = record { file = one_file flags; codes = Some code ∷ [] } ∷ []
 
 abbrev pub main_method : MethodId
-main_method = record { class = 28; method = 0 }
+main_method = record { class = 29; method = 0 }
 
 -- ---- how thread 1 goes on
 

@@ -22,8 +22,8 @@ pub fn threads_begin_at_run()
 /// is a NoClassDefFoundError, of which the thread dies.
 #[tactic(auto, unfolding(builtin_world::specs::Library::library))]
 pub fn the_class_is_initialized_first()
-    ensures asks { wanted plain prints_sum [] ≡ Some (Want (Init 28)) }
-    ensures ends { wanted plain prints_sum (told Claimed ∷ []) ≡ Some (Want (InitDone 28 true)) }
+    ensures asks { wanted plain prints_sum [] ≡ Some (Want (Init 29)) }
+    ensures ends { wanted plain prints_sum (told Claimed ∷ []) ≡ Some (Want (InitDone 29 true)) }
     ensures bad { wanted plain prints_sum (told Bad ∷ []) ≡ Some (Want (New 25 0)) }
     ensures dies { wanted plain prints_sum (told Bad ∷ told (Made 99) ∷ []) ≡ Some (Want (End (Some 25))) }
 {}
@@ -49,8 +49,8 @@ pub fn a_zero_divisor_is_an_exception()
 /// step that ends its frame. Where it isn't owned then, the caller makes an IllegalMonitorStateException.
 #[tactic(auto, unfolding(builtin_world::specs::Library::library))]
 pub fn a_synchronized_main_enters_its_class()
-    ensures entered { wanted synchronized (code_of division []) initialized ≡ Some (Want (Enter 55)) }
-    ensures exited { wanted synchronized (code_of division (takes_all ∷ [])) (initialized ++ told Done ∷ silent 3 ∷ told (Made 99) ∷ silent 1 ∷ []) ≡ Some (Want (Exit 55)) }
+    ensures entered { wanted synchronized (code_of division []) initialized ≡ Some (Want (Enter 57)) }
+    ensures exited { wanted synchronized (code_of division (takes_all ∷ [])) (initialized ++ told Done ∷ silent 3 ∷ told (Made 99) ∷ silent 1 ∷ []) ≡ Some (Want (Exit 57)) }
     ensures ended { wanted synchronized (code_of division (takes_all ∷ [])) (initialized ++ told Done ∷ silent 3 ∷ told (Made 99) ∷ silent 1 ∷ told Done ∷ silent 1 ∷ []) ≡ Some (Want (End None)) }
     ensures broken { wanted synchronized (code_of division (takes_all ∷ [])) (initialized ++ told Done ∷ silent 3 ∷ told (Made 99) ∷ silent 1 ∷ told NotOwner ∷ silent 1 ∷ []) ≡ Some (Want (New 20 0)) }
 {}

@@ -27,14 +27,14 @@ pub fn run_finds_its_target()
     ensures none { child_wants notifier 99 (Class THREAD 0 ∷ Value 0 ∷ []) ≡ Some (Want (End None)) }
     ensures asks { child_wants notifier 99 (Class THREAD 0 ∷ Value 77 ∷ []) ≡ Some (Want (ClassOf 77)) }
     ensures thread { child_wants notifier 99 (Class THREAD 0 ∷ Value 77 ∷ Class THREAD 0 ∷ []) ≡ Some (Want (Read 77 THREAD_TARGET)) }
-    ensures other { child_wants notifier 99 (Class THREAD 0 ∷ Value 77 ∷ Class 28 0 ∷ []) ≡ Some (Want (New INCOMPATIBLE_CLASS_CHANGE_ERROR 0)) }
+    ensures other { child_wants notifier 99 (Class THREAD 0 ∷ Value 77 ∷ Class 29 0 ∷ []) ≡ Some (Want (New INCOMPATIBLE_CLASS_CHANGE_ERROR 0)) }
 {}
 
 /// The superclass is initialized first, by its initializer (JLS 12.4.2, steps 7 and 9).
 #[tactic(auto, unfolding(builtin_world::specs::Library::library))]
 pub fn the_superclass_is_initialized_first()
-    ensures above { main_wants below_two (told Claimed ∷ []) ≡ Some (Want (Init 29)) }
-    ensures ready { main_wants below_two (told Claimed ∷ told Ready ∷ []) ≡ Some (Want (InitDone 28 true)) }
+    ensures above { main_wants below_two (told Claimed ∷ []) ≡ Some (Want (Init 30)) }
+    ensures ready { main_wants below_two (told Claimed ∷ told Ready ∷ []) ≡ Some (Want (InitDone 29 true)) }
     ensures division { main_wants below_two (told Claimed ∷ told Claimed ∷ silent 3 ∷ []) ≡ Some (Want (New ARITHMETIC_EXCEPTION 0)) }
 {}
 
@@ -42,9 +42,9 @@ pub fn the_superclass_is_initialized_first()
 /// the exception; it fails the class below as it is, and the thread dies of it (JLS 12.4.2, steps 7, 10 and 11).
 #[tactic(auto, unfolding(builtin_world::specs::Library::library))]
 pub fn a_failed_initializer_is_one_error()
-    ensures failed { main_wants below_two initializer_throws ≡ Some (Want (InitDone 29 false)) }
+    ensures failed { main_wants below_two initializer_throws ≡ Some (Want (InitDone 30 false)) }
     ensures made { main_wants below_two (initializer_throws ++ told Done ∷ []) ≡ Some (Want (New EXCEPTION_IN_INITIALIZER_ERROR 0)) }
-    ensures below { main_wants below_two (initializer_throws ++ told Done ∷ told (Made 101) ∷ []) ≡ Some (Want (InitDone 28 false)) }
+    ensures below { main_wants below_two (initializer_throws ++ told Done ∷ told (Made 101) ∷ []) ≡ Some (Want (InitDone 29 false)) }
     ensures dies { main_wants below_two (initializer_throws ++ told Done ∷ told (Made 101) ∷ told Done ∷ []) ≡ Some (Want (End (Some EXCEPTION_IN_INITIALIZER_ERROR))) }
 {}
 
@@ -52,6 +52,6 @@ pub fn a_failed_initializer_is_one_error()
 /// them (JVMS 2.6.1, 6.5 invokestatic).
 #[tactic(auto, unfolding(builtin_world::specs::Library::library, class_names::specs::Reading::kind_at, class_names::specs::Reading::base_at, class_names::specs::Reading::split_at_semicolon, class_names::specs::Reading::spells_class_name, class_names::specs::Kinds::kinds_within))]
 pub fn a_long_argument_is_two_locals()
-    ensures asks { main_wants adds_to_long (initialized ++ silent 4 ∷ []) ≡ Some (Want (Init 28)) }
+    ensures asks { main_wants adds_to_long (initialized ++ silent 4 ∷ []) ≡ Some (Want (Init 29)) }
     ensures line { main_wants adds_to_long (initialized ++ silent 4 ∷ told Ready ∷ silent 6 ∷ []) ≡ Some (Want (Print (lines.Int (pos 12)))) }
 {}

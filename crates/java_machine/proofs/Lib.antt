@@ -1,3 +1,4 @@
+pub mod MadeLaws
 pub mod ObjectLaws
 pub mod ArgumentLaws
 pub mod NameLaws

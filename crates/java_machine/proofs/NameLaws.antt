@@ -46,7 +46,7 @@ abbrev has_units : Option (List ℕ) → Bool
 has_units (Some units) = true
 has_units None = false
 
-library_formed : (us : List ClassUnit) → map (λ c. has_units (units_of (class_name us c))) (range_with_len 1 27) ≡ map (λ _. true) (range_with_len 1 27)
+library_formed : (us : List ClassUnit) → map (λ c. has_units (units_of (class_name us c))) (range_with_len 1 28) ≡ map (λ _. true) (range_with_len 1 28)
 unfolding library units_within
 library_formed us = refl
 
@@ -59,8 +59,8 @@ with_units bytes is = of (units_of bytes) refl is
 
 pub names_formed : (us : List ClassUnit) → AreUnits us → (c : ℕ) → IsModifiedUtf8 (class_name us c)
 names_formed us decoded zero = no_bytes
-names_formed us decoded (suc i) = elim (cases_lt 27 (suc i)) [
-  | inr low ↦ with_units (class_name us (suc i)) (in_library 1 27 (λ c. has_units (units_of (class_name us c))) (λ _. true) (library_formed us) (suc i) (omega arith) (omega arith))
+names_formed us decoded (suc i) = elim (cases_lt 28 (suc i)) [
+  | inr low ↦ with_units (class_name us (suc i)) (in_library 1 28 (λ c. has_units (units_of (class_name us c))) (λ _. true) (library_formed us) (suc i) (omega arith) (omega arith))
   | inl read ↦ elim (cases_lt (length (classes_of us)) (suc i)) [
     | inl past ↦
         let none : slice_get (classes_of us) i ≡ None = slice_get_past (classes_of us) i (omega arith) in

@@ -1,3 +1,4 @@
+pub mod Made
 pub mod Lines
 pub mod Ends
 pub mod Arguments

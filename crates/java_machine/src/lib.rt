@@ -4,10 +4,12 @@
 
 mod ends;
 mod lines;
+mod made;
 mod objects;
 mod start;
 
 pub use ends::{died_line, limit_line, limit_word};
 pub use lines::line_bytes;
 pub use linker::World;
+pub use made::MadeLines;
 pub use start::opening;

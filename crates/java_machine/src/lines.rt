@@ -1,10 +1,13 @@
 //! Printed lines as bytes (java.io.PrintStream.println, String.valueOf).
 
-ghost use Rattle.std.specs.Prelude.{◌≡◌, [], ◌∷◌, IfOk, encode_utf8_all, slice_get, string_bytes, unwrap_or};
+ghost use Rattle.std.specs.Prelude.{◌≡◌, List, [], ◌∷◌, IfOk, encode_utf8_all, slice_get, string_bytes, unwrap_or};
 ghost use Rattle.class_names.specs.ModifiedUtf8.{alone};
 ghost use Rattle.link_rules.specs.Strings.{string_texts};
+ghost use Rattle.op_core.specs.declared.MadeText.{MadeText};
+ghost use Rattle.java_machine.specs.Made.{AreKept};
 ghost use Rattle.java_machine.specs.Lines.{line_of, line_text, line_bytes};
 
+use crate::MadeLines;
 use linker::World;
 use op_core::{Bytes, Line, NoMemory};
 use std::alloc::{AllocError, Global};
@@ -36,8 +39,13 @@ fn literal_text(world: &World, string: u32) -> &[u8]
     }
 }
 
-fn line_text(alloc: Global, world: &World, line: Line) -> Result<Vec<u8>, AllocError>
-    ensures { IfOk result (λ text. text.items ≡ line_text world.now line) }
+fn line_text(
+    alloc: Global,
+    world: &World,
+    made: &MadeLines,
+    line: Line,
+) -> Result<Vec<u8>, AllocError>
+    ensures { (texts : List MadeText) → AreKept texts made.now → IfOk result (λ text. text.items ≡ line_text world.now texts line) }
 {
     match line {
         Line::Empty => Ok(Vec::new(alloc)),
@@ -47,16 +55,21 @@ fn line_text(alloc: Global, world: &World, line: Line) -> Result<Vec<u8>, AllocE
         Line::Bool(true) => Vec::from_slice(alloc, b"true"),
         Line::Bool(false) => Vec::from_slice(alloc, b"false"),
         Line::Text(string) => Vec::from_slice(alloc, literal_text(world, string)),
+        Line::Made(array) => Vec::from_slice(alloc, made.text(array)),
         Line::Null => Vec::from_slice(alloc, b"null"),
     }
 }
 
-/// The bytes of a printed line with byte 10 at the end: numbers in decimal, a char and a string literal in UTF-8, a char
-/// that is a surrogate as `?`. The text of a literal that the program doesn't have is empty. It fails for want of memory
-/// alone.
-pub fn line_bytes(alloc: Global, world: &World, line: Line) -> Result<Bytes, NoMemory>
-    ensures { IfOk result (λ bytes. bytes ≡ line_bytes world.now line) }
+/// The bytes of a printed line with byte 10 at the end: numbers in decimal, a char and a text in UTF-8, a surrogate that is
+/// in no pair as `?`. A text that neither the program nor `made` has is empty. It fails where memory runs out alone.
+pub fn line_bytes(
+    alloc: Global,
+    world: &World,
+    made: &MadeLines,
+    line: Line,
+) -> Result<Bytes, NoMemory>
+    ensures { (texts : List MadeText) → AreKept texts made.now → IfOk result (λ bytes. bytes ≡ line_bytes world.now texts line) }
 {
-    let text = line_text(alloc, world, line)?;
+    let text = line_text(alloc, world, made, line)?;
     Ok(line_of(text)?)
 }

@@ -1,9 +1,9 @@
 //! The objects that are there as a program begins (JVMS 5.1, 5.5).
 
-ghost use Rattle.std.specs.Prelude.{◌≡◌, ◌≤◌, ◌++◌, [], false, IfOk, OnOk, length, map};
+ghost use Rattle.std.specs.Prelude.{◌≡◌, ◌≤◌, ◌++◌, [], ◌∷◌, false, IfOk, OnOk, length, map};
 ghost use Rattle.std.specs.List.{range_with_len};
 ghost use Rattle.std.specs.Option.{option_map_or};
-ghost use Rattle.builtin_world.specs.declared.number.TheConstants.{PRINT_STREAM as print_stream};
+ghost use Rattle.builtin_world.specs.declared.number.TheConstants.{PRINT_STREAM as print_stream, STRING as string_class};
 ghost use Rattle.link_rules.specs.FixedObjects.{object_at_start, class_object_at_start, main_thread_at_start, string_at_start, objects_at_start, system_out_object, arguments_object, arguments_class};
 ghost use Rattle.link_rules.specs.Names.{program_names, class_count};
 ghost use Rattle.link_rules.specs.Readers.{array_type};
@@ -128,6 +128,21 @@ fn arguments(alloc: Global, world: &World) -> FixedObject
     plain_object(alloc, world.arguments(), arguments_class(world), 0)
 }
 
+/// The String of a literal: its one word is null.
+fn literal_object(alloc: Global, reference: u32, string: u32) -> Result<FixedObject, AllocError>
+    ensures { IfOk result (λ object. object ≡ fixed_object (object_at_start reference string_class string (0 ∷ []))) }
+{
+    let mut words = Rows::new(alloc);
+    words.push(0)?;
+    Ok(FixedObject {
+        reference,
+        class: STRING,
+        length: string,
+        words,
+        started: 0,
+    })
+}
+
 /// Puts the Strings of the literals behind other objects. The length of each is the number of its text.
 fn push_strings(
     alloc: Global,
@@ -140,7 +155,7 @@ fn push_strings(
     // No literal has a number of 2^30 or more, since their places are less.
     let _first = world.first_free();
     for string in 0..world.strings() {
-        objects.push(plain_object(alloc, world.string_reference(string), STRING, string))?;
+        objects.push(literal_object(alloc, world.string_reference(string), string)?)?;
     }
     Ok(())
 }

@@ -45,7 +45,7 @@ calls_method us id args u =
     enters_for (monitor_for us id args) (calls id args (monitor_for us id args) (after_call u))
 
 abbrev pub invokes_body : List ClassUnit → ℕ → MethodId → List ℕ → Use → Option MethodBody → Plan
-invokes_body us me id args u (Some (bodies.Native n)) = native me n args u
+invokes_body us me id args u (Some (bodies.Native n)) = native us me n args u
 invokes_body us me id args u (Some bodies.Code) = option_map_or (λ _. calls_method us id args u) (method_code us id) stuck
 invokes_body us me id args u _ = stuck
 

@@ -4,6 +4,8 @@ pub mod Plan
 pub mod LocalRows
 pub mod Objects
 pub mod Throws
+pub mod Units
+pub mod Texts
 pub mod Natives
 pub mod Calls
 pub mod Initialization

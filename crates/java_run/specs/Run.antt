@@ -39,7 +39,7 @@ how_lines _ = []
 abbrev pub answer_of : List ClassUnit → Outcome → Answer
 answer_of us outcome = record {
   status = status_of outcome.how;
-  out = map (line_bytes us) outcome.lines;
+  out = map (line_bytes us outcome.made) outcome.lines;
   err = filter_map (died_line us) outcome.ends ++ how_lines outcome.how;
 }
 

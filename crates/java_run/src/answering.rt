@@ -5,8 +5,8 @@ ghost use Rattle.java_machine.specs.Ends as ends;
 ghost use Rattle.java_machine.specs.Lines as lines;
 ghost use Rattle.java_run.specs.Run as spec;
 
-use java_machine::{World, died_line, limit_line, line_bytes};
-use op_core::{How, Line, NoMemory, Outcome, ThreadEnd};
+use java_machine::{MadeLines, World, died_line, limit_line, line_bytes};
+use op_core::{How, Line, MadeText, NoMemory, Outcome, ThreadEnd};
 use program_answers::{Answer, Status};
 use rows::{Bytes, Rows};
 use std::alloc::Global;
@@ -22,13 +22,19 @@ fn status_of(how: How) -> Status
     }
 }
 
-// The bytes of the printed lines.
-fn printed(alloc: Global, world: &World, printed: &[Line]) -> Result<Rows<Bytes>, NoMemory>
-    ensures { IfOk result (λ out. out ≡ map (lines.line_bytes world.now) printed.now) }
+// The bytes of the printed lines, of which the program made these texts.
+fn printed(
+    alloc: Global,
+    world: &World,
+    made: &[MadeText],
+    printed: &[Line],
+) -> Result<Rows<Bytes>, NoMemory>
+    ensures { IfOk result (λ out. out ≡ map (lines.line_bytes world.now made.now) printed.now) }
 {
+    let texts = MadeLines::new(alloc, made)?;
     let mut out = Rows::new(alloc);
     for line in printed {
-        out.push(line_bytes(alloc, world, *line)?)?;
+        out.push(line_bytes(alloc, world, &texts, *line)?)?;
     }
     Ok(out)
 }
@@ -79,7 +85,12 @@ fn push_how(alloc: Global, err: &mut Rows<Bytes>, how: How) -> Result<(), NoMemo
 pub fn answer_of(alloc: Global, world: &World, outcome: &Outcome) -> Result<Answer, NoMemory>
     ensures { IfOk result (λ answer. answer ≡ spec.answer_of world.now outcome.now) }
 {
-    let out = printed(alloc, world, outcome.lines.as_slice())?;
+    let out = printed(
+        alloc,
+        world,
+        outcome.made.as_slice(),
+        outcome.lines.as_slice(),
+    )?;
     let mut err = died(alloc, world, outcome.ends.as_slice())?;
     push_how(alloc, &mut err, outcome.how)?;
     Ok(Answer {

@@ -2,4 +2,8 @@
 #![tactic(auto)]
 
 #[cfg(test)]
+mod setting;
+#[cfg(test)]
+mod texts;
+#[cfg(test)]
 mod threads;

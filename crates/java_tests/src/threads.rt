@@ -1,57 +1,83 @@
 //! What a thread wants, saves and goes back to.
 
-use class_make::assemble;
+use crate::setting::program_of;
 use interp_calls::JavaCode;
-use java_program::JavaWorld;
+use java_world::JavaWorld;
 use op_core::{Next, NoMemory, Op, Reply, ThreadCode};
-use program_accept::{Program, accept};
-use std::alloc::Global;
 use std::test::Fail;
 
-/// A class whose main method makes three silent steps and returns.
+/// A class whose main method makes four silent steps between the entry of a monitor and its exit, and then returns.
 const COUNTS: &str = "class Counts
 method 9 main ([Ljava/lang/String;)V stack 1 locals 2
+aload_0
+monitorenter
 iconst_2
 istore_1
 iinc 1 3
+aload_0
+monitorexit
 return
 end
 ";
 
-fn program_of(alloc: Global, text: &str) -> Option<Program> {
-    let bytes = assemble(alloc, text.as_bytes()).ok()?;
-    let mut files = Vec::new(alloc);
-    files.push(bytes).ok()?;
-    accept(alloc, files, b"Counts").ok()
-}
-
-// The class is ready, and `main` is called.
+// The class is ready, and `main` is called and comes to its monitor.
 fn begins<C: ThreadCode>(code: &mut C) -> bool {
     let Next::Want(Op::Init(_)) = code.next() else {
         return false;
     };
     code.reply(Reply::Ready);
     match code.next() {
-        Next::Silent if !code.leaves() => code.silent().is_ok(),
+        Next::Silent if !code.leaves() => code.silent().is_ok() && code.run_silent(10) == 1,
         _ => false,
     }
 }
 
-// What was done since the save is done again behind it; the return ends the frame that was on top.
+// Saves at the entry of a monitor, if the thread is there.
+fn save<C: ThreadCode>(code: &mut C) -> Result<bool, NoMemory> {
+    match code.next() {
+        Next::Want(Op::Enter(_)) => {
+            code.save()?;
+            Ok(true)
+        }
+        _ => Ok(false),
+    }
+}
+
+// The monitor is entered and exited, with this many silent steps in between.
+fn goes_on<C: ThreadCode>(code: &mut C) -> Option<u64> {
+    let Next::Want(Op::Enter(_)) = code.next() else {
+        return None;
+    };
+    code.reply(Reply::Done);
+    let made = code.run_silent(10);
+    let Next::Want(Op::Exit(_)) = code.next() else {
+        return None;
+    };
+    code.reply(Reply::Done);
+    Some(made)
+}
+
+// What was done since the save is done again after it; the return ends the frame that was on top.
 fn goes_back<C: ThreadCode>(code: &mut C) -> Result<bool, NoMemory> {
-    code.save()?;
-    let first = code.run_silent(10);
+    let saved = save(code)?;
+    let first = goes_on(code);
     let left = code.leaves();
+    if !saved {
+        return Ok(false);
+    }
     code.restore();
     let stays = !code.leaves();
-    let again = code.run_silent(10);
-    Ok(first == 3 && left && stays && again == 3)
+    Ok(first == Some(4) && left && stays)
 }
 
 // A save that is dropped holds nothing back: the frame ends, and then the thread.
 fn ends<C: ThreadCode>(code: &mut C) -> Result<bool, NoMemory> {
-    code.save()?;
-    let left = code.leaves();
+    let saved = save(code)?;
+    let made = goes_on(code);
+    let left = made == Some(4) && code.leaves();
+    if !saved {
+        return Ok(false);
+    }
     code.drop_save();
     match code.next() {
         Next::Silent if !code.leaves() => {}
@@ -65,7 +91,7 @@ fn ends<C: ThreadCode>(code: &mut C) -> Result<bool, NoMemory> {
 fn branches<C: ThreadCode + Drop>(code: &C) -> Result<bool, NoMemory> {
     let copy = code.copy()?;
     let child = code.child(7)?;
-    let same = matches!(copy.next(), Next::Silent);
+    let same = matches!(copy.next(), Next::Want(Op::Enter(_)));
     Ok(same && matches!(child.next(), Next::Want(Op::ClassOf(7))))
 }
 
@@ -76,7 +102,7 @@ fn goes_through<C: ThreadCode + Drop>(code: &mut C) -> Result<bool, NoMemory> {
 #[test]
 fn a_thread_goes_back_to_what_it_saved(rt: HostRuntime) -> Result<(), Fail> {
     let alloc = rt.alloc();
-    let Some(program) = program_of(alloc, COUNTS) else {
+    let Some(program) = program_of(alloc, b"Counts", COUNTS) else {
         return Err(Fail::from("the program is not accepted"));
     };
     let world = JavaWorld::new(alloc, &program)?;

@@ -32,7 +32,7 @@ fn is_executed<R: Abort + Threads + Sync>(
 }
 
 /// Programs of one thread.
-const ALONE: [Execution; 10] = [
+const ALONE: [Execution; 12] = [
     // It takes ten turns, the last of which ends the thread, and makes no object.
     Execution {
         words: &[
@@ -125,6 +125,21 @@ const ALONE: [Execution; 10] = [
         out: "1\n",
         err: "died: thread 1 java/lang/IllegalThreadStateException\n",
     },
+    Execution {
+        words: &["pick", "D", "Main"],
+        files: &[File::Made(Class::Joins)],
+        status: 0,
+        out: "a7btruenull-5\n",
+        err: "",
+    },
+    // An argument without units gives the receiver itself.
+    Execution {
+        words: &["pick", "D", "Main"],
+        files: &[File::Made(Class::Compares)],
+        status: 1,
+        out: "true\ntrue\n",
+        err: "died: thread 1 java/lang/IndexOutOfBoundsException\n",
+    },
 ];
 
 #[test]
@@ -136,7 +151,30 @@ fn a_thread_alone_is_executed(rt: HostRuntime) -> Result<(), Fail> {
 }
 
 /// Programs of several threads.
-const TOGETHER: [Execution; 16] = [
+const TOGETHER: [Execution; 18] = [
+    // A text is made of what the thread finds under the monitor.
+    Execution {
+        words: &["pick", "D", "Main", "--order=1*400,2*400,3*400"],
+        files: &[
+            File::Made(Class::Pair),
+            File::Made(Class::Low),
+            File::Made(Class::High),
+        ],
+        status: 0,
+        out: "x=11\n12\n",
+        err: "",
+    },
+    Execution {
+        words: &["pick", "D", "Main", "--order=1*400,3*400,2*400"],
+        files: &[
+            File::Made(Class::Pair),
+            File::Made(Class::Low),
+            File::Made(Class::High),
+        ],
+        status: 0,
+        out: "x=1\n2\n",
+        err: "",
+    },
     // Seven turns bring a thread into its first monitor; then each wants the other's.
     Execution {
         words: &["pick", "D", "Main", "--order=1*400,2*7,3*7"],

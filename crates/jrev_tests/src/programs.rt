@@ -31,6 +31,16 @@ pub enum Class {
     Holds,
     /// Two threads die, the one of a null, the other of a wait without the monitor; main prints 1.
     Dies,
+    /// A builder gets a text, an int, a char, a truth value, null and a long, and its text is printed.
+    Joins,
+    /// Texts that are joined are compared, and a character is asked for that isn't there.
+    Compares,
+    /// Starts Low and High, which enter one monitor.
+    Pair,
+    /// Sets x and y to 11 and 12.
+    Low,
+    /// Prints x in a text, and y.
+    High,
     /// A synchronized main joins a thread that never began, notifies its class, and starts the thread that it is.
     StartsAgain,
 }
@@ -452,6 +462,135 @@ return
 end
 ";
 
+const JOINS: &str = "class Main
+method 9 main ([Ljava/lang/String;)V stack 4 locals 1
+getstatic java/lang/System out Ljava/io/PrintStream;
+new java/lang/StringBuilder
+dup
+invokespecial java/lang/StringBuilder <init> ()V
+ldc str \"a\"
+invokevirtual java/lang/StringBuilder append (Ljava/lang/String;)Ljava/lang/StringBuilder;
+bipush 7
+invokevirtual java/lang/StringBuilder append (I)Ljava/lang/StringBuilder;
+bipush 98
+invokevirtual java/lang/StringBuilder append (C)Ljava/lang/StringBuilder;
+iconst_1
+invokevirtual java/lang/StringBuilder append (Z)Ljava/lang/StringBuilder;
+aconst_null
+invokevirtual java/lang/StringBuilder append (Ljava/lang/String;)Ljava/lang/StringBuilder;
+ldc2_w -5
+invokevirtual java/lang/StringBuilder append (J)Ljava/lang/StringBuilder;
+invokevirtual java/lang/StringBuilder toString ()Ljava/lang/String;
+invokevirtual java/io/PrintStream println (Ljava/lang/String;)V
+return
+end
+";
+
+const COMPARES: &str = "class Main
+method 9 main ([Ljava/lang/String;)V stack 4 locals 1
+getstatic java/lang/System out Ljava/io/PrintStream;
+ldc str \"ab\"
+ldc str \"\"
+invokevirtual java/lang/String concat (Ljava/lang/String;)Ljava/lang/String;
+ldc str \"ab\"
+if_acmpne other
+iconst_1
+goto tell
+other:
+frame [Ljava/lang/String; / java/io/PrintStream
+iconst_0
+tell:
+frame [Ljava/lang/String; / java/io/PrintStream int
+invokevirtual java/io/PrintStream println (Z)V
+getstatic java/lang/System out Ljava/io/PrintStream;
+ldc str \"ab\"
+ldc str \"c\"
+invokevirtual java/lang/String concat (Ljava/lang/String;)Ljava/lang/String;
+ldc str \"abc\"
+invokevirtual java/lang/String equals (Ljava/lang/Object;)Z
+invokevirtual java/io/PrintStream println (Z)V
+ldc str \"ab\"
+iconst_2
+invokevirtual java/lang/String charAt (I)C
+pop
+return
+end
+";
+
+const PAIR: &str = "class Main
+field 8 lock Ljava/lang/Object;
+field 8 x I
+field 8 y I
+method 9 main ([Ljava/lang/String;)V stack 3 locals 1
+new java/lang/Object
+dup
+invokespecial java/lang/Object <init> ()V
+putstatic Main lock Ljava/lang/Object;
+iconst_1
+putstatic Main x I
+iconst_2
+putstatic Main y I
+new Low
+dup
+invokespecial Low <init> ()V
+invokevirtual Low start ()V
+new High
+dup
+invokespecial High <init> ()V
+invokevirtual High start ()V
+return
+end
+";
+
+const LOW: &str = "class Low
+super java/lang/Thread
+method 1 <init> ()V stack 1 locals 1
+aload_0
+invokespecial java/lang/Thread <init> ()V
+return
+end
+method 1 run ()V stack 1 locals 1
+getstatic Main lock Ljava/lang/Object;
+monitorenter
+bipush 11
+putstatic Main x I
+bipush 12
+putstatic Main y I
+getstatic Main lock Ljava/lang/Object;
+monitorexit
+return
+end
+";
+
+const HIGH: &str = "class High
+super java/lang/Thread
+method 1 <init> ()V stack 1 locals 1
+aload_0
+invokespecial java/lang/Thread <init> ()V
+return
+end
+method 1 run ()V stack 3 locals 1
+getstatic Main lock Ljava/lang/Object;
+monitorenter
+getstatic java/lang/System out Ljava/io/PrintStream;
+new java/lang/StringBuilder
+dup
+invokespecial java/lang/StringBuilder <init> ()V
+ldc str \"x=\"
+invokevirtual java/lang/StringBuilder append (Ljava/lang/String;)Ljava/lang/StringBuilder;
+getstatic Main x I
+invokevirtual java/lang/StringBuilder append (I)Ljava/lang/StringBuilder;
+invokevirtual java/lang/StringBuilder toString ()Ljava/lang/String;
+invokevirtual java/io/PrintStream println (Ljava/lang/String;)V
+getstatic java/lang/System out Ljava/io/PrintStream;
+getstatic Main y I
+invokevirtual java/io/PrintStream println (I)V
+getstatic Main lock Ljava/lang/Object;
+monitorexit
+return
+end
+";
+
 /// The name of its file, and its text.
 pub fn file_of(class: Class) -> (&'static str, &'static str) {
     match class {
@@ -470,5 +609,10 @@ pub fn file_of(class: Class) -> (&'static str, &'static str) {
         Class::Holds => ("Main.class", HOLDS),
         Class::Dies => ("Main.class", DIES),
         Class::StartsAgain => ("Main.class", STARTS_AGAIN),
+        Class::Joins => ("Main.class", JOINS),
+        Class::Compares => ("Main.class", COMPARES),
+        Class::Pair => ("Main.class", PAIR),
+        Class::Low => ("Low.class", LOW),
+        Class::High => ("High.class", HIGH),
     }
 }

@@ -1,11 +1,17 @@
 -- What a request touches outside, and how it may end.
-use Rattle.std.specs.Prelude.{ℕ, ◌+◌, ◌||◌, List, Bool, true, false, Option, None, Some}
+use Rattle.std.specs.Prelude.{ℕ, ◌+◌, ◌||◌, List, Bool, true, false, Option, None, Some, map, String, string_bytes}
 use Rattle.std.specs.Option.{option_and_then}
+use Rattle.std.specs.declared.alloc.Global.{Global}
 use Rattle.assembler_text.specs.TextLines.{most_bytes}
+use Rattle.command_words.specs.Built.{built_request}
 use Rattle.command_words.specs.declared.request.Request.{Request}
 use Rattle.command_words.specs.declared.request.Request.TheVariants.{Pick, Trace, Run, Check, Load, Make, Stress, Help, Version}
 use Rattle.program_answers.specs.declared.status.Status.{Status}
 use Rattle.program_answers.specs.declared.status.Status.TheVariants as statuses
+
+-- what the words ask for, among the commands that are built
+abbrev pub asked_by : List (String Global) → Option Request
+asked_by words = built_request (map string_bytes words)
 
 -- the folder that is asked, if one is
 abbrev pub folder_of : Request → Option (List ℕ)

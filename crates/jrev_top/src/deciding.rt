@@ -1,11 +1,10 @@
 //! What the program answers to its words, before a byte of it is written.
 
-ghost use Rattle.std.specs.Prelude.{◌≡◌, ◌<◌, IfOk, IfSome, None, map, string_bytes};
+ghost use Rattle.std.specs.Prelude.{◌≡◌, ◌<◌, IfOk, IfSome, None};
 ghost use Rattle.program_input.specs.Input.{TakesAtMost, TakesUpTo};
-ghost use Rattle.command_words.specs.Built.{built_request};
 ghost use Rattle.jrev_top.specs.Answers as answers;
 ghost use Rattle.jrev_top.specs.Folder.{ReadsInOrder};
-ghost use Rattle.jrev_top.specs.Touches.{files_wanted, folder_named, input_wanted};
+ghost use Rattle.jrev_top.specs.Touches.{asked_by, files_wanted, folder_named, input_wanted};
 ghost use Rattle.jrev_top.specs.Headline.{AsksOnly, FailsAsked, IsAnswer};
 
 use crate::answers::{given, usage};
@@ -41,7 +40,7 @@ pub(crate) fn decide<D: ClassDir, I: Source>(
     input: &mut I,
 ) -> Result<Answer, Failure>
     requires { D.asked classes.old ≡ None }
-    ensures answer { IfOk result (λ answer. IsAnswer (built_request (map string_bytes words.now))
+    ensures answer { IfOk result (λ answer. IsAnswer (asked_by words.now)
         (record {
           asked = D.asked classes.new;
           files = D.contents classes.old;
@@ -49,16 +48,16 @@ pub(crate) fn decide<D: ClassDir, I: Source>(
           before = D.read_names classes.old;
           after = D.read_names classes.new;
         }) answer) }
-    ensures cause { result ≡ Err Failure.Failed → FailsAsked (built_request (map string_bytes words.now))
+    ensures cause { result ≡ Err Failure.Failed → FailsAsked (asked_by words.now)
         (D.faults classes.old < D.faults classes.new) (I.faults input.old < I.faults input.new) }
-    ensures asked { AsksOnly (built_request (map string_bytes words.now)) (D.asked classes.new) }
-    ensures order { ReadsInOrder (files_wanted (built_request (map string_bytes words.now))) (D.asked classes.new)
+    ensures asked { AsksOnly (asked_by words.now) (D.asked classes.new) }
+    ensures order { ReadsInOrder (files_wanted (asked_by words.now)) (D.asked classes.new)
         (D.read_names classes.old) (D.read_names classes.new) }
-    ensures unasked { folder_named (built_request (map string_bytes words.now)) ≡ None → classes.new ≡ classes.old }
-    ensures unread { input_wanted (built_request (map string_bytes words.now)) ≡ None → input.new ≡ input.old }
-    ensures taken { IfSome (input_wanted (built_request (map string_bytes words.now)))
+    ensures unasked { folder_named (asked_by words.now) ≡ None → classes.new ≡ classes.old }
+    ensures unread { input_wanted (asked_by words.now) ≡ None → input.new ≡ input.old }
+    ensures taken { IfSome (input_wanted (asked_by words.now))
         (λ most. TakesAtMost most (I.left input.old) (I.left input.new)) }
-    ensures calls { IfSome (input_wanted (built_request (map string_bytes words.now)))
+    ensures calls { IfSome (input_wanted (asked_by words.now))
         (λ most. TakesUpTo most (I.taken input.old) (I.taken input.new)) }
 {
     match words_of(alloc, words) {

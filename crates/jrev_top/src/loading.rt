@@ -15,7 +15,7 @@ use program_input::{class_names, read_files};
 use std::alloc::Global;
 
 /// How many class files are read at most: one more than a program has, so that too many are seen.
-const MOST_FILES: usize = 1025;
+const MOST_READ: usize = 1025;
 
 // The answer to class files of these names.
 fn judge<V: Verdict>(
@@ -61,7 +61,7 @@ pub(crate) fn decide_program<D: ClassDir, V: Verdict>(
     ensures order { ReadsInOrder 1025 (D.asked classes.new) (D.read_names classes.old) (D.read_names classes.new) }
 {
     let mut names = class_names(alloc, classes, dir)?;
-    names.truncate(MOST_FILES);
+    names.truncate(MOST_READ);
     let files = read_files(alloc, classes, dir, names.as_slice())?;
     let answer = judge(alloc, names.as_slice(), files, main, verdict)?;
     Ok(answer)

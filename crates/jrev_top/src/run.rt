@@ -1,10 +1,9 @@
 //! The top call: everything between the words of the command line and the exit status.
 
-ghost use Rattle.std.specs.Prelude.{◌≡◌, ◌<◌, ◌⊎◌, IfSome, None, map, string_bytes};
+ghost use Rattle.std.specs.Prelude.{◌≡◌, ◌<◌, ◌⊎◌, IfSome, None};
 ghost use Rattle.program_input.specs.Input.{TakesAtMost, TakesUpTo};
-ghost use Rattle.command_words.specs.Built.{built_request};
 ghost use Rattle.jrev_top.specs.Folder.{ReadsInOrder};
-ghost use Rattle.jrev_top.specs.Touches.{files_wanted, folder_named, input_wanted};
+ghost use Rattle.jrev_top.specs.Touches.{asked_by, files_wanted, folder_named, input_wanted};
 ghost use Rattle.jrev_top.specs.Headline.{AsksOnly, FailsAsked, MayEnd, Reports};
 
 use crate::deciding::decide;
@@ -44,7 +43,7 @@ pub fn jrev<R: Threads + Sync, D: ClassDir, I: Source, O: Sink, E: Sink, G: Gate
     requires { D.asked classes.old ≡ None }
 
     // Which status comes, and what both streams were given.
-    ensures answer { Reports (built_request (map string_bytes words.now))
+    ensures answer { Reports (asked_by words.now)
         (record {
           asked = D.asked classes.new;
           files = D.contents classes.old;
@@ -52,7 +51,7 @@ pub fn jrev<R: Threads + Sync, D: ClassDir, I: Source, O: Sink, E: Sink, G: Gate
           before = D.read_names classes.old;
           after = D.read_names classes.new;
         })
-        (FailsAsked (built_request (map string_bytes words.now))
+        (FailsAsked (asked_by words.now)
         (D.faults classes.old < D.faults classes.new) (I.faults input.old < I.faults input.new))
         (record {
           out = record { before = O.given out.old; after = O.given out.new; failed = O.faults out.old < O.faults out.new };
@@ -62,23 +61,23 @@ pub fn jrev<R: Threads + Sync, D: ClassDir, I: Source, O: Sink, E: Sink, G: Gate
     // Where no count of faults rose, the status is one of the answer, or that of want of memory.
     ensures complete { (D.faults classes.old < D.faults classes.new → ⊥) → (I.faults input.old < I.faults input.new → ⊥)
         → (O.faults out.old < O.faults out.new → ⊥) → (E.faults err.old < E.faults err.new → ⊥)
-        → MayEnd (built_request (map string_bytes words.now)) result }
-    ensures read_fault { result ≡ Status.ReadFault → FailsAsked (built_request (map string_bytes words.now))
+        → MayEnd (asked_by words.now) result }
+    ensures read_fault { result ≡ Status.ReadFault → FailsAsked (asked_by words.now)
         (D.faults classes.old < D.faults classes.new) (I.faults input.old < I.faults input.new) }
     ensures write_fault { result ≡ Status.WriteFault
         → (O.faults out.old < O.faults out.new) ⊎ (E.faults err.old < E.faults err.new) }
 
     // The folder is asked for the one that is named, and the first of its class files are read, in order.
-    ensures asked { AsksOnly (built_request (map string_bytes words.now)) (D.asked classes.new) }
-    ensures unasked { folder_named (built_request (map string_bytes words.now)) ≡ None → classes.new ≡ classes.old }
-    ensures order { ReadsInOrder (files_wanted (built_request (map string_bytes words.now))) (D.asked classes.new)
+    ensures asked { AsksOnly (asked_by words.now) (D.asked classes.new) }
+    ensures unasked { folder_named (asked_by words.now) ≡ None → classes.new ≡ classes.old }
+    ensures order { ReadsInOrder (files_wanted (asked_by words.now)) (D.asked classes.new)
         (D.read_names classes.old) (D.read_names classes.new) }
 
     // No more is taken of the input than is wanted, and that in pieces, none of them behind the end.
-    ensures unread { input_wanted (built_request (map string_bytes words.now)) ≡ None → input.new ≡ input.old }
-    ensures taken { IfSome (input_wanted (built_request (map string_bytes words.now)))
+    ensures unread { input_wanted (asked_by words.now) ≡ None → input.new ≡ input.old }
+    ensures taken { IfSome (input_wanted (asked_by words.now))
         (λ most. TakesAtMost most (I.left input.old) (I.left input.new)) }
-    ensures calls { IfSome (input_wanted (built_request (map string_bytes words.now)))
+    ensures calls { IfSome (input_wanted (asked_by words.now))
         (λ most. TakesUpTo most (I.taken input.old) (I.taken input.new)) }
 {
     match decide(alloc, words, classes, input) {

@@ -4,8 +4,8 @@ ghost use Rattle.std.specs.Prelude.{◌≡◌, IfOk, Err};
 
 use crate::answers::accepted;
 use crate::failure::Failure;
-use java_program::JavaWorld;
 use java_run::execute;
+use java_world::JavaWorld;
 use op_core::{Limits, NoMemory};
 use program_accept::Program;
 use program_answers::Answer;
@@ -23,8 +23,8 @@ pub(crate) trait Verdict {
     ghost answers: { Self → ℕ → Accepted → Answer → Type 0 };
 
     /// The answer to a program of so many classes.
-    fn answer(&self, alloc: Global, count: usize, program: &Program) -> Result<Answer, Failure>
-        ensures answer { IfOk result (λ answer. answers self.now count program.now answer) }
+    fn answer(&self, alloc: Global, count: usize, accepted: &Program) -> Result<Answer, Failure>
+        ensures answer { IfOk result (λ answer. answers self.now count accepted.now answer) }
         ensures memory { result ≡ Err Failure.Failed → ⊥ };
 }
 
@@ -37,7 +37,7 @@ impl Verdict for Count {
 
     ghost answers = { λ _. Counts };
 
-    fn answer(&self, alloc: Global, count: usize, _program: &Program) -> Result<Answer, Failure> {
+    fn answer(&self, alloc: Global, count: usize, _accepted: &Program) -> Result<Answer, Failure> {
         Ok(accepted(alloc, count)?)
     }
 }
@@ -54,14 +54,13 @@ impl<'a> Verdict for Execution<'a> {
 
     ghost answers = { λ e. Runs e.schedule.now e.limits.now };
 
-    fn answer(&self, alloc: Global, _count: usize, program: &Program) -> Result<Answer, Failure> {
-        let world = JavaWorld::new(alloc, program)?;
-        let main = program.main();
+    fn answer(&self, alloc: Global, _count: usize, accepted: &Program) -> Result<Answer, Failure> {
+        let program = JavaWorld::new(alloc, accepted)?;
         match execute(
             alloc,
-            program.world(),
-            &world,
-            main,
+            accepted.world(),
+            &program,
+            accepted.main(),
             self.schedule,
             self.limits,
         ) {

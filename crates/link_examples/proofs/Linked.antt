@@ -42,11 +42,11 @@ one_super c s d super none h =
       | inr i ↦ absurd (let k : Contains [] d = subst (λ xs. Contains xs d) none i in let lt : k.0 < 0 = k.1 in omega arith)
     ]
 
-mixed_super : superclass_of (classes_of mixed) 28 ≡ 8
+mixed_super : superclass_of (classes_of mixed) 29 ≡ 8
 unfolding library
 mixed_super = refl
 
-mixed_interfaces : interfaces_of (classes_of mixed) 28 ≡ []
+mixed_interfaces : interfaces_of (classes_of mixed) 29 ≡ []
 unfolding library
 mixed_interfaces = refl
 
@@ -74,13 +74,13 @@ from_throwable : (way : List ℕ) (d : ℕ) → IsWayUp (classes_of mixed) 8 way
 from_throwable [] d h = one_super 8 1 d throwable_super throwable_interfaces h
 from_throwable (e ∷ way) d h = absurd (nothing_above_object way d (subst (λ x. IsWayUp (classes_of mixed) x way d) (one_super 8 1 e throwable_super throwable_interfaces h.0) h.1))
 
-no_cycle : ¬ IsAbove (classes_of mixed) 28 28
-no_cycle a = go a.0 28 refl a.1
+no_cycle : ¬ IsAbove (classes_of mixed) 29 29
+no_cycle a = go a.0 29 refl a.1
   where
-    go : (way : List ℕ) (d : ℕ) → d ≡ 28 → IsWayUp (classes_of mixed) 28 way d → ⊥
-    go [] d same h = (let other : d ≡ 8 = one_super 28 8 d mixed_super mixed_interfaces h in omega arith)
+    go : (way : List ℕ) (d : ℕ) → d ≡ 29 → IsWayUp (classes_of mixed) 29 way d → ⊥
+    go [] d same h = (let other : d ≡ 8 = one_super 29 8 d mixed_super mixed_interfaces h in omega arith)
     go (e ∷ way) d same h =
-        let next : IsWayUp (classes_of mixed) 8 way d = subst (λ x. IsWayUp (classes_of mixed) x way d) (one_super 28 8 e mixed_super mixed_interfaces h.0) h.1 in
+        let next : IsWayUp (classes_of mixed) 8 way d = subst (λ x. IsWayUp (classes_of mixed) x way d) (one_super 29 8 e mixed_super mixed_interfaces h.0) h.1 in
         let top : d ≡ 1 = from_throwable way d next in
         omega arith
 
@@ -118,14 +118,14 @@ members = (
   λ i x e. absurd (none-some x e),
 )
 
-nothing_abstract : (abstract_methods (classes_of mixed) 0 (method_order (classes_of mixed) 28) ≡ []) × (abstract_methods (classes_of mixed) 0 (flat_map (superinterfaces (classes_of mixed)) (superclasses (classes_of mixed) 28)) ≡ [])
+nothing_abstract : (abstract_methods (classes_of mixed) 0 (method_order (classes_of mixed) 29) ≡ []) × (abstract_methods (classes_of mixed) 0 (flat_map (superinterfaces (classes_of mixed)) (superclasses (classes_of mixed) 29)) ≡ [])
 unfolding library
 nothing_abstract = (refl, refl)
 
 implementations : (implementation_rules (classes_of mixed) 0 PUBLIC).Hold
 implementations = (
-  (λ e. All-same (IsImplemented (classes_of mixed) 0) (abstract_methods (classes_of mixed) 0 (method_order (classes_of mixed) 28)) [] nothing_abstract.0 (All-nil (IsImplemented (classes_of mixed) 0))),
-  All-same (IsPublicWhereImplemented (classes_of mixed) 0) (abstract_methods (classes_of mixed) 0 (flat_map (superinterfaces (classes_of mixed)) (superclasses (classes_of mixed) 28))) [] nothing_abstract.1 (All-nil (IsPublicWhereImplemented (classes_of mixed) 0)),
+  (λ e. All-same (IsImplemented (classes_of mixed) 0) (abstract_methods (classes_of mixed) 0 (method_order (classes_of mixed) 29)) [] nothing_abstract.0 (All-nil (IsImplemented (classes_of mixed) 0))),
+  All-same (IsPublicWhereImplemented (classes_of mixed) 0) (abstract_methods (classes_of mixed) 0 (flat_map (superinterfaces (classes_of mixed)) (superclasses (classes_of mixed) 29))) [] nothing_abstract.1 (All-nil (IsPublicWhereImplemented (classes_of mixed) 0)),
 )
 
 pub mixed_linked : (link_rules mixed).Hold
@@ -157,16 +157,16 @@ first_two zero u less e = subst (λ (x : ClassUnit). (twice_rules (classes_of (o
 first_two (suc zero) u less e = subst (λ (x : ClassUnit). (twice_rules (classes_of (orphan ∷ mixed_unit ∷ mixed_unit ∷ [])) 1 (class_of_unit x)).Hold) (same_Some mixed_unit u e) refl
 first_two (suc (suc i)) u less e = absurd (omega arith)
 
-third : class_number (take (27 + 2) (classes_of doubled)) (class_of_unit mixed_unit).name ≡ 29
+third : class_number (take (28 + 2) (classes_of doubled)) (class_of_unit mixed_unit).name ≡ 30
 unfolding library doubled
 third = refl
 
 pub twice_refused : (link_rules (orphan ∷ mixed_unit ∷ mixed_unit ∷ [])).Refuse (At Twice 2 0)
 unfolding doubled
-twice_refused = inr (omega arith, inl (2, mixed_unit, refl, first_two, (not_zero_29, refl)))
+twice_refused = inr (omega arith, inl (2, mixed_unit, refl, first_two, (not_zero_30, refl)))
   where
-    not_zero_29 : ¬ (class_number (take (27 + 2) (classes_of (orphan ∷ mixed_unit ∷ mixed_unit ∷ []))) (class_of_unit mixed_unit).name ≡ 0)
-    not_zero_29 = not_zero _ 28 third
+    not_zero_30 : ¬ (class_number (take (28 + 2) (classes_of (orphan ∷ mixed_unit ∷ mixed_unit ∷ []))) (class_of_unit mixed_unit).name ≡ 0)
+    not_zero_30 = not_zero _ 29 third
 
 two : List ClassUnit
 two = orphan ∷ mixed_unit ∷ []
@@ -177,7 +177,7 @@ named_once zero u e = subst (λ (x : ClassUnit). (twice_rules (classes_of (orpha
 named_once (suc zero) u e = subst (λ (x : ClassUnit). (twice_rules (classes_of (orphan ∷ mixed_unit ∷ [])) 1 (class_of_unit x)).Hold) (same_Some mixed_unit u e) refl
 named_once (suc (suc i)) u e = absurd (none-some u e)
 
-no_super : superclass_of (classes_of two) 28 ≡ 0
+no_super : superclass_of (classes_of two) 29 ≡ 0
 unfolding library two
 no_super = refl
 

@@ -83,7 +83,7 @@ mixed_unit = record { file = mixed_file; codes = [] }
 
 -- the place of a field of that class
 abbrev pub place_of_field : ℕ → ℕ
-place_of_field i = option_map_or (λ (f : NamedMember). field_place (classes_of mixed) 28 i f) (slice_get (fields_of (classes_of mixed) 28) i) 99
+place_of_field i = option_map_or (λ (f : NamedMember). field_place (classes_of mixed) 29 i f) (slice_get (fields_of (classes_of mixed) 29) i) 99
 
 -- the class of a member that was found, or 0
 abbrev pub class_of : Option Declared → ℕ

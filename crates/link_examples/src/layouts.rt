@@ -8,12 +8,12 @@ ghost use Rattle.link_rules.specs.Layout.{instance_words, static_words};
 ghost use Rattle.link_rules.specs.FixedObjects.{class_object, system_out_object, main_thread_object, arguments_object, first_free, class_words_of_unit};
 ghost use Rattle.link_examples.specs.Programs.{mixed, mixed_unit, place_of_field};
 
-/// The built-in classes have the numbers from 1 to 27, and the classes of the files those behind them.
+/// The built-in classes have the numbers from 1 to 28, and the classes of the files those after them.
 #[tactic(auto, unfolding(builtin_world::specs::Library::library))]
 pub fn numbers_begin_with_the_library()
     ensures object { class_number (classes_of mixed) (codes "java/lang/Object") ≡ 1 }
     ensures thread { class_number (classes_of mixed) (codes "java/lang/Thread") ≡ 7 }
-    ensures file { class_number (classes_of mixed) (codes "Mixed") ≡ 28 }
+    ensures file { class_number (classes_of mixed) (codes "Mixed") ≡ 29 }
     ensures missing { class_number (classes_of mixed) (codes "mixed") ≡ 0 }
 {}
 
@@ -26,8 +26,8 @@ pub fn long_fields_take_two_words()
     ensures long { place_of_field 2 ≡ 2 }
     ensures behind_long { place_of_field 3 ≡ 4 }
     ensures static_long { place_of_field 4 ≡ 1 }
-    ensures object { instance_words (classes_of mixed) 28 ≡ 5 }
-    ensures class_object { static_words (classes_of mixed) 28 ≡ 3 }
+    ensures object { instance_words (classes_of mixed) 29 ≡ 5 }
+    ensures class_object { static_words (classes_of mixed) 29 ≡ 3 }
     ensures thread { instance_words (classes_of mixed) 7 ≡ 3 }
 {}
 
@@ -49,13 +49,14 @@ pub fn array_classes_stand_by_their_bytes()
 /// arguments and the literals.
 #[tactic(auto, unfolding(builtin_world::specs::Library::library))]
 pub fn fixed_objects_follow_each_other()
-    ensures count { class_count (program_names mixed) ≡ 29 }
+    ensures count { class_count (program_names mixed) ≡ 31 }
     ensures first { class_object (program_names mixed) 1 ≡ 1 }
     ensures second { class_object (program_names mixed) 2 ≡ 3 }
-    ensures mixed { class_object (program_names mixed) 28 ≡ 55 }
-    ensures array { class_object (program_names mixed) 29 ≡ 60 }
-    ensures out { system_out_object (program_names mixed) ≡ 62 }
-    ensures thread { main_thread_object (program_names mixed) ≡ 64 }
-    ensures arguments { arguments_object (program_names mixed) ≡ 69 }
-    ensures free { first_free (program_names mixed) ≡ 73 }
+    ensures mixed { class_object (program_names mixed) 29 ≡ 57 }
+    ensures units { class_object (program_names mixed) 30 ≡ 62 }
+    ensures array { class_object (program_names mixed) 31 ≡ 64 }
+    ensures out { system_out_object (program_names mixed) ≡ 66 }
+    ensures thread { main_thread_object (program_names mixed) ≡ 68 }
+    ensures arguments { arguments_object (program_names mixed) ≡ 73 }
+    ensures free { first_free (program_names mixed) ≡ 78 }
 {}

@@ -23,7 +23,7 @@ pub fn class_names_are_no_floats()
 /// A class that the program hasn't got is numbered by the place of its name among all class names of the files.
 #[tactic(auto, unfolding(builtin_world::specs::Library::library, class_names::specs::Reading::kind_at, class_names::specs::Reading::base_at, class_names::specs::Reading::split_at_semicolon, class_names::specs::Reading::spells_class_name, class_names::specs::Kinds::kinds_within))]
 pub fn other_names_have_their_places()
-    ensures class { type_named (program_names mixed) (codes "Mixed") ≡ Class 28 }
+    ensures class { type_named (program_names mixed) (codes "Mixed") ≡ Class 29 }
     ensures other { type_named (program_names mixed) (codes "Other") ≡ Other 7 }
     ensures array { type_named (program_names mixed) (codes "[[LOther;") ≡ Array 2 (elements.Other 7) }
     ensures primitive { type_named (program_names mixed) (codes "[J") ≡ Array 1 elements.Long }

@@ -124,7 +124,7 @@ implementations_refused us r g =
 
 -- ---- the test of a class over an order of classes
 
-pub class_there : (us : List ClassUnit) (k : ℕ) → k < length us → 28 + k ≤ length (classes_of us)
+pub class_there : (us : List ClassUnit) (k : ℕ) → k < length us → 29 + k ≤ length (classes_of us)
 class_there us k lt = omega (arith, class_count_is us)
 
 pub tested : (asked : Asked) (us vs : List ClassUnit) (c k : ℕ) (order given : List ℕ) (r : Bool) (ds : List NamedClass → ℕ → List ℕ)

@@ -71,10 +71,10 @@ module _ (p : ProgramTexts) where
   pub all_numbered : AreUnits p.units → KnowsUnits p.texts p.units → KnowsClasses p.texts rows → (c i : ℕ) (m : NamedMember) → slice_get (methods_of (classes_of p.units) c) i ≡ Some m → Numbered p m
   unfolding library
   all_numbered decoded files builtin zero = none_numbered p [] refl
-  all_numbered decoded files builtin (suc j) = elim (cases_lt j 27) [
+  all_numbered decoded files builtin (suc j) = elim (cases_lt j 28) [
     | inl lt ↦ of_library builtin j lt
     | inr le ↦
-        let is : number_of_file (j - 27) ≡ suc j = omega arith in
+        let is : number_of_file (j - 28) ≡ suc j = omega arith in
         let Goal : ℕ → Type 0 = λ c. (i : ℕ) (m : NamedMember) → slice_get (methods_of (classes_of p.units) c) i ≡ Some m → Numbered p m in
-        subst Goal is (of_file decoded files (j - 27))
+        subst Goal is (of_file decoded files (j - 28))
   ]

@@ -38,7 +38,7 @@ use Rattle.link_rules.proofs.Uses.{rules_of, operand_at}
 
 -- ---- the library has one field
 
-library_fields : (us : List ClassUnit) → map (λ c. nat_eq (length (fields_of (classes_of us) c)) 0 || nat_eq c 4) (range_with_len 0 28) ≡ map (λ _. true) (range_with_len 0 28)
+library_fields : (us : List ClassUnit) → map (λ c. nat_eq (length (fields_of (classes_of us) c)) 0 || nat_eq c 4) (range_with_len 0 29) ≡ map (λ _. true) (range_with_len 0 29)
 unfolding library
 library_fields us = refl
 
@@ -47,11 +47,11 @@ unfolding library
 out_is_static us zero m e = ap (λ (x : NamedMember). has x.flags STATIC) (sym (same_Some _ m e))
 out_is_static us (suc i) m e = absurd (none-some m e)
 
-other_is_read : (us : List ClassUnit) (c i : ℕ) (m : NamedMember) → c ≢ 4 → slice_get (fields_of (classes_of us) c) i ≡ Some m → 27 < c
+other_is_read : (us : List ClassUnit) (c i : ℕ) (m : NamedMember) → c ≢ 4 → slice_get (fields_of (classes_of us) c) i ≡ Some m → 28 < c
 other_is_read us c i m other there =
-    elim (cases_lt 27 c) [
+    elim (cases_lt 28 c) [
       | inl read ↦ read
-      | inr low ↦ absurd (elim (or_cases (nat_eq (length (fields_of (classes_of us) c)) 0) (nat_eq c 4) (in_library 0 28 (λ c. nat_eq (length (fields_of (classes_of us) c)) 0 || nat_eq c 4) (λ _. true) (library_fields us) c (omega arith) (omega arith))) [
+      | inr low ↦ absurd (elim (or_cases (nat_eq (length (fields_of (classes_of us) c)) 0) (nat_eq c 4) (in_library 0 29 (λ c. nat_eq (length (fields_of (classes_of us) c)) 0 || nat_eq c 4) (λ _. true) (library_fields us) c (omega arith) (omega arith))) [
         | inl none ↦ (let empty : length (fields_of (classes_of us) c) ≡ 0 = eqb-true (length (fields_of (classes_of us) c)) 0 none in
             let lt : i < length (fields_of (classes_of us) c) = slice_get_within (fields_of (classes_of us) c) i m there in omega arith)
         | inr four ↦ other (eqb-true c 4 four)
@@ -92,7 +92,7 @@ module _ (us : List ClassUnit) (units : AreUnits us) (hold : (link_rules us).Hol
           let descriptor : IsFieldType m.descriptor = subst (λ (y : NamedMember). IsFieldType y.descriptor) same (descriptor_of_field u (units k u at) i x e) in
           member_type (program_names us) m descriptor plain
 
-  of_class : (c i : ℕ) (m : NamedMember) → 27 < c → slice_get (fields_of (classes_of us) c) i ≡ Some m → MemberType (program_names us) m
+  of_class : (c i : ℕ) (m : NamedMember) → 28 < c → slice_get (fields_of (classes_of us) c) i ≡ Some m → MemberType (program_names us) m
   of_class c i m read there =
       let h : (k : ℕ) × (u : ClassUnit) × (slice_get us k ≡ Some u) × (c ≡ number_of_file k) = is_file us c read (class_within (classes_of us) c i m there) in
       of_file h.0 h.1 h.2 i m (subst (λ x. slice_get (fields_of (classes_of us) x) i ≡ Some m) h.3 there)
@@ -112,7 +112,7 @@ module _ (us : List ClassUnit) (units : AreUnits us) (hold : (link_rules us).Hol
 
     field : d.class ≢ 4 → (t : MemberType (program_names us) d.member) → FitsField (program_names us) (number_of_file k) access (field_operand (program_names us) r d t.type)
     field other t =
-        let read : 27 < d.class = other_is_read us d.class d.place d.member other f.found.there in
+        let read : 28 < d.class = other_is_read us d.class d.place d.member other f.found.there in
         record {
           index = d.place;
           member = d.member;

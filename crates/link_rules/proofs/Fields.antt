@@ -61,8 +61,8 @@ own_inside kind fs i f at is =
 static_place : (cs : List NamedClass) (c i : ℕ) (f : NamedMember) → is_stored true f ≡ true → field_place cs c i f ≡ own_words true (take i (fields_of cs c))
 static_place cs c i f is = ap (λ b. cond b (own_words true (take i (fields_of cs c))) (instance_words cs (superclass_of cs c) + own_words false (take i (fields_of cs c)))) is
 
-not_built_in : (c : ℕ) → 27 < c → is_built_in c ≡ false
-not_built_in c read = lt-leb c 27 read
+not_built_in : (c : ℕ) → 28 < c → is_built_in c ≡ false
+not_built_in c read = lt-leb c 28 read
 
 static_inside : (cs : List NamedClass) (c i : ℕ) (f : NamedMember) → IsFieldOf true cs c i f → field_place cs c i f + field_words f ≤ static_words cs c
 static_inside cs c i f field =
@@ -120,7 +120,7 @@ words_are cs c = refl
 
 module _ (cs : List NamedClass) (order : List ℕ) (first : PutsSupersFirst cs order) where
   -- a class of a file adds its own words to those of its superclass
-  pub words_of_file : (c : ℕ) → 27 < c → c ≤ length cs → instance_words cs c ≡ instance_words cs (superclass_of cs c) + own_words false (fields_of cs c)
+  pub words_of_file : (c : ℕ) → 28 < c → c ≤ length cs → instance_words cs c ≡ instance_words cs (superclass_of cs c) + own_words false (fields_of cs c)
   words_of_file c read within =
       let ne : c ≢ 0 = λ e. omega arith in
       words_are cs c
@@ -129,20 +129,20 @@ module _ (cs : List NamedClass) (order : List ℕ) (first : PutsSupersFirst cs o
       ∙ ap (λ n. n + own_words false (fields_of cs c)) (sym (words_are cs (superclass_of cs c)))
 
   -- the superclasses of a class of the library are of the library, and add nothing
-  module _ (stays : (c : ℕ) → c ≤ 27 → superclass_of cs c ≤ 27) where
-    library_adds : (c : ℕ) → c ≢ 0 → c ≤ length cs → c ≤ 27 → sum_by (added_words cs) (superclasses cs c) ≡ 0
-    library_adds = of_all cs order first (λ c. c ≤ 27 → sum_by (added_words cs) (superclasses cs c) ≡ 0) base step
+  module _ (stays : (c : ℕ) → c ≤ 28 → superclass_of cs c ≤ 28) where
+    library_adds : (c : ℕ) → c ≢ 0 → c ≤ length cs → c ≤ 28 → sum_by (added_words cs) (superclasses cs c) ≡ 0
+    library_adds = of_all cs order first (λ c. c ≤ 28 → sum_by (added_words cs) (superclasses cs c) ≡ 0) base step
       where
-        none : (c : ℕ) → c ≤ 27 → added_words cs c ≡ 0
-        none c low = ap (λ b. cond b 0 (own_words false (fields_of cs c))) (le-leb c 27 low)
+        none : (c : ℕ) → c ≤ 28 → added_words cs c ≡ 0
+        none c low = ap (λ b. cond b 0 (own_words false (fields_of cs c))) (le-leb c 28 low)
 
-        base : (c : ℕ) → c ≢ 0 → c ≤ length cs → superclass_of cs c ≡ 0 → c ≤ 27 → sum_by (added_words cs) (superclasses cs c) ≡ 0
+        base : (c : ℕ) → c ≢ 0 → c ≤ length cs → superclass_of cs c ≡ 0 → c ≤ 28 → sum_by (added_words cs) (superclasses cs c) ≡ 0
         base c ne within e low =
             ap (sum_by (added_words cs)) (superclasses_none cs order first c e ne within)
             ∙ sum_by-cons (added_words cs) c []
             ∙ (let mine : added_words cs c ≡ 0 = none c low in omega arith)
 
-        step : (c : ℕ) → c ≢ 0 → c ≤ length cs → superclass_of cs c ≢ 0 → (superclass_of cs c ≤ 27 → sum_by (added_words cs) (superclasses cs (superclass_of cs c)) ≡ 0) → c ≤ 27 → sum_by (added_words cs) (superclasses cs c) ≡ 0
+        step : (c : ℕ) → c ≢ 0 → c ≤ length cs → superclass_of cs c ≢ 0 → (superclass_of cs c ≤ 28 → sum_by (added_words cs) (superclasses cs (superclass_of cs c)) ≡ 0) → c ≤ 28 → sum_by (added_words cs) (superclasses cs c) ≡ 0
         step c ne within some_super later low =
             ap (sum_by (added_words cs)) (superclasses_step cs order first c ne within)
             ∙ sum_by-cons (added_words cs) c (superclasses cs (superclass_of cs c))
@@ -151,11 +151,11 @@ module _ (cs : List NamedClass) (order : List ℕ) (first : PutsSupersFirst cs o
             omega arith)
 
     -- an object of a class of the library has the words of its row
-    pub library_words_are : (c : ℕ) → c ≢ 0 → c ≤ length cs → c ≤ 27 → instance_words cs c ≡ built_in_words c
+    pub library_words_are : (c : ℕ) → c ≢ 0 → c ≤ length cs → c ≤ 28 → instance_words cs c ≡ built_in_words c
     library_words_are c ne within low =
         let found : find is_built_in (superclasses cs c) ≡ Some c =
         ap (find is_built_in) (superclasses_step cs order first c ne within)
-        ∙ ap (λ b. cond b (Some c) (find is_built_in (superclasses cs (superclass_of cs c)))) (le-leb c 27 low) in
+        ∙ ap (λ b. cond b (Some c) (find is_built_in (superclasses cs (superclass_of cs c)))) (le-leb c 28 low) in
         let built : option_map_or built_in_words (find is_built_in (superclasses cs c)) 0 ≡ built_in_words c = ap (λ o. option_map_or built_in_words o 0) found in
         let more : sum_by (added_words cs) (superclasses cs c) ≡ 0 = library_adds c ne within low in
         omega arith
@@ -163,23 +163,23 @@ module _ (cs : List NamedClass) (order : List ℕ) (first : PutsSupersFirst cs o
     pub words_of_none : instance_words cs 0 ≡ 0
     words_of_none = words_are cs 0 ∙ ap (words_on cs) (up_none cs (length cs)) ∙ words_nothing cs
 
-    pub library_grows_by : ((c : ℕ) → c ≢ 0 → c ≤ 27 → built_in_words (superclass_of cs c) ≤ built_in_words c) → (c : ℕ) → c ≢ 0 → c ≤ length cs → c ≤ 27 → instance_words cs (superclass_of cs c) ≤ instance_words cs c
+    pub library_grows_by : ((c : ℕ) → c ≢ 0 → c ≤ 28 → built_in_words (superclass_of cs c) ≤ built_in_words c) → (c : ℕ) → c ≢ 0 → c ≤ length cs → c ≤ 28 → instance_words cs (superclass_of cs c) ≤ instance_words cs c
     library_grows_by rows c ne within low = go (superclass_of cs c) refl
       where
         go : (s : ℕ) → superclass_of cs c ≡ s → instance_words cs s ≤ instance_words cs c
         go zero e = (let none : instance_words cs 0 ≡ 0 = words_of_none in omega arith)
         go (suc s) e =
             let room : suc s ≤ length cs = subst (λ x. x ≤ length cs) e (superclass_within cs c) in
-            let below : suc s ≤ 27 = subst (λ x. x ≤ 27) e (stays c low) in
+            let below : suc s ≤ 28 = subst (λ x. x ≤ 28) e (stays c low) in
             let its : instance_words cs (suc s) ≡ built_in_words (suc s) = library_words_are (suc s) (λ z. omega (arith, z)) room below in
             let mine : instance_words cs c ≡ built_in_words c = library_words_are c ne within low in
             let row : built_in_words (suc s) ≤ built_in_words c = subst (λ x. built_in_words x ≤ built_in_words c) e (rows c ne low) in
             omega arith
 
-  module _ (library_grows : (c : ℕ) → c ≢ 0 → c ≤ length cs → c ≤ 27 → instance_words cs (superclass_of cs c) ≤ instance_words cs c) where
+  module _ (library_grows : (c : ℕ) → c ≢ 0 → c ≤ length cs → c ≤ 28 → instance_words cs (superclass_of cs c) ≤ instance_words cs c) where
     grows_once : (c : ℕ) → c ≢ 0 → c ≤ length cs → instance_words cs (superclass_of cs c) ≤ instance_words cs c
     grows_once c ne within =
-        elim (cases_lt 27 c) [
+        elim (cases_lt 28 c) [
           | inl read ↦ (let h : instance_words cs c ≡ instance_words cs (superclass_of cs c) + own_words false (fields_of cs c) = words_of_file c read within in omega arith)
           | inr built_in ↦ library_grows c ne within built_in
         ]
@@ -229,7 +229,7 @@ module _ (cs : List NamedClass) (order : List ℕ) (first : PutsSupersFirst cs o
     -- a field of a class above another one ends before the fields of the other one begin
     inherited_before : (c d i j : ℕ) (f g : NamedMember) → IsFieldOf false cs c i f → IsFieldOf false cs d j g → Contains (superclasses cs d) c → d ≢ c → field_place cs c i f + field_words f ≤ field_place cs d j g
     inherited_before c d i j f g one other above ne =
-        let some : d ≢ 0 = λ e. (let read : 27 < d = other.read in omega arith) in
+        let some : d ≢ 0 = λ e. (let read : 28 < d = other.read in omega arith) in
         let up : Contains (superclasses cs (superclass_of cs d)) c = above_super cs order first d c some other.within above ne in
         let ends : field_place cs c i f + field_words f ≤ instance_words cs c = field_inside c i f one in
         let begins : instance_words cs (superclass_of cs d) ≤ field_place cs d j g = field_behind d j g other in
@@ -284,26 +284,26 @@ module _ (cs : List NamedClass) (order : List ℕ) (first : PutsSupersFirst cs o
 
 -- ---- the library
 
-library_supers : (us : List ClassUnit) → map (λ c. nat_le (superclass_of (classes_of us) c) 27) (range_with_len 0 28) ≡ map (λ _. true) (range_with_len 0 28)
+library_supers : (us : List ClassUnit) → map (λ c. nat_le (superclass_of (classes_of us) c) 28) (range_with_len 0 29) ≡ map (λ _. true) (range_with_len 0 29)
 unfolding library
 library_supers us = refl
 
-pub library_stays : (us : List ClassUnit) (c : ℕ) → c ≤ 27 → superclass_of (classes_of us) c ≤ 27
+pub library_stays : (us : List ClassUnit) (c : ℕ) → c ≤ 28 → superclass_of (classes_of us) c ≤ 28
 library_stays us c low =
-    leb-true (superclass_of (classes_of us) c) 27
-    (in_library 0 28 (λ c. nat_le (superclass_of (classes_of us) c) 27) (λ _. true) (library_supers us) c (omega arith) (omega arith))
+    leb-true (superclass_of (classes_of us) c) 28
+    (in_library 0 29 (λ c. nat_le (superclass_of (classes_of us) c) 28) (λ _. true) (library_supers us) c (omega arith) (omega arith))
 
-library_rows : (us : List ClassUnit) → map (λ c. nat_le (built_in_words (superclass_of (classes_of us) c)) (built_in_words c)) (range_with_len 0 28) ≡ map (λ _. true) (range_with_len 0 28)
+library_rows : (us : List ClassUnit) → map (λ c. nat_le (built_in_words (superclass_of (classes_of us) c)) (built_in_words c)) (range_with_len 0 29) ≡ map (λ _. true) (range_with_len 0 29)
 unfolding library
 library_rows us = refl
 
-library_rows_grow : (us : List ClassUnit) (c : ℕ) → c ≢ 0 → c ≤ 27 → built_in_words (superclass_of (classes_of us) c) ≤ built_in_words c
+library_rows_grow : (us : List ClassUnit) (c : ℕ) → c ≢ 0 → c ≤ 28 → built_in_words (superclass_of (classes_of us) c) ≤ built_in_words c
 library_rows_grow us c ne low =
     leb-true (built_in_words (superclass_of (classes_of us) c)) (built_in_words c)
-    (in_library 0 28 (λ c. nat_le (built_in_words (superclass_of (classes_of us) c)) (built_in_words c)) (λ _. true) (library_rows us) c (omega arith) (omega arith))
+    (in_library 0 29 (λ c. nat_le (built_in_words (superclass_of (classes_of us) c)) (built_in_words c)) (λ _. true) (library_rows us) c (omega arith) (omega arith))
 
 module _ (us : List ClassUnit) (order : List ℕ) (linked : IsLinked us order) where
-  library_grows : (c : ℕ) → c ≢ 0 → c ≤ length (classes_of us) → c ≤ 27 → instance_words (classes_of us) (superclass_of (classes_of us) c) ≤ instance_words (classes_of us) c
+  library_grows : (c : ℕ) → c ≢ 0 → c ≤ length (classes_of us) → c ≤ 28 → instance_words (classes_of us) (superclass_of (classes_of us) c) ≤ instance_words (classes_of us) c
   library_grows = library_grows_by (classes_of us) order linked.order (library_stays us) (library_rows_grow us)
 
   pub linked_objects_grow : ObjectsGrow (classes_of us)

@@ -57,7 +57,7 @@ module _ (us : List ClassUnit) (hold : (link_rules us).Hold) where
   -- selection in a class of a file begins at the class
   starts : (k : ℕ) (u : ClassUnit) → slice_get us k ≡ Some u → selection_start (program_names us) (number_of_file k) ≡ number_of_file k
   starts k u at =
-      let count : length (classes_of us) ≡ 27 + length us = class_count_is us in
+      let count : length (classes_of us) ≡ 28 + length us = class_count_is us in
       let lt : k < length us = slice_get_within us k u at in
       let low : nat_le (number_of_file k) (length (classes_of us)) ≡ true = le-leb (number_of_file k) (length (classes_of us)) (omega arith) in
       let c : ℕ = number_of_file k in

@@ -29,18 +29,18 @@ no_result : (p : ProgramNames) → result_type p (codes "()V") ≡ None
 unfolding kind_at base_at kinds_within
 no_result p = refl
 
-library_initializers : (us : List ClassUnit) → map (λ c. is_some (initializer (classes_of us) c)) (range_with_len 0 28) ≡ map (λ _. false) (range_with_len 0 28)
+library_initializers : (us : List ClassUnit) → map (λ c. is_some (initializer (classes_of us) c)) (range_with_len 0 29) ≡ map (λ _. false) (range_with_len 0 29)
 unfolding library
 library_initializers us = refl
 
 -- no class of the library has such a method
-read_class : (us : List ClassUnit) (c : ℕ) (id : MethodId) → initializer (classes_of us) c ≡ Some id → 27 < c
+read_class : (us : List ClassUnit) (c : ℕ) (id : MethodId) → initializer (classes_of us) c ≡ Some id → 28 < c
 read_class us c id e =
-    elim (cases_lt 27 c) [
+    elim (cases_lt 28 c) [
       | inl read ↦ read
       | inr built_in ↦
           let none : is_some (initializer (classes_of us) c) ≡ false =
-          in_library 0 28 (λ c. is_some (initializer (classes_of us) c)) (λ _. false) (library_initializers us) c (omega arith) (omega arith) in
+          in_library 0 29 (λ c. is_some (initializer (classes_of us) c)) (λ _. false) (library_initializers us) c (omega arith) (omega arith) in
           absurd (true≢false (sym (ap is_some e) ∙ none))
     ]
 
@@ -52,7 +52,7 @@ not_native us hold k u at i m there =
     ((hold.1.1.1.0 k u at).1 i m mine).1.0
 
 module _ (us : List ClassUnit) (hold : (link_rules us).Hold) (c : ℕ) where
-  of_declared : 27 < c → (d : Declared) → IsDeclared (methods_of (classes_of us)) initializes_class c d → InitializesClass (program_names us) c (method_id d)
+  of_declared : 28 < c → (d : Declared) → IsDeclared (methods_of (classes_of us)) initializes_class c d → InitializesClass (program_names us) c (method_id d)
   of_declared read d g =
       let r : Reference = reference_of [] (codes "<clinit>") (codes "()V") in
       let parts : (is_member r d.member ≡ true) × (has d.member.flags STATIC ≡ true) = and_parts (is_member r d.member) (has d.member.flags STATIC) g.passes in

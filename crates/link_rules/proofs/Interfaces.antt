@@ -18,11 +18,11 @@ use Rattle.link_rules.proofs.Above.{ordered, means_above, only_object_above}
 
 -- ---- the library
 
-library_interfaces : (us : List ClassUnit) → map (λ c. list_all (λ i. nat_eq i 6) (interfaces_of (classes_of us) c)) (range_with_len 0 28) ≡ map (λ _. true) (range_with_len 0 28)
+library_interfaces : (us : List ClassUnit) → map (λ c. list_all (λ i. nat_eq i 6) (interfaces_of (classes_of us) c)) (range_with_len 0 29) ≡ map (λ _. true) (range_with_len 0 29)
 unfolding library
 library_interfaces us = refl
 
-library_objects : (us : List ClassUnit) → map (λ c. not (class_has (classes_of us) c 512) || nat_eq (superclass_of (classes_of us) c) 1) (range_with_len 0 28) ≡ map (λ _. true) (range_with_len 0 28)
+library_objects : (us : List ClassUnit) → map (λ c. not (class_has (classes_of us) c 512) || nat_eq (superclass_of (classes_of us) c) 1) (range_with_len 0 29) ≡ map (λ _. true) (range_with_len 0 29)
 unfolding library
 library_objects us = refl
 
@@ -63,8 +63,8 @@ module _ (us : List ClassUnit) (hold : (link_rules us).Hold) where
   -- the superclass of an interface is Object
   of_interface : (i : ℕ) → i ≢ 0 → i ≤ length (classes_of us) → class_has (classes_of us) i 512 ≡ true → superclass_of (classes_of us) i ≡ 1
   of_interface i ne within is =
-      elim (cases_lt 27 i) [
-        | inr low ↦ elim (or_cases (not (class_has (classes_of us) i 512)) (nat_eq (superclass_of (classes_of us) i) 1) (in_library 0 28 (λ c. not (class_has (classes_of us) c 512) || nat_eq (superclass_of (classes_of us) c) 1) (λ _. true) (library_objects us) i (omega arith) (omega arith))) [
+      elim (cases_lt 28 i) [
+        | inr low ↦ elim (or_cases (not (class_has (classes_of us) i 512)) (nat_eq (superclass_of (classes_of us) i) 1) (in_library 0 29 (λ c. not (class_has (classes_of us) c 512) || nat_eq (superclass_of (classes_of us) c) 1) (λ _. true) (library_objects us) i (omega arith) (omega arith))) [
           | inl plain ↦ absurd (true≢false (sym is ∙ not-true (class_has (classes_of us) i 512) plain))
           | inr object ↦ eqb-true (superclass_of (classes_of us) i) 1 object
         ]
@@ -79,14 +79,14 @@ module _ (us : List ClassUnit) (hold : (link_rules us).Hold) where
 
   interfaces_are : (c i : ℕ) → c ≢ 0 → c ≤ length (classes_of us) → Contains (interfaces_of (classes_of us) c) i → (i ≢ 0) × (i ≤ length (classes_of us)) × (superclass_of (classes_of us) i ≡ OBJECT)
   interfaces_are c i ne within h =
-      elim (cases_lt 27 c) [
-        | inr low ↦ of_library (all_are (interfaces_of (classes_of us) c) i (in_library 0 28 (λ x. list_all (λ j. nat_eq j 6) (interfaces_of (classes_of us) x)) (λ _. true) (library_interfaces us) c (omega arith) (omega arith)) h)
+      elim (cases_lt 28 c) [
+        | inr low ↦ of_library (all_are (interfaces_of (classes_of us) c) i (in_library 0 29 (λ x. list_all (λ j. nat_eq j 6) (interfaces_of (classes_of us) x)) (λ _. true) (library_interfaces us) c (omega arith) (omega arith)) h)
         | inl read ↦ by_file (is_file us c read within)
       ]
     where
       of_library : i ≡ 6 → (i ≢ 0) × (i ≤ length (classes_of us)) × (superclass_of (classes_of us) i ≡ OBJECT)
       of_library same =
-          let count : length (classes_of us) ≡ 27 + length us = class_count_is us in
+          let count : length (classes_of us) ≡ 28 + length us = class_count_is us in
           ((λ e. omega (arith, e)), omega arith, ap (superclass_of (classes_of us)) same ∙ runnable_super us)
 
       by_file : (k : ℕ) × (u : ClassUnit) × (slice_get us k ≡ Some u) × (c ≡ number_of_file k) → (i ≢ 0) × (i ≤ length (classes_of us)) × (superclass_of (classes_of us) i ≡ OBJECT)
@@ -110,7 +110,7 @@ module _ (us : List ClassUnit) (hold : (link_rules us).Hold) where
               (there, room, of_interface i there room interface)
 
 object_within : (us : List ClassUnit) → 1 ≤ length (classes_of us)
-object_within us = (let count : length (classes_of us) ≡ 27 + length us = class_count_is us in omega arith)
+object_within us = (let count : length (classes_of us) ≡ 28 + length us = class_count_is us in omega arith)
 
 pub classes_ordered : (us : List ClassUnit) (order : List ℕ) → IsLinked us order → ClassesAreOrdered (classes_of us)
 classes_ordered us order linked = ordered (classes_of us) order linked.order (interfaces_are us linked.rules) (object_super us) (object_interfaces us) (object_within us)

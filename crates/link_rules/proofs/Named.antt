@@ -17,13 +17,13 @@ use Rattle.link_rules.proofs.Numbers.{in_library, file_class, is_file}
 again : (us : List ClassUnit) → ℕ → ℕ
 again us c = option_map_or (λ (k : NamedClass). class_number (classes_of us) k.name) (class_numbered (classes_of us) c) 0
 
-library_names : (us : List ClassUnit) → map (λ c. nat_eq (again us c) c) (range_with_len 1 27) ≡ map (λ _. true) (range_with_len 1 27)
+library_names : (us : List ClassUnit) → map (λ c. nat_eq (again us c) c) (range_with_len 1 28) ≡ map (λ _. true) (range_with_len 1 28)
 unfolding library again
 library_names us = refl
 
-of_library : (us : List ClassUnit) (c : ℕ) → c ≢ 0 → c ≤ 27 → again us c ≡ c
+of_library : (us : List ClassUnit) (c : ℕ) → c ≢ 0 → c ≤ 28 → again us c ≡ c
 of_library us c ne low =
-    eqb-true (again us c) c (in_library 1 27 (λ c. nat_eq (again us c) c) (λ _. true) (library_names us) c (omega (arith, ne)) (omega arith))
+    eqb-true (again us c) c (in_library 1 28 (λ c. nat_eq (again us c) c) (λ _. true) (library_names us) c (omega (arith, ne)) (omega arith))
 
 no_number : (o : Option ℕ) → option_map_or (λ i. suc i) o 0 ≡ 0 → o ≡ None
 no_number None e = refl
@@ -33,10 +33,10 @@ of_file : (us : List ClassUnit) → (link_rules us).Hold → (k : ℕ) (u : Clas
 of_file us hold k u at =
     let name : List ℕ = (class_of_unit u).name in
     let test : NamedClass → Bool = λ c. bytes_eq c.name name in
-    let before : position_from test 0 (take (27 + k) (classes_of us)) ≡ None = no_number _ (hold.1.0 k u at) in
+    let before : position_from test 0 (take (28 + k) (classes_of us)) ≡ None = no_number _ (hold.1.0 k u at) in
     let itself : bytes_eq name name ≡ true = (bytes_eq-Decides name name).1 refl in
-    let here : position_from test 0 (classes_of us) ≡ Some (27 + k) =
-    position_at test (classes_of us) (27 + k) (class_of_unit u) (file_class us k u at) itself before in
+    let here : position_from test 0 (classes_of us) ≡ Some (28 + k) =
+    position_at test (classes_of us) (28 + k) (class_of_unit u) (file_class us k u at) itself before in
     ap (λ o. option_map_or (λ i. suc i) o 0) here
 
 pub class_within : (cs : List NamedClass) (c : ℕ) (k : NamedClass) → class_numbered cs c ≡ Some k → (c ≢ 0) × (c ≤ length cs)
@@ -47,7 +47,7 @@ pub one_number : (us : List ClassUnit) → (link_rules us).Hold → NamesHaveOne
 unfolding again
 one_number us hold c k at =
     let room : (c ≢ 0) × (c ≤ length (classes_of us)) = class_within (classes_of us) c k at in
-    elim (cases_lt 27 c) [
+    elim (cases_lt 28 c) [
       | inr low ↦ sym (ap (λ o. option_map_or (λ (x : NamedClass). class_number (classes_of us) x.name) o 0) at) ∙ of_library us c room.0 low
       | inl read ↦ by_file (is_file us c read room.1)
     ]

@@ -1,4 +1,4 @@
--- Numbers of classes: those of the library from 1 to 27, and those of the files behind them.
+-- Numbers of classes: those of the library from 1 to 28, and those of the files after them.
 use Rattle.std.proofs.Common.{◌≡◌, ◌≢◌, ℕ, zero, suc, ◌+◌, ◌-◌, ◌<◌, ◌≤◌, Bool, true, List, ◌++◌, length, map, Option, None, Some, slice_get, get_or, inl, inr, refl, ap, subst, ◌∙◌, All, nat_lt, length-append, arith}
 use Rattle.std.specs.List.{position_from, range_with_len}
 use Rattle.std.specs.Option.{option_map, option_map_or}
@@ -14,7 +14,7 @@ use Rattle.link_rules.specs.Classes.{NamedClass, classes_of, class_of_unit, libr
 use Rattle.link_rules.specs.LinkRules.{link_rules}
 use Rattle.link_rules.proofs.Lists.{Found, found_at, slice_get-behind}
 
--- a number from 1 to 27 passes a test that the numbers pass one by one
+-- a number from 1 to 28 passes a test that the numbers pass one by one
 pub in_library : (from many : ℕ) (f g : ℕ → Bool) → map f (range_with_len from many) ≡ map g (range_with_len from many) → (c : ℕ) → from ≤ c → c < from + many → f c ≡ g c
 in_library from many f g same c low high =
     let all : All (λ x. f x ≡ g x) (range_with_len from many) = All-from_map f g (range_with_len from many) same in
@@ -24,25 +24,25 @@ in_library from many f g same c low high =
     get_or-range_with_len from many (c - from) c (omega arith) ∙ (omega arith) in
     subst (λ x. f x ≡ g x) is at
 
-pub class_count_is : (us : List ClassUnit) → length (classes_of us) ≡ 27 + length us
+pub class_count_is : (us : List ClassUnit) → length (classes_of us) ≡ 28 + length us
 unfolding library
 class_count_is us =
-    length-append (map library_class library) (map class_of_unit us) ∙ ap (λ n. 27 + n) (length-map us class_of_unit)
+    length-append (map library_class library) (map class_of_unit us) ∙ ap (λ n. 28 + n) (length-map us class_of_unit)
 
 pub file_class : (us : List ClassUnit) (k : ℕ) (u : ClassUnit) → slice_get us k ≡ Some u → class_numbered (classes_of us) (number_of_file k) ≡ Some (class_of_unit u)
 unfolding library
 file_class us k u at =
-    let behind : slice_get (map library_class library ++ map class_of_unit us) (27 + k) ≡ slice_get (map class_of_unit us) k =
+    let behind : slice_get (map library_class library ++ map class_of_unit us) (28 + k) ≡ slice_get (map class_of_unit us) k =
     slice_get-behind (map library_class library) (map class_of_unit us) k in
     behind ∙ slice_get-map class_of_unit us k ∙ ap (option_map class_of_unit) at
 
 -- a class behind the library is that of a file
-pub is_file : (us : List ClassUnit) (c : ℕ) → 27 < c → c ≤ length (classes_of us) → (k : ℕ) × (u : ClassUnit) × (slice_get us k ≡ Some u) × (c ≡ number_of_file k)
+pub is_file : (us : List ClassUnit) (c : ℕ) → 28 < c → c ≤ length (classes_of us) → (k : ℕ) × (u : ClassUnit) × (slice_get us k ≡ Some u) × (c ≡ number_of_file k)
 is_file us c low high =
-    let count : length (classes_of us) ≡ 27 + length us = class_count_is us in
-    elim (slice_get_cases us (c - 28)).1 [
-      | inl h ↦ (c - 28, h.0, h.2, omega arith)
-      | inr h ↦ absurd (let past : length us ≤ c - 28 = h.0 in omega arith)
+    let count : length (classes_of us) ≡ 28 + length us = class_count_is us in
+    elim (slice_get_cases us (c - 29)).1 [
+      | inl h ↦ (c - 29, h.0, h.2, omega arith)
+      | inr h ↦ absurd (let past : length us ≤ c - 29 = h.0 in omega arith)
     ]
 
 position_within : {X : Type 0} (test : X → Bool) (xs : List X) (o : Option ℕ) → position_from test 0 xs ≡ o → option_map_or (λ i. suc i) o 0 ≤ length xs
@@ -66,14 +66,14 @@ super_within cs (Some k) = named_within cs k.super
 pub superclass_within : (cs : List NamedClass) (c : ℕ) → superclass_of cs c ≤ length cs
 superclass_within cs c = super_within cs (class_numbered cs c)
 
-library_supers : (us : List ClassUnit) → map (λ c. nat_lt 0 (superclass_of (classes_of us) c)) (range_with_len 2 26) ≡ map (λ _. true) (range_with_len 2 26)
+library_supers : (us : List ClassUnit) → map (λ c. nat_lt 0 (superclass_of (classes_of us) c)) (range_with_len 2 27) ≡ map (λ _. true) (range_with_len 2 27)
 unfolding library
 library_supers us = refl
 
 -- Object alone has no superclass
 pub only_object : (us : List ClassUnit) (c : ℕ) → (link_rules us).Hold → c ≢ 0 → c ≤ length (classes_of us) → superclass_of (classes_of us) c ≡ 0 → c ≡ OBJECT
 only_object us c hold some within none =
-    elim (cases_lt 27 c) [
+    elim (cases_lt 28 c) [
       | inl file ↦ absurd (of_file (is_file us c file within))
       | inr built_in ↦ elim (cases_lt c 2) [
         | inl one ↦ omega (arith, some)
@@ -81,10 +81,10 @@ only_object us c hold some within none =
       ]
     ]
   where
-    of_library : 2 ≤ c → c ≤ 27 → ⊥
+    of_library : 2 ≤ c → c ≤ 28 → ⊥
     of_library low high =
         let lt : 0 < superclass_of (classes_of us) c =
-        ltb-true 0 (superclass_of (classes_of us) c) (in_library 2 26 (λ c. nat_lt 0 (superclass_of (classes_of us) c)) (λ _. true) (library_supers us) c low (omega arith)) in
+        ltb-true 0 (superclass_of (classes_of us) c) (in_library 2 27 (λ c. nat_lt 0 (superclass_of (classes_of us) c)) (λ _. true) (library_supers us) c low (omega arith)) in
         omega (arith, none)
 
     of_file : (k : ℕ) × (u : ClassUnit) × (slice_get us k ≡ Some u) × (c ≡ number_of_file k) → ⊥

@@ -80,9 +80,9 @@ fields_of_file us k u at = ap (λ o. option_map_or (λ (c : NamedClass). c.field
 
 pub unit_of_file : (us : List ClassUnit) (k : ℕ) → unit_numbered us (number_of_file k) ≡ slice_get us k
 unit_of_file us k =
-    let above : nat_le (suc (27 + k)) 27 ≡ false = lt-leb (suc (27 + k)) 27 (omega arith) in
-    let same : suc (27 + k) - 28 ≡ k = omega arith in
-    ap (λ b. cond b None (slice_get us (suc (27 + k) - 28))) above ∙ ap (slice_get us) same
+    let above : nat_le (suc (28 + k)) 28 ≡ false = lt-leb (suc (28 + k)) 28 (omega arith) in
+    let same : suc (28 + k) - 29 ≡ k = omega arith in
+    ap (λ b. cond b None (slice_get us (suc (28 + k) - 29))) above ∙ ap (slice_get us) same
 
 class_words : List ClassUnit → ℕ → ℕ
 class_words us c = length (option_map_or (class_words_of_unit (program_names us)) (unit_numbered us c) [])
@@ -91,10 +91,10 @@ class_words us c = length (option_map_or (class_words_of_unit (program_names us)
 class_words_count : (us : List ClassUnit) (c : ℕ) → class_words us c ≡ static_words (classes_of us) c
 unfolding class_words
 class_words_count us c =
-    elim (cases_lt 27 c) [
+    elim (cases_lt 28 c) [
       | inr built_in ↦
-          let low : nat_le c 27 ≡ true = le-leb c 27 built_in in
-          ap (λ b. length (option_map_or (class_words_of_unit (program_names us)) (cond b None (slice_get us (c - 28))) [])) low
+          let low : nat_le c 28 ≡ true = le-leb c 28 built_in in
+          ap (λ b. length (option_map_or (class_words_of_unit (program_names us)) (cond b None (slice_get us (c - 29))) [])) low
           ∙ sym (ap (λ b. cond b 0 (own_words true (fields_of (classes_of us) c))) low)
       | inl read ↦ elim (cases_lt (length (classes_of us)) c) [
         | inl past ↦ of_array read past
@@ -102,14 +102,14 @@ class_words_count us c =
       ]
     ]
   where
-    high : 27 < c → nat_le c 27 ≡ false
-    high read = lt-leb c 27 read
+    high : 28 < c → nat_le c 28 ≡ false
+    high read = lt-leb c 28 read
 
-    of_array : 27 < c → length (classes_of us) < c → length (option_map_or (class_words_of_unit (program_names us)) (unit_numbered us c) []) ≡ static_words (classes_of us) c
+    of_array : 28 < c → length (classes_of us) < c → length (option_map_or (class_words_of_unit (program_names us)) (unit_numbered us c) []) ≡ static_words (classes_of us) c
     of_array read past =
-        let count : length (classes_of us) ≡ 27 + length us = class_count_is us in
-        let none : slice_get us (c - 28) ≡ None = slice_get_past us (c - 28) (omega arith) in
-        let no_unit : unit_numbered us c ≡ None = ap (λ b. cond b None (slice_get us (c - 28))) (high read) ∙ none in
+        let count : length (classes_of us) ≡ 28 + length us = class_count_is us in
+        let none : slice_get us (c - 29) ≡ None = slice_get_past us (c - 29) (omega arith) in
+        let no_unit : unit_numbered us c ≡ None = ap (λ b. cond b None (slice_get us (c - 29))) (high read) ∙ none in
         let no_fields : fields_of (classes_of us) c ≡ [] = no_class c past in
         ap (λ o. length (option_map_or (class_words_of_unit (program_names us)) o [])) no_unit
         ∙ sym (ap (λ b. cond b 0 (own_words true (fields_of (classes_of us) c))) (high read) ∙ ap (own_words true) no_fields)
@@ -118,7 +118,7 @@ class_words_count us c =
         no_class zero past = refl
         no_class (suc i) past = ap (λ o. option_map_or (λ (k : NamedClass). k.fields) o []) (slice_get_past (classes_of us) i (omega arith))
 
-    of_file : 27 < c → (k : ℕ) × (u : ClassUnit) × (slice_get us k ≡ Some u) × (c ≡ number_of_file k) → length (option_map_or (class_words_of_unit (program_names us)) (unit_numbered us c) []) ≡ static_words (classes_of us) c
+    of_file : 28 < c → (k : ℕ) × (u : ClassUnit) × (slice_get us k ≡ Some u) × (c ≡ number_of_file k) → length (option_map_or (class_words_of_unit (program_names us)) (unit_numbered us c) []) ≡ static_words (classes_of us) c
     of_file read h =
         let unit : unit_numbered us c ≡ Some h.1 = ap (unit_numbered us) h.3 ∙ unit_of_file us h.0 ∙ h.2 in
         let fields : fields_of (classes_of us) c ≡ map (member_of_file h.1.file.pool) h.1.file.fields = ap (fields_of (classes_of us)) h.3 ∙ fields_of_file us h.0 h.1 h.2 in
@@ -147,7 +147,7 @@ classes_row us a (suc n) =
 strings_row : (p : ProgramNames) (a n : ℕ) → LieInARow (string_object p a) (map (string_at_start p) (range_with_len a n)) (string_object p (a + n))
 strings_row p a zero = (let same : a ≡ a + 0 = omega arith in ap (string_object p) same)
 strings_row p a (suc n) =
-    let start : string_object p (a + 1) ≡ string_object p a + 2 + 0 = omega arith in
+    let start : string_object p (a + 1) ≡ string_object p a + 2 + 1 = omega arith in
     let end : a + 1 + n ≡ a + suc n = omega arith in
     let later : LieInARow (string_object p (a + 1)) (map (string_at_start p) (range_with_len (a + 1) n)) (string_object p (a + 1 + n)) = strings_row p (a + 1) n in
     let P : ℕ → Type 0 = λ x. LieInARow x (map (string_at_start p) (range_with_len (a + 1) n)) (string_object p (a + suc n)) in

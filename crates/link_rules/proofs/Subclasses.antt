@@ -95,11 +95,11 @@ module _ (us : List ClassUnit) (order : List ℕ) (linked : IsLinked us order) w
   -- ---- the law
 
   object_number : is_class_number (program_names us) 1 ≡ true
-  object_number = (let count : length (classes_of us) ≡ 27 + length us = class_count_is us in le-leb 1 (class_count (program_names us)) (omega arith))
+  object_number = (let count : length (classes_of us) ≡ 28 + length us = class_count_is us in le-leb 1 (class_count (program_names us)) (omega arith))
 
   object_type : type_numbered (program_names us) 1 ≡ Class 1
   object_type =
-      (let count : length (classes_of us) ≡ 27 + length us = class_count_is us in
+      (let count : length (classes_of us) ≡ 28 + length us = class_count_is us in
       ap (λ b. unwrap_or (option_map (type_named (program_names us)) (cond b None (slice_get (program_names us).arrays (1 - suc (length (classes_of us)))))) (Class 1)) (le-leb 1 (length (classes_of us)) (omega arith)))
 
   is_below : (c d : ℕ) → is_class_number (program_names us) c ≡ true → is_class_number (program_names us) d ≡ true

@@ -30,9 +30,9 @@ stays us c low high =
 
 pub throwables : (us : List ClassUnit) (order : List ℕ) → IsLinked us order → ExceptionsAreThrowable (classes_of us)
 throwables us order linked c low high =
-    let count : length (classes_of us) ≡ 27 + length us = class_count_is us in
+    let count : length (classes_of us) ≡ 28 + length us = class_count_is us in
     of_all (classes_of us) order linked.order (λ c. 8 ≤ c → c ≤ 27 → Contains (superclasses (classes_of us) c) THROWABLE) base step c
-    (λ z. omega arith) (omega arith) low high
+    (λ z. omega arith) (omega arith) low (omega arith)
   where
     cs : List NamedClass
     cs = classes_of us

@@ -76,9 +76,9 @@ in_order texts = fold (λ sorted text. put_in_order text sorted) [] texts
 abbrev pub arguments_array : List ℕ
 arguments_array = codes "[Ljava/lang/String;"
 
--- the array classes that each program has
+-- the array classes that each program has: those of the units of Strings and of the arguments of `main`
 abbrev pub arrays_always : List (List ℕ)
-arrays_always = arguments_array ∷ []
+arrays_always = primitive_array Char ∷ arguments_array ∷ []
 
 -- the array classes by the bytes of their descriptors, each once: those that each program has, and those that
 -- instructions make, test or name as owners, with those of their elements

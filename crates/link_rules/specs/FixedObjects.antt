@@ -36,8 +36,9 @@ main_thread_object p = system_out_object p + 2
 abbrev pub arguments_object : ProgramNames → ℕ
 arguments_object p = main_thread_object p + 5
 
+-- a String has one word, the array of its units, which is null in a literal
 abbrev pub string_object : ProgramNames → ℕ → ℕ
-string_object p n = arguments_object p + 2 + 2 * n
+string_object p n = arguments_object p + 2 + 3 * n
 
 -- the first place behind them
 abbrev pub first_free : ProgramNames → ℕ
@@ -103,7 +104,7 @@ main_thread_at_start p =
     record { reference = main_thread_object p; class = THREAD; length = 0; words = 5 ∷ 0 ∷ 0 ∷ []; started = 1 }
 
 abbrev pub string_at_start : ProgramNames → ℕ → ObjectAtStart
-string_at_start p n = object_at_start (string_object p n) STRING n []
+string_at_start p n = object_at_start (string_object p n) STRING n (0 ∷ [])
 
 abbrev pub arguments_class : ProgramNames → ℕ
 arguments_class p = unwrap_or (array_number p arguments_array) 0

@@ -1,7 +1,7 @@
 -- What holds of linked programs.
 use Rattle.std.specs.Prelude.{◌≡◌, ◌≢◌, ◌⊎◌, ◌↔◌, ℕ, ◌+◌, ◌<◌, ◌≤◌, Bool, true, false, None, Some, List, [], ◌∷◌, length, drop, slice_get, codes, Contains, IsSomeAnd}
 use Rattle.std.specs.List.{last_or}
-use Rattle.builtin_world.specs.declared.number.TheConstants.{COUNT, OBJECT, THROWABLE}
+use Rattle.builtin_world.specs.declared.number.TheConstants.{COUNT, OBJECT, STRING_BUILDER, THROWABLE}
 use Rattle.class_walk.specs.declared.class.Constant.TheVariants.{Str}
 use Rattle.class_pool.specs.Pool.{Reference}
 use Rattle.code_decode.specs.declared.code.ClassUnit.{ClassUnit}
@@ -102,7 +102,7 @@ pub record IsFoundMethod (cs : List NamedClass) (r : Reference) (d : Declared) :
 
 -- the classes of the exceptions that the library has are Throwable or below it
 abbrev pub ExceptionsAreThrowable : List NamedClass → Type 0
-ExceptionsAreThrowable cs = (c : ℕ) → THROWABLE ≤ c → c ≤ COUNT → Contains (superclasses cs c) THROWABLE
+ExceptionsAreThrowable cs = (c : ℕ) → THROWABLE ≤ c → c < STRING_BUILDER → Contains (superclasses cs c) THROWABLE
 
 -- the literal of each Str entry stands at its number
 abbrev pub LiteralsAreThere : List ClassUnit → Type 0

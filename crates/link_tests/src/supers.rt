@@ -268,7 +268,7 @@ fn ordered(alloc: Global, units: &[ClassUnit]) -> Result<Vec<u32>, Fail> {
     }
 }
 
-/// A chain that stands in the files upside down; its classes have the numbers 28, 29 and 30.
+/// A chain that stands in the files upside down; its classes have the numbers 29, 30 and 31.
 static CHAIN: [File<'static>; 3] = [
     (CLASS, "C", "B", NONE),
     (CLASS, "B", "A", NONE),
@@ -282,23 +282,23 @@ fn classes_are_found_by_number(rt: HostRuntime) -> Result<(), Fail> {
         .ok()
         .ok_or("nothing is wrong")?;
     assert!(rt;
-        supers.class_number(b"C") == 28
-            && supers.class_number(b"A") == 30
+        supers.class_number(b"C") == 29
+            && supers.class_number(b"A") == 31
             && supers.class_number(b"D") == 0
     );
     assert!(rt;
-        supers.superclass(28) == 29
-            && supers.superclass(30) == 1
+        supers.superclass(29) == 30
+            && supers.superclass(31) == 1
             && supers.superclass(1) == 0
-            && supers.superclass(31) == 0
+            && supers.superclass(32) == 0
     );
     assert!(rt;
-        supers.interfaces(30) == [6].as_slice()
+        supers.interfaces(31) == [6].as_slice()
             && supers.interfaces(7) == [6].as_slice()
-            && supers.interfaces(28).is_empty()
+            && supers.interfaces(29).is_empty()
     );
-    assert!(rt; supers.is_above(28, 30) && supers.is_above(28, 6) && supers.is_above(28, 1));
-    assert!(rt; !supers.is_above(30, 28) && !supers.is_above(28, 28) && !supers.is_above(28, 7));
+    assert!(rt; supers.is_above(29, 31) && supers.is_above(29, 6) && supers.is_above(29, 1));
+    assert!(rt; !supers.is_above(31, 29) && !supers.is_above(29, 29) && !supers.is_above(29, 7));
     Ok(())
 }
 
@@ -306,8 +306,8 @@ fn classes_are_found_by_number(rt: HostRuntime) -> Result<(), Fail> {
 fn classes_stand_behind_what_they_name(rt: HostRuntime) -> Result<(), Fail> {
     let units = program(rt.alloc(), &CHAIN)?;
     let order = ordered(rt.alloc(), units.as_slice())?;
-    let behind = order.iter().skip_while(|class| **class != 30);
-    let files = behind.filter(|class| **class > 27).count();
-    assert!(rt; order.len() == 30 && files == 3);
+    let behind = order.iter().skip_while(|class| **class != 31);
+    let files = behind.filter(|class| **class > 28).count();
+    assert!(rt; order.len() == 31 && files == 3);
     Ok(())
 }

@@ -41,10 +41,10 @@ pub record IsOfFile (us : List ClassUnit) (c : ℕ) (u : ClassUnit) : Type 0 whe
 
 pub of_file : (us : List ClassUnit) (c : ℕ) (u : ClassUnit) → unit_numbered us c ≡ Some u → IsOfFile us c u
 of_file us c u at =
-    let high : 27 < c = unit_is_read us c u at in
+    let high : 28 < c = unit_is_read us c u at in
     record {
-      place = c - 28;
-      there = sym (ap (λ b. cond b None (slice_get us (c - 28))) (lt-leb c 27 high)) ∙ at;
+      place = c - 29;
+      there = sym (ap (λ b. cond b None (slice_get us (c - 29))) (lt-leb c 28 high)) ∙ at;
       number = omega arith;
     }
 

@@ -18,7 +18,7 @@ library_name : (o : Option LibraryClass) → option_map (λ (k : NamedClass). k.
 library_name None = refl
 library_name (Some c) = refl
 
-pub builtin_name : (us : List ClassUnit) (i : ℕ) → i < 27 → option_map (λ (k : NamedClass). k.name) (slice_get (classes_of us) i) ≡ option_map (λ (c : LibraryClass). c.name) (slice_get library i)
+pub builtin_name : (us : List ClassUnit) (i : ℕ) → i < 28 → option_map (λ (k : NamedClass). k.name) (slice_get (classes_of us) i) ≡ option_map (λ (c : LibraryClass). c.name) (slice_get library i)
 unfolding library
 builtin_name us i lt =
     ap (option_map (λ (k : NamedClass). k.name)) (before_at (map library_class library) (map class_of_unit us) i lt ∙ slice_get-map library_class library i)
@@ -30,10 +30,10 @@ file_name_of : (o : Option ClassUnit) → option_map (λ (k : NamedClass). k.nam
 file_name_of None = refl
 file_name_of (Some u) = refl
 
-pub file_name : (us : List ClassUnit) (k : ℕ) → option_map (λ (c : NamedClass). c.name) (slice_get (classes_of us) (27 + k)) ≡ option_map (λ (u : ClassUnit). class_name_at u.file.pool u.file.this_class) (slice_get us k)
+pub file_name : (us : List ClassUnit) (k : ℕ) → option_map (λ (c : NamedClass). c.name) (slice_get (classes_of us) (28 + k)) ≡ option_map (λ (u : ClassUnit). class_name_at u.file.pool u.file.this_class) (slice_get us k)
 unfolding library
 file_name us k =
-    let behind : slice_get (map library_class library ++ map class_of_unit us) (27 + k) ≡ slice_get (map class_of_unit us) k = slice_get-behind (map library_class library) (map class_of_unit us) k in
+    let behind : slice_get (map library_class library ++ map class_of_unit us) (28 + k) ≡ slice_get (map class_of_unit us) k = slice_get-behind (map library_class library) (map class_of_unit us) k in
     ap (option_map (λ (c : NamedClass). c.name)) (behind ∙ slice_get-map class_of_unit us k) ∙ file_name_of (slice_get us k)
 
 -- ---- the rows of the table

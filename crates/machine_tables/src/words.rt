@@ -1,9 +1,9 @@
 //! The 32-bit words of an object.
 
-ghost use Rattle.std.specs.Prelude.{◌≡◌, ◌<◌, OnOk, OnErr, IfOk, IfSome, slice_get, slice_set, length, replicate, ◌==◌};
+ghost use Rattle.std.specs.Prelude.{◌≡◌, ◌<◌, ◌%◌, ◌^◌, OnOk, OnErr, IfOk, IfSome, map, slice_get, slice_set, length, replicate, ◌==◌};
 
-use op_core::NoMemory;
-use std::alloc::Global;
+use op_core::{NoMemory, Units};
+use std::alloc::{AllocError, Global};
 use std::marker::Model;
 
 /// The 32-bit words of an object, by place from 0: its fields or elements, of which a `long` takes two words
@@ -19,6 +19,17 @@ impl Model for Words {
     ghost Value = { List ℕ };
 
     ghost view = { λ words. words.words.items };
+}
+
+// The low 16 bits of each word.
+fn low_halves(alloc: Global, words: &[u32]) -> Result<Vec<u16>, AllocError>
+    ensures { IfOk result (λ halves. halves.items ≡ map (λ word. word % 2 ^ 16) words.now) }
+{
+    let mut halves = Vec::with_capacity(alloc, words.len())?;
+    for word in words {
+        halves.push((*word % 65_536) as u16)?;
+    }
+    Ok(halves)
 }
 
 impl Words {
@@ -57,6 +68,15 @@ impl Words {
         ensures { result ≡ slice_get self.now place }
     {
         self.words.get(place as usize).copied()
+    }
+
+    /// The UTF-16 code units that they are as the elements of an array of chars: the low 16 bits of each (JVMS 2.3.1). It
+    /// fails where memory runs out alone.
+    pub fn units(&self, alloc: Global) -> Result<Units, NoMemory>
+        ensures { IfOk result (λ units. units ≡ map (λ word. word % 2 ^ 16) self.now) }
+    {
+        let units = low_halves(alloc, self.words.as_slice())?;
+        Ok(Units::from_vec(units))
     }
 
     /// Sets the word at a place. Past the end it does nothing.

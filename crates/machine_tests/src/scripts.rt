@@ -1,6 +1,6 @@
 //! Tests of thread codes that follow scripts: operations in order, saves, frames and copies.
 
-ghost use Rattle.std.specs.Prelude.{◌≡◌};
+ghost use Rattle.std.specs.Prelude.{◌≡◌, ◌∷◌, true, IfOk};
 
 use op_core::{
     CodeStop, Line, Next, NoMemory, Op, Reply, Script, ScriptStep, ThreadCode, after_silent_steps,
@@ -41,12 +41,30 @@ fn prints<C: ThreadCode>(code: &mut C, most: u32) -> u32 {
     count
 }
 
+/// Saves and enters, if a monitor is wanted, and says whether it is.
+fn enters<C: ThreadCode>(code: &mut C) -> Result<bool, CodeStop>
+    ensures saved { IfOk result (λ entered. entered ≡ true → C.saved code.new ≡ C.state code.old ∷ C.saved code.old) }
+{
+    match code.next() {
+        Next::Want(Op::Enter(_)) => {
+            code.save()?;
+            code.reply(Reply::Done);
+            Ok(true)
+        }
+        _ => Ok(false),
+    }
+}
+
 /// Whether the code leaves a kept frame: with saves in two frames, then without the inner save, then
 /// after a return to the outer frame, and then without a save.
 fn leaves_by_turns<C: ThreadCode>(code: &mut C) -> Result<[bool; 4], CodeStop> {
-    code.save()?;
+    if !enters(code)? {
+        return Ok([false; 4]);
+    }
     quiet(code)?;
-    code.save()?;
+    if !enters(code)? {
+        return Ok([false; 4]);
+    }
     let inner = code.leaves();
     code.drop_save();
     let dropped = code.leaves();
@@ -56,14 +74,14 @@ fn leaves_by_turns<C: ThreadCode>(code: &mut C) -> Result<[bool; 4], CodeStop> {
     Ok([inner, dropped, outer, code.leaves()])
 }
 
-/// Whether the code is silent, wants to enter object 1 behind that step, and is silent again once it is gone back over.
+/// Whether the code enters a monitor, is silent then, and wants to enter object 1 once it has gone back.
 fn goes_the_same_way<C: ThreadCode>(code: &mut C) -> Result<bool, CodeStop> {
-    code.save()?;
-    let is_silent = matches!(code.next(), Next::Silent);
-    quiet(code)?;
-    let enters = matches!(code.next(), Next::Want(Op::Enter(1)));
+    if !enters(code)? {
+        return Ok(false);
+    }
+    let is_silent = quiet(code)?;
     code.restore();
-    Ok(is_silent && enters && matches!(code.next(), Next::Silent))
+    Ok(is_silent && matches!(code.next(), Next::Want(Op::Enter(1))))
 }
 
 fn next_of_child<C: ThreadCode + Drop>(code: &C, object: u32) -> Result<Next, NoMemory> {
@@ -94,8 +112,10 @@ fn a_script_wants_its_operations_in_order(rt: HostRuntime) -> Result<(), Fail> {
     Ok(())
 }
 
-const CALLS_AND_RETURNS: [ScriptStep; 3] = [
+const CALLS_AND_RETURNS: [ScriptStep; 5] = [
+    ScriptStep::Operation(Op::Enter(1)),
     ScriptStep::Call,
+    ScriptStep::Operation(Op::Enter(1)),
     ScriptStep::Return,
     ScriptStep::Return,
 ];
@@ -108,11 +128,11 @@ fn a_kept_frame_is_left_at_its_own_return_alone(rt: HostRuntime) -> Result<(), F
     Ok(())
 }
 
-const PASSES_AND_ENTERS: [ScriptStep; 2] = [ScriptStep::Pass, ScriptStep::Operation(Op::Enter(1))];
+const ENTERS_AND_PASSES: [ScriptStep; 2] = [ScriptStep::Operation(Op::Enter(1)), ScriptStep::Pass];
 
 #[test]
 fn a_restored_script_goes_the_same_way_again(rt: HostRuntime) -> Result<(), Fail> {
-    let mut code = Script::new(rt.alloc(), &PASSES_AND_ENTERS);
+    let mut code = Script::new(rt.alloc(), &ENTERS_AND_PASSES);
     assert!(rt; matches!(goes_the_same_way(&mut code), Ok(true)));
     Ok(())
 }
@@ -165,11 +185,17 @@ fn silent_steps_are_tried_on_a_copy(rt: HostRuntime) -> Result<(), Fail> {
 const TOYS: [ToyScript<'static>; 2] = [
     ToyScript {
         object: 1,
-        steps: &[ToyStep::Pass, ToyStep::Do(Op::Enter(1))],
+        steps: &[ToyStep::Do(Op::Enter(1)), ToyStep::Pass],
     },
     ToyScript {
         object: 2,
-        steps: &[ToyStep::Call, ToyStep::Return, ToyStep::Return],
+        steps: &[
+            ToyStep::Do(Op::Enter(1)),
+            ToyStep::Call,
+            ToyStep::Do(Op::Enter(1)),
+            ToyStep::Return,
+            ToyStep::Return,
+        ],
     },
 ];
 
@@ -177,7 +203,9 @@ const TOYS: [ToyScript<'static>; 2] = [
 fn a_toy_goes_back_to_its_saves(rt: HostRuntime) -> Result<(), Fail> {
     let mut toy = Toy::new(rt.alloc(), &TOYS, 1);
     assert!(rt; matches!(goes_the_same_way(&mut toy), Ok(true)));
-    assert!(rt; matches!(copies_are_silent(&toy), Ok(true)));
+    assert!(rt;
+        matches!(enters(&mut toy), Ok(true)) && matches!(copies_are_silent(&toy), Ok(true))
+    );
     let mut other = Toy::new(rt.alloc(), &TOYS, 2);
     assert!(rt; leaves_by_turns(&mut other).ok() == Some([true, false, true, false]));
     assert!(rt; matches!(next_of_child(&other, 3), Ok(Next::Want(Op::End(None)))));

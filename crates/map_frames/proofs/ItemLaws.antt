@@ -7,8 +7,8 @@ use Rattle.type_rules.specs.declared.types.VerificationType.TheVariants.{Top, In
 use Rattle.type_rules.specs.Assignable.{Hierarchy}
 use Rattle.type_rules.specs.Environment.{TypeFrame, in_locals}
 use Rattle.type_rules.specs.MapFrames.{item_words}
-use Rattle.shared_words.specs.Store.{word_at}
-use Rattle.shared_words.proofs.ListLaws.{stack_depth}
+use Rattle.type_lists.specs.Store.{word_at}
+use Rattle.type_lists.proofs.ListLaws.{stack_depth}
 use Rattle.typing_frames.specs.declared.stores.FrameStores.{FrameStores}
 use Rattle.typing_frames.specs.declared.stores.CurrentFrame.{CurrentFrame}
 use Rattle.typing_frames.specs.Frames.{shown, IsFrame, StoresFollow, StoresRemember}

@@ -15,9 +15,9 @@ use Rattle.type_rules.specs.Assignable.{Hierarchy}
 use Rattle.type_rules.specs.Environment.{TypeFrame, in_locals, padded}
 use Rattle.type_rules.specs.Environments.{words_of_values}
 use Rattle.type_rules.specs.MapFrames.{item_type, item_words, is_uninit_this, frame_with_flag, frame_numbered, value_widths}
-use Rattle.shared_words.specs.Shown.{first_words, stack_words, EndsBy}
-use Rattle.shared_words.specs.Store.{word_at, IsList}
-use Rattle.shared_words.specs.declared.store.Words.{Words}
+use Rattle.type_lists.specs.Shown.{first_words, stack_words, EndsBy}
+use Rattle.type_lists.specs.Store.{word_at, IsList}
+use Rattle.type_lists.specs.declared.store.Words.{Words}
 use Rattle.typing_frames.specs.declared.stores.FrameStores.{FrameStores}
 use Rattle.typing_frames.specs.declared.stores.CurrentFrame.{CurrentFrame}
 use Rattle.typing_frames.specs.Frames.{shown, IsFrame, IsKeptFrame, KeepsAll, StoresFollow, StoresRemember}

@@ -7,8 +7,8 @@ use Rattle.type_rules.specs.declared.types.VerificationType.TheVariants.{Top, In
 use Rattle.type_rules.specs.Assignable.{Hierarchy, is_assignable, are_assignable, are_locals_assignable}
 use Rattle.type_rules.specs.Environment.{Environment, TypeFrame, padded}
 use Rattle.type_rules.specs.TypeFaults.{is_frame_assignable}
-use Rattle.shared_words.specs.Store.{word_at}
-use Rattle.shared_words.proofs.ListLaws.{first_count}
+use Rattle.type_lists.specs.Store.{word_at}
+use Rattle.type_lists.proofs.ListLaws.{first_count}
 use Rattle.typing_frames.specs.declared.stores.FrameStores.{FrameStores}
 use Rattle.typing_frames.specs.declared.stores.CurrentFrame.{CurrentFrame}
 use Rattle.typing_frames.specs.Frames.{shown}

@@ -8,9 +8,9 @@ use Rattle.type_rules.specs.declared.types.VerificationType.TheVariants.{Top}
 use Rattle.type_rules.specs.Assignable.{is_same_type}
 use Rattle.type_rules.specs.Environment.{TypeFrame, padded}
 use Rattle.type_rules.specs.MapFrames.{frame_numbered}
-use Rattle.shared_words.specs.declared.store.Words.{Words}
-use Rattle.shared_words.specs.Shown.{first_words, EndsBy}
-use Rattle.shared_words.specs.Store.{word_at, IsKept}
+use Rattle.type_lists.specs.declared.store.Words.{Words}
+use Rattle.type_lists.specs.Shown.{first_words, EndsBy}
+use Rattle.type_lists.specs.Store.{word_at, IsKept}
 use Rattle.typing_frames.specs.declared.stores.FrameStores.{FrameStores}
 use Rattle.typing_frames.specs.Frames.{shown, IsKeptFrame}
 use Rattle.map_frames.specs.declared.mapped.MappedFrame.{MappedFrame}

@@ -8,7 +8,7 @@ ghost use Rattle.typing_frames.specs.declared.stores.FrameStores.{FrameStores};
 ghost use Rattle.map_frames.specs.Mapped.{AreMapFrames, MapsAt};
 
 use code_frames::Frames;
-use shared_words::Words;
+use type_lists::Words;
 use type_rules::VerificationType;
 use typing_frames::CurrentFrame;
 

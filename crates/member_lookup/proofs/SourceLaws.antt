@@ -45,7 +45,7 @@ file_methods us k u at = ap methods_in (file_class us k u at)
 pub no_class : (us : List ClassUnit) (k : ℕ) → slice_get us k ≡ None → class_numbered (classes_of us) (number_of_file k) ≡ None
 unfolding library
 no_class us k none =
-    let behind : slice_get (map library_class library ++ map class_of_unit us) (27 + k) ≡ slice_get (map class_of_unit us) k = slice_get-behind (map library_class library) (map class_of_unit us) k in
+    let behind : slice_get (map library_class library ++ map class_of_unit us) (28 + k) ≡ slice_get (map class_of_unit us) k = slice_get-behind (map library_class library) (map class_of_unit us) k in
     behind ∙ slice_get-map class_of_unit us k ∙ ap (option_map class_of_unit) none
 
 pub no_fields : (us : List ClassUnit) (c : ℕ) → class_numbered (classes_of us) c ≡ None → fields_of (classes_of us) c ≡ []

@@ -1,5 +1,6 @@
 pub mod PointwiseLemmas
 pub mod QuietLemmas
+pub mod HostedLemmas
 pub mod ExecutionLemmas
 pub mod GroundedLemmas
 pub mod TiedLemmas

@@ -1,8 +1,10 @@
 pub mod Replies
 pub mod ThreadCode
+pub mod Hosted
 pub mod OrdinaryState
 pub mod OrdinaryStep
 pub mod Execution
+pub mod MadeTexts
 pub mod InPlaceList
 pub mod CleanCut
 pub mod Laws

@@ -10,10 +10,12 @@
 ghost use Rattle.std.specs.Prelude.{◌≡◌};
 
 pub mod laws;
+mod op_host;
 pub mod premises;
 mod script;
 mod thread_code;
 
+pub use op_host::OpHost;
 pub use rows::{Bytes, Rows, Text};
 pub use script::{Script, ScriptPlace, ScriptSaves, ScriptStep};
 use std::alloc::AllocError;
@@ -47,6 +49,8 @@ pub enum Line {
     Bool(bool),
     /// `println(String)` of the string that has this number in the program.
     Text(u32),
+    /// `println(String)` of a string that the program made: the reference of the array with its UTF-16 code units.
+    Made(u32),
     /// `println(String)` of null, which prints `null`.
     Null,
 }
@@ -200,10 +204,39 @@ pub struct Outcome {
     pub how: How,
     /// How many sections were opened.
     pub opened: u32,
-    /// How many of them were undone.
-    pub undone: u32,
+    /// How many times a thread undid levels of its section.
+    pub undone: u64,
     /// The events of the execution, where they were kept.
     pub events: Option<Rows<Event>>,
+    /// What was undone, in order, where the events were kept.
+    pub undos: Option<Rows<Undo>>,
+    /// The texts of the lines that the program made, each array once, by rising reference.
+    pub made: Rows<MadeText>,
+}
+
+/// A thread undid levels of its section, from the innermost one to one of them.
+#[derive(Clone, Copy)]
+pub struct Undo {
+    /// How many events of the execution came before.
+    pub after: u32,
+    /// The thread's number, from 1.
+    pub thread: u8,
+    /// The outermost level that was undone, from 1, which is the section itself.
+    pub level: u8,
+    /// How many times a word was put back.
+    pub words: u32,
+}
+
+/// The UTF-16 code units of a text.
+pub type Units = Rows<u16>;
+
+/// A text that was printed and that the program made.
+#[derive(Drop)]
+pub struct MadeText {
+    /// The reference of the array with its units.
+    pub at: u32,
+    /// Its units.
+    pub units: Units,
 }
 
 /// What a thread does next.

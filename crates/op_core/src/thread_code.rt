@@ -3,9 +3,10 @@
 ghost use Rattle.std.specs.Prelude.{◌≡◌, ◌≢◌, false, [], ◌∷◌, ◌<◌, ◌≤◌, Some, drop, OnOk, OnErr, IfOk, IfSome};
 ghost use Rattle.std.specs.Option.{option_map};
 ghost use Rattle.op_core.specs.ThreadCode.{leaves_any, quiet_step, quiet_steps, LeavesNoSave};
-ghost use Rattle.op_core.specs.Replies.{FitsNext};
+ghost use Rattle.op_core.specs.Replies.{FitsNext, IsEntry};
+ghost use Rattle.op_core.specs.Hosted.{IsLedTo, MayBeAsked};
 
-use crate::{CodeStop, Next, NoMemory, Reply};
+use crate::{CodeStop, Next, NoMemory, OpHost, Reply};
 
 /// The code of a Java thread, as a machine sees it: what it wants next, and how it goes on with
 /// each reply. It knows nothing of the memory that threads share.
@@ -63,6 +64,26 @@ pub trait ThreadCode: Sized {
         most
     }
 
+    /// Goes on by silent steps and operations as long as the host answers these, and makes at most this many operations.
+    /// None of the silent steps ends a frame that was on top at a save. Takes no memory but what the host takes.
+    fn run_with<H: OpHost>(&mut self, host: &mut H, most: u64)
+        requires may { MayBeAsked code (saved self.old) H.passes H.answers H.may (state self.old) host.old }
+        ensures led { IsLedTo code (saved self.old) H.passes H.answers H.declines (state self.old) host.old (state self.new) host.new }
+        ensures saved { saved self.new ≡ saved self.old }
+    {
+        for _asked in 0..most {
+            let made = self.run_silent(host.room());
+            host.pass(made);
+            let Next::Want(op) = self.next() else {
+                return;
+            };
+            match host.ask(op) {
+                Some(reply) => self.reply(reply),
+                None => return,
+            }
+        }
+    }
+
     /// Goes on with the reply to the operation that the thread wants, which it must fit. Takes no
     /// memory.
     fn reply(&mut self, reply: Reply)
@@ -70,8 +91,10 @@ pub trait ThreadCode: Sized {
         ensures state { state self.new ≡ code.reply (state self.old) reply }
         ensures saved { saved self.new ≡ saved self.old };
 
-    /// Saves the local state, on top of the saves. After an error the thread is as before.
+    /// Saves the local state, on top of the saves, as a thread does that is about to enter a monitor. After an error the
+    /// thread is as before.
     fn save(&mut self) -> Result<(), NoMemory>
+        requires { IsEntry (code.next (state self.old)) }
         ensures ok { OnOk result (saved self.new ≡ state self.old ∷ saved self.old) }
         ensures state { OnOk result (state self.new ≡ state self.old) }
         ensures err { OnErr result (self.new ≡ self.old) };

@@ -1,3 +1,4 @@
+pub mod UnitLemmas
 pub mod ChangeLemmas
 pub mod MachineLemmas
 pub mod OperationLemmas

@@ -1,12 +1,13 @@
 //! The ordinary machine: which operations have a step now, and which replies they may have.
 
-ghost use Rattle.std.specs.Prelude.{◌≡◌, ◌↔◌, ◌<◌, ℕ, IsTrue, MatchOption};
-ghost use Rattle.op_core.specs.OrdinaryState.{HasEnded, unused, ended};
+ghost use Rattle.std.specs.Prelude.{◌≡◌, ◌↔◌, ◌<◌, ℕ, IfOk, IsTrue, MatchOption};
+ghost use Rattle.op_core.specs.MadeTexts.{units_at};
+ghost use Rattle.op_core.specs.OrdinaryState.{HasEnded, IsThere, unused, ended};
 ghost use Rattle.op_core.specs.OrdinaryStep.{CanStep, MayAnswer, IsFreeNumber};
 ghost use Rattle.ordinary_machine.specs.Machine.{machine_of, HasBegun};
 
 use machine_tables::{ClassProgress, Classes, Objects, Standing, Threads};
-use op_core::{Line, Op, Reply, Rows, ThreadCode, ThreadEnd};
+use op_core::{Line, NoMemory, Op, Reply, Rows, ThreadCode, ThreadEnd, Units};
 use std::alloc::Global;
 
 /// The ordinary machine: what threads share, and where each thread stands.
@@ -35,6 +36,18 @@ impl<C: ThreadCode + Drop> Ordinary<C> {
     {
         let Ordinary { lines, .. } = self;
         lines
+    }
+
+    /// The UTF-16 code units of the array of chars at a reference, `None` exactly where no object is there. The machine
+    /// knows no classes: of any other object these are the low 16 bits of its words. It fails where memory runs out alone.
+    pub fn units(&self, reference: u32) -> Result<Option<Units>, NoMemory>
+        ensures { IfOk result (λ found. MatchOption found (IsThere (machine_of C.state self.now).now.objects reference → ⊥)
+            (λ units. IsThere (machine_of C.state self.now).now.objects reference × (units ≡ units_at (machine_of C.state self.now).now reference))) }
+    {
+        match self.objects.get(reference) {
+            Some(object) => Ok(Some(object.words.units(self.alloc)?)),
+            None => Ok(None),
+        }
     }
 
     /// The highest number with which a thread has begun.

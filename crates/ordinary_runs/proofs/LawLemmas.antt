@@ -5,6 +5,7 @@ use Rattle.op_core.specs.declared.Limits.{Limits}
 use Rattle.op_core.specs.declared.Limit.TheVariants.{Turns}
 use Rattle.op_core.specs.declared.ThreadEnd.{ThreadEnd}
 use Rattle.op_core.specs.ThreadCode.{Code}
+use Rattle.op_core.specs.MadeTexts.{AreMadeTexts}
 use Rattle.op_core.specs.OrdinaryState.{Thread, unused, live, ended, OrdinaryState, HasEnded}
 use Rattle.schedules.specs.declared.order.TurnEnd.{TurnEnd}
 use Rattle.schedules.specs.Run.{Run, IsHeldUp, IsTurn, Follows, EndsBy}
@@ -21,6 +22,7 @@ use Rattle.ordinary_runs.specs.Laws.{RunsHaveOneOutcome, RunsAreExecutions, Stuc
 use Rattle.ordinary_runs.proofs.TurnLemmas.{none_more}
 use Rattle.ordinary_runs.proofs.RunLemmas.{enabled_live}
 use Rattle.ordinary_runs.proofs.EndLemmas.{ends_one}
+use Rattle.ordinary_runs.proofs.MadeLemmas.{made_one, made_there}
 
 -- a turn comes to one thing
 same_turn : {S : Type 0} (code : Code S) (limits : Limits) (r new last : Progress S) (t : ℕ) (a b : TurnEnd) → (machine_turns code limits).gives r t a new → (machine_turns code limits).gives r t b last → (b ≡ a) × (last ≡ new)
@@ -47,7 +49,11 @@ one_outcome {S} code m schedule limits keeps outcome other one two =
     let opened = two.opened ∙ sym one.opened in
     let undone = two.undone ∙ sym one.undone in
     let events = two.events ∙ ap (λ (run : Run (Progress S)). run.state.events) last ∙ sym one.events in
-    λ i. record { lines = lines i; ends = ends i; how = how i; opened = opened i; undone = undone i; events = events i }
+    let undos = two.undos ∙ ap (λ (run : Run (Progress S)). option_map (λ _. []) run.state.events) last ∙ sym one.undos in
+    let there : AreMadeTexts one.last.state.machine.now outcome.lines other.made =
+    subst (λ ls. AreMadeTexts one.last.state.machine.now ls other.made) lines (subst (λ (run : Run (Progress S)). AreMadeTexts run.state.machine.now other.lines other.made) last two.made) in
+    let made = made_one one.last.state.machine.now outcome.lines outcome.made other.made one.made there in
+    λ i. record { lines = lines i; ends = ends i; how = how i; opened = opened i; undone = undone i; events = events i; undos = undos i; made = made i }
 
 -- the turns of a run are calls of `advance`
 record AreCalls {S : Type 0} (code : Code S) (r last : Progress S) : Type 0 where
@@ -126,6 +132,7 @@ executions code m schedule limits keeps outcome none ran =
       leads = done.leads;
       lines = ran.lines ∙ done.lines;
       ends = ends_there code done.state last outcome.ends done.further ran.ends;
+      made = made_there done.state last.now outcome.lines outcome.made done.further.shared ran.made;
     }
 
 live_at : {S : Type 0} (thread : Thread S) → is_live thread ≡ true → (l : S) × (thread ≡ live l)

@@ -4,6 +4,7 @@ pub mod SilentLemmas
 pub mod TurnLemmas
 pub mod EndLemmas
 pub mod EnabledLemmas
+pub mod MadeLemmas
 pub mod LawLemmas
 pub mod RunLemmas
 pub mod LowestLemmas

@@ -2,6 +2,7 @@
 use Rattle.std.proofs.Common.{◌≡◌, inl, inr, ℕ, zero, suc, ◌+◌, ◌-◌, ◌<◌, ◌≤◌, Bool, true, List, [], ◌∷◌, ◌++◌, length, All, Option, Some, None, IfSome, Result, Ok, Err, IfOk, slice_get, option_map, refl, sym, ◌∙◌, ap, subst, arith}
 use Rattle.std.proofs.lemmas.Bool.{cases_lt}
 use Rattle.std.proofs.lemmas.List.Elements.{All-cons, All-nil}
+use Rattle.op_core.specs.MadeTexts.{AreMadeTexts}
 use Rattle.op_core.specs.declared.Limits.{Limits}
 use Rattle.op_core.specs.declared.Limit.{Limit}
 use Rattle.op_core.specs.declared.NoMemory.{NoMemory}
@@ -273,9 +274,11 @@ begun_within threads highest t above begun = elim (cases_lt t (highest + 1)) [
 pub outcome_of : {S : Type 0} (code : Code S) (m : Machine S) (schedule : Schedule) (limits : Limits) (keeps : Bool) (run next : Run (Progress S)) (end : How) (result : Result Outcome NoMemory)
     → ((ts : List ℕ) × Follows (machine_turns code limits) (begun_with m schedule keeps) ts run) → EndsBy (machine_turns code limits) run end → next.state ≡ run.state
     → IfOk result (λ o. o.how ≡ end) → IfOk result (λ o. o.lines ≡ next.state.machine.now.lines) → IfOk result (λ o. AreEnds next.state.machine.now o.ends)
-    → IfOk result (λ o. o.opened ≡ 0) → IfOk result (λ o. o.undone ≡ 0) → IfOk result (λ o. o.events ≡ next.state.events) → IfOk result (IsOutcome code m schedule limits keeps)
-outcome_of code m schedule limits keeps run next end (Err e) (ts, follows) ends same how lines all opened undone events = tt
-outcome_of {S} code m schedule limits keeps run next end (Ok o) (ts, follows) ends same how lines all opened undone events = record {
+    → IfOk result (λ o. o.opened ≡ 0) → IfOk result (λ o. o.undone ≡ 0) → IfOk result (λ o. o.events ≡ next.state.events)
+    → IfOk result (λ o. o.undos ≡ option_map (λ _. []) next.state.events) → IfOk result (λ o. AreMadeTexts next.state.machine.now o.lines o.made)
+    → IfOk result (IsOutcome code m schedule limits keeps)
+outcome_of code m schedule limits keeps run next end (Err e) (ts, follows) ends same how lines all opened undone events undos made = tt
+outcome_of {S} code m schedule limits keeps run next end (Ok o) (ts, follows) ends same how lines all opened undone events undos made = record {
   threads = ts;
   last = run;
   goes = (follows, subst (EndsBy (machine_turns code limits) run) (sym how) ends);
@@ -284,6 +287,8 @@ outcome_of {S} code m schedule limits keeps run next end (Ok o) (ts, follows) en
   opened = opened;
   undone = undone;
   events = events ∙ ap (λ (r : Progress S). r.events) same;
+  undos = undos ∙ ap (λ (r : Progress S). option_map (λ _. []) r.events) same;
+  made = subst (λ (r : Progress S). AreMadeTexts r.machine.now o.lines o.made) same made;
 }
 
 -- some turns behind others

@@ -7,6 +7,7 @@ use Rattle.op_core.specs.declared.Outcome.{Outcome}
 use Rattle.op_core.specs.ThreadCode.{Code}
 use Rattle.op_core.specs.OrdinaryState.{OrdinaryState}
 use Rattle.op_core.specs.Execution.{Leads, printed, EndsStuck}
+use Rattle.op_core.specs.MadeTexts.{AreMadeTexts}
 use Rattle.schedules.specs.declared.order.Schedule.{Schedule}
 use Rattle.ordinary_machine.specs.Machine.{Machine}
 use Rattle.ordinary_machine.specs.Advance.{HasHalted}
@@ -18,7 +19,8 @@ RunsHaveOneOutcome {S} code = (m : Machine S) (schedule : Schedule) (limits : Li
     → IsOutcome code m schedule limits keeps outcome → IsOutcome code m schedule limits keeps other → other ≡ outcome
 
 -- Some events are an execution from the machine's state: those of the outcome, where they were kept. The machine's lines
--- and those that they print are the outcome's, and in their last state the threads have ended as the outcome says.
+-- and those that they print are the outcome's, and in their last state the threads have ended, and the texts that the program
+-- made are, as the outcome says.
 pub record IsExecuted {S : Type 0} (code : Code S) (m : Machine S) (keeps : Bool) (outcome : Outcome) : Type 0 where
   pub events : List Event
   pub last : OrdinaryState S
@@ -26,6 +28,7 @@ pub record IsExecuted {S : Type 0} (code : Code S) (m : Machine S) (keeps : Bool
   pub leads : Leads code m.now events last
   pub lines : outcome.lines ≡ m.now.lines ++ printed events
   pub ends : AreEnds last outcome.ends
+  pub made : AreMadeTexts last outcome.lines outcome.made
 
 abbrev pub RunsAreExecutions : {S : Type 0} → Code S → Type 0
 RunsAreExecutions {S} code = (m : Machine S) (schedule : Schedule) (limits : Limits) (keeps : Bool) (outcome : Outcome)

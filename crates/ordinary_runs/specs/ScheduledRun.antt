@@ -1,5 +1,6 @@
 -- A run of the ordinary machine that follows a schedule, and its outcome.
 use Rattle.std.specs.Prelude.{◌≡◌, ℕ, zero, suc, ◌<◌, ◌≤◌, Bool, None, Some, Option, List, [], map, length, All, if◌then◌else◌}
+use Rattle.std.specs.Option.{option_map}
 use Rattle.op_core.specs.declared.Limits.{Limits}
 use Rattle.op_core.specs.declared.How.{How}
 use Rattle.op_core.specs.declared.How.TheVariants as how
@@ -7,6 +8,7 @@ use Rattle.op_core.specs.declared.ThreadEnd.{ThreadEnd}
 use Rattle.op_core.specs.declared.Outcome.{Outcome}
 use Rattle.op_core.specs.ThreadCode.{Code}
 use Rattle.op_core.specs.OrdinaryState.{OrdinaryState, ended, HasEnded}
+use Rattle.op_core.specs.MadeTexts.{AreMadeTexts}
 use Rattle.schedules.specs.declared.order.OrderItem.{OrderItem}
 use Rattle.schedules.specs.declared.order.OrderItem.TheVariants.{Turns, Until}
 use Rattle.schedules.specs.declared.order.TurnEnd.{TurnEnd}
@@ -41,6 +43,8 @@ pub record IsOutcome {S : Type 0} (code : Code S) (m : Machine S) (schedule : Sc
   pub opened : outcome.opened ≡ 0
   pub undone : outcome.undone ≡ 0
   pub events : outcome.events ≡ last.state.events
+  pub undos : outcome.undos ≡ option_map (λ _. []) last.state.events
+  pub made : AreMadeTexts last.state.machine.now outcome.lines outcome.made
 
 -- where a run stands
 abbrev pub run_of : {C S : Type 0} → (C → S) → ScheduledRun C → Run (Progress S)

@@ -9,6 +9,7 @@
 
 mod counts;
 pub mod laws;
+mod made;
 mod run;
 mod turns;
 

@@ -2,7 +2,9 @@
 
 ghost use Rattle.std.specs.Prelude.{◌≡◌, ◌+◌, ◌<◌, ◌≤◌, ◌^◌, ℕ, true, false, [], ◌∷◌, ◌++◌, IfOk, IfSome, IfNone, OnOk, Some, None};
 ghost use Rattle.op_core.specs.declared.Limit.{Limit};
+ghost use Rattle.std.specs.Option.{option_map};
 ghost use Rattle.op_core.specs.OrdinaryState.{unused, ended};
+ghost use Rattle.op_core.specs.MadeTexts.{AreMadeTexts};
 ghost use Rattle.ordinary_machine.specs.declared.advance.Advance.{Advance};
 ghost use Rattle.ordinary_machine.specs.Machine.{machine_of, HasBegun};
 ghost use Rattle.ordinary_machine.specs.Advance.{MayAdvance, headway_of};
@@ -13,7 +15,8 @@ ghost use Rattle.ordinary_runs.specs.Turns.{count_in, progress_of, is_live, end_
 ghost use Rattle.ordinary_runs.specs.ScheduledRun.{AreEnds};
 
 use crate::counts::TurnCounts;
-use op_core::{Event, How, Limit, Limits, NoMemory, Outcome, Rows, ThreadCode, ThreadEnd};
+use crate::made::made_texts;
+use op_core::{Event, How, Limit, Limits, NoMemory, Outcome, Rows, ThreadCode, ThreadEnd, Undo};
 use ordinary_machine::{Advance, Headway, Ordinary};
 use schedules::{LiveThreads, TurnEnd};
 use std::alloc::Global;
@@ -65,6 +68,16 @@ fn end_behind(headway: Headway) -> TurnEnd
         Headway::Made => TurnEnd::Other,
         Headway::Blocked => TurnEnd::Blocked,
         Headway::Spent(limit) => TurnEnd::Spent(limit),
+    }
+}
+
+// Nothing is undone on this machine, which is said where the events are kept.
+fn no_undos(alloc: Global, events: &Option<Rows<Event>>) -> Option<Rows<Undo>>
+    ensures { result ≡ option_map (λ _. []) events.now }
+{
+    match events {
+        Some(_) => Some(Rows::new(alloc)),
+        None => None,
     }
 }
 
@@ -306,8 +319,12 @@ impl<C: ThreadCode + Drop> CountedMachine<C> {
         ensures opened { IfOk result (λ outcome. outcome.opened ≡ 0) }
         ensures undone { IfOk result (λ outcome. outcome.undone ≡ 0) }
         ensures events { IfOk result (λ outcome. outcome.events ≡ (progress_of C.state self).events) }
+        ensures undos { IfOk result (λ outcome. outcome.undos ≡ option_map (λ _. []) (progress_of C.state self).events) }
+        ensures made { IfOk result (λ outcome. AreMadeTexts (progress_of C.state self).machine.now outcome.lines outcome.made) }
     {
         let ends = self.ends(alloc)?;
+        let made = made_texts(alloc, &self.machine)?;
+        let undos = no_undos(alloc, &self.events);
         let CountedMachine {
             machine,
             events,
@@ -320,6 +337,8 @@ impl<C: ThreadCode + Drop> CountedMachine<C> {
             opened: 0,
             undone: 0,
             events,
+            undos,
+            made,
         })
     }
 }

@@ -1,14 +1,14 @@
 //! The port that makes the steps on the words of the block.
 
 ghost use Rattle.std.specs.Prelude.{◌≡◌, ℕ, IfOk, IsOk, OnErr};
-ghost use Rattle.step_port.specs.declared.answer.Answer.{Answer};
+ghost use Rattle.step_port.specs.declared.answer.StepAnswer.{StepAnswer};
 ghost use Rattle.step_port.specs.declared.step.Step.{Step};
 ghost use Rattle.plain_words.specs.Table.{MayStep, Stepped, Handed};
 
 use crate::PlainWords;
 use heap_words::{Area, ClassWord, control, notified};
 use op_core::NoMemory;
-use section_state::{State, with_state};
+use section_state::{closed_to, committed, opened, pinned_to, revoked_to};
 use step_port::{StepPort, ThreadWord, start_word};
 
 impl StepPort for PlainWords {
@@ -44,18 +44,41 @@ impl StepPort for PlainWords {
         self.load(Area::Section(section))
     }
 
-    fn pin(&mut self, section: u32, old: u64) -> Result<(), u64> {
-        let word = with_state(old, State::Pinned);
+    fn pin(&mut self, section: u32, old: u64, level: u8) -> Result<(), u64> {
+        let word = pinned_to(old, level);
         self.exchange(Area::Section(section), old, word)
     }
 
-    fn revoke(&mut self, section: u32, old: u64) -> Result<(), u64> {
-        let word = with_state(old, State::Revoking);
+    fn revoke(&mut self, section: u32, old: u64, level: u8) -> Result<(), u64> {
+        let word = revoked_to(old, level);
+        self.exchange(Area::Section(section), old, word)
+    }
+
+    fn open_level(&mut self, section: u32, old: u64) -> Result<(), u64> {
+        let word = opened(old);
+        self.exchange(Area::Section(section), old, word)
+    }
+
+    fn close_level(&mut self, section: u32, old: u64, depth: u8) -> Result<(), u64> {
+        let word = closed_to(old, depth);
+        self.exchange(Area::Section(section), old, word)
+    }
+
+    fn look_monitor(&mut self, object: u32) -> u64 {
+        self.load(self.behind(object, 1))
+    }
+
+    fn look_section(&mut self, section: u32) -> u64 {
+        self.load(Area::Section(section))
+    }
+
+    fn break_level(&mut self, section: u32, old: u64, level: u8) -> Result<(), u64> {
+        let word = revoked_to(old, level);
         self.exchange(Area::Section(section), old, word)
     }
 
     fn commit(&mut self, section: u32, old: u64) -> Result<(), u64> {
-        let word = with_state(old, State::Committed);
+        let word = committed(old);
         self.exchange(Area::Section(section), old, word)
     }
 
@@ -150,7 +173,7 @@ impl StepPort for PlainWords {
     /// Hands a started thread out. It takes no memory and never fails: its step is a load whose word nobody asks for.
     fn split(&mut self, thread: u8, object: u32, priority: u8) -> Result<(), NoMemory>
         ensures ok { IfOk result (λ pass. Handed self.old (Step.Split thread object priority) self.new) }
-        ensures made { IfOk result (λ _. (word : ℕ) × Stepped self.old (Step.Split thread object priority) (Answer.Found word) self.new) }
+        ensures made { IfOk result (λ _. (word : ℕ) × Stepped self.old (Step.Split thread object priority) (StepAnswer.Found word) self.new) }
         ensures err { OnErr result (self.new ≡ self.old) }
         ensures never { IsOk result }
     {

@@ -4,8 +4,8 @@ use Rattle.op_core.specs.declared.Reply.{Reply}
 use Rattle.op_core.specs.declared.Next.{Next}
 use Rattle.op_core.specs.declared.Op.{Op}
 use Rattle.op_core.specs.declared.Next.TheVariants.{Want}
-use Rattle.step_port.specs.declared.answer.Answer.{Answer}
-use Rattle.step_port.specs.declared.answer.Answer.TheVariants.{Lost}
+use Rattle.step_port.specs.declared.answer.StepAnswer.{StepAnswer}
+use Rattle.step_port.specs.declared.answer.StepAnswer.TheVariants.{Lost}
 use Rattle.step_port.specs.declared.step.Effect.{Effect}
 use Rattle.step_port.specs.declared.step.Effect.TheVariants.{Load}
 use Rattle.step_port.specs.declared.step.Step.{Step}
@@ -17,18 +17,17 @@ use Rattle.thread_automaton.specs.declared.Bounds.{Bounds}
 use Rattle.thread_automaton.specs.ThreadState.{ThreadState}
 use Rattle.rollback_core.specs.declared.thread.JThread.{JThread}
 use Rattle.rollback_core.specs.declared.turned.Turn.{Turn}
-use Rattle.rollback_core.specs.Told.{prepared}
 use Rattle.rollback_core.specs.Turn.{Says, SaysPlainly, MadeStep}
-use Rattle.rollback_core.proofs.PreparedLemmas.{number_prepared, silents_prepared, told_prepared, after_prepared}
+use Rattle.thread_automaton.specs.declared.Held.{Held}
 use Rattle.thread_automaton.specs.Monitors.{left_with}
 use Rattle.thread_automaton.specs.Changes.{Change, has_to_wait}
 use Rattle.thread_automaton.specs.Told.{Told, born, shown, told_by, told_unseen, told_of, told, after_answer}
 
-pub left_shown : (held : List ℕ) → shown (left_with held) ≡ Some Reply.Done
+pub left_shown : (held : List Held) → shown (left_with held) ≡ Some Reply.Done
 left_shown [] = refl
 left_shown (r ∷ held) = refl
 
-pub left_unseen : (next : Next) (step : Step) (held : List ℕ) → told_unseen next step (left_with held) ≡ told_by step (effect_of step) next
+pub left_unseen : (next : Next) (step : Step) (held : List Held) → told_unseen next step (left_with held) ≡ told_by step (effect_of step) next
 left_unseen next step [] = refl
 left_unseen next step (r ∷ held) = refl
 
@@ -41,14 +40,14 @@ unborn_unseen : (next : Next) (step : Step) (change : Change) → told_unseen ne
 unborn_unseen next step (has_to_wait why) is = cc
 unborn_unseen next step change is = unborn_by step (effect_of step) next is
 
-pub unborn_unless_split : (next : Next) (step : Step) (answer : Answer) (change : Change) (reply : Option Reply)
+pub unborn_unless_split : (next : Next) (step : Step) (answer : StepAnswer) (change : Change) (reply : Option Reply)
     → ((n r p : ℕ) → step ≢ Split n r p) → told_of next step answer change reply ≢ born
 unborn_unless_split next step (Lost v) change reply apart is = cc
 unborn_unless_split next (Split n r p) answer change reply apart is = absurd (apart n r p refl)
 unborn_unless_split next step answer change (Some reply) apart is = cc
 unborn_unless_split next step answer change None apart is = unborn_unseen next step change is
 
-pub told_unborn : {S : Type 0} (code : Code S) (b : Bounds) (th : ThreadState S) (step : Step) (answer : Answer)
+pub told_unborn : {S : Type 0} (code : Code S) (b : Bounds) (th : ThreadState S) (step : Step) (answer : StepAnswer)
     → ((n r p : ℕ) → step ≢ Split n r p) → told code b th step answer ≢ born
 told_unborn code b th step answer apart is = unborn_unless_split (code.next th.local) step answer _ _ apart is
 
@@ -59,24 +58,21 @@ plain_says meant code th step handed r tells unborn says = says
 
 -- the turn of a step that hands nothing out, from what it was made of
 pub step_made : {C S Pass : Type 0} (meant : JThread C → ThreadState S) (code : Code S) (b x : Bounds) (th y behind : ThreadState S) (next : Next)
-    (step : Step) (answer : Answer) (stepped : Answer → Type 0) (handed : Pass → Type 0) (r : Turn C Pass) (tells : Told)
-    → x ≡ b → y ≡ prepared step th → next ≡ code.next th.local → stepped answer → CanAnswer (effect_of step) answer
+    (step : Step) (answer : StepAnswer) (stepped : StepAnswer → Type 0) (handed : Pass → Type 0) (r : Turn C Pass) (tells : Told)
+    → x ≡ b → y ≡ th → next ≡ code.next th.local → stepped answer → CanAnswer (effect_of step) answer
     → ((n r p : ℕ) → step ≢ Split n r p) → behind ≡ after_answer code x y step answer → tells ≡ told code x y step answer
     → SaysPlainly y.number y.silents next r tells → MadeStep meant code b th behind step stepped handed r
-step_made meant code b x th y behind next step answer stepped handed r tells same ready wants made can apart goes tells_is says =
+step_made {C} {S} meant code b x th y behind next step answer stepped handed r tells same ready wants made can apart goes tells_is says =
     let told_is : tells ≡ told code b th step answer =
-    tells_is ∙ ap (λ x. told code x y step answer) same ∙ ap (λ y. told code b y step answer) ready ∙ told_prepared code b th step answer can in
-    let number : y.number ≡ th.number = ap (λ y. y.number) ready ∙ number_prepared step th in
-    let silents : y.silents ≡ th.silents = ap (λ y. y.silents) ready ∙ silents_prepared step th in
+    tells_is ∙ ap (λ x. told code x y step answer) same ∙ ap (λ y. told code b y step answer) ready in
     let plainly : SaysPlainly th.number th.silents (code.next th.local) r (told code b th step answer) =
-    subst (λ n. SaysPlainly n th.silents (code.next th.local) r (told code b th step answer)) number
-    (subst (λ n. SaysPlainly y.number n (code.next th.local) r (told code b th step answer)) silents
+    subst (λ (y : ThreadState S). SaysPlainly y.number y.silents (code.next th.local) r (told code b th step answer)) ready
     (subst (λ next. SaysPlainly y.number y.silents next r (told code b th step answer)) wants
-    (subst (λ tells. SaysPlainly y.number y.silents next r tells) told_is says))) in
+    (subst (λ tells. SaysPlainly y.number y.silents next r tells) told_is says)) in
     record {
       answer = answer;
       made = made;
       kind = can;
-      goes = goes ∙ ap (λ x. after_answer code x y step answer) same ∙ ap (λ y. after_answer code b y step answer) ready ∙ after_prepared code b th step answer can;
+      goes = goes ∙ ap (λ x. after_answer code x y step answer) same ∙ ap (λ y. after_answer code b y step answer) ready;
       says = plain_says meant code th step handed r (told code b th step answer) (told_unborn code b th step answer apart) plainly;
     }

@@ -1,10 +1,8 @@
 -- What a turn tells, and what a step takes memory for.
-use Rattle.std.specs.Prelude.{◌≡◌, ◌<◌, [], ◌∷◌}
+use Rattle.std.specs.Prelude.{◌<◌, IsSome}
 use Rattle.step_port.specs.declared.step.Step.{Step}
-use Rattle.step_port.specs.declared.step.Step.TheVariants.{SwapWord, OpenSection, TakeMonitor, Ticket, Split}
-use Rattle.thread_automaton.specs.ThreadState.{ThreadState, is_open}
+use Rattle.step_port.specs.declared.step.Step.TheVariants.{SwapWord, OpenSection, OpenLevel, TakeMonitor, Ticket, Split}
 use Rattle.thread_automaton.specs.Told.{Told, probed, advanced, born, lost, blocked}
-use Rattle.automaton_rows.specs.Fits.{HasSaves}
 use Rattle.rollback_core.specs.declared.thread.JThread.{JThread}
 use Rattle.rollback_core.specs.declared.told.StepTold.{StepTold}
 use Rattle.rollback_core.specs.declared.told.StepTold.TheVariants.{Probed, Advanced, Born, Lost, Blocked}
@@ -19,6 +17,7 @@ told_meant (Blocked why) = blocked why
 -- memory is taken before the step: for the save of a section, a noted word, a held monitor, a line, a child
 abbrev pub TakesMemory : Step → Type 0
 TakesMemory (OpenSection s w) = Unit {0}
+TakesMemory (OpenLevel s w) = Unit {0}
 TakesMemory (SwapWord at old new) = Unit {0}
 TakesMemory (TakeMonitor r new) = Unit {0}
 TakesMemory Ticket = Unit {0}
@@ -27,17 +26,9 @@ TakesMemory step = ⊥
 
 -- room is made for what the step notes
 abbrev pub HasRoomFor : {C : Type 0} → JThread C → Step → Type 0
-HasRoomFor x (SwapWord at old new) = 0 < x.log.spare
-HasRoomFor x (TakeMonitor r new) = 0 < x.held.spare
-HasRoomFor x Ticket = 0 < x.lines.spare
+HasRoomFor x (OpenSection s w) = IsSome x.own.opening
+HasRoomFor x (OpenLevel s w) = IsSome x.own.opening
+HasRoomFor x (SwapWord at old new) = 0 < x.own.log.spare
+HasRoomFor x (TakeMonitor r new) = 0 < x.own.held.spare
+HasRoomFor x Ticket = 0 < x.own.lines.spare
 HasRoomFor x step = Unit {0}
-
--- the local state is saved before a section opens, and else the saves are those of a fit thread
-abbrev pub SavesFor : {S : Type 0} → ThreadState S → Step → Type 0
-SavesFor th (OpenSection s w) = th.saved ≡ th.local ∷ []
-SavesFor th step = HasSaves (is_open th) th.saved th.marks
-
--- the thread before it makes the step, with the save
-abbrev pub prepared : {S : Type 0} → Step → ThreadState S → ThreadState S
-prepared (OpenSection s w) th = record th { saved = th.local ∷ th.saved }
-prepared step th = th

@@ -1,5 +1,6 @@
 -- What a turn of a thread makes and says.
 use Rattle.std.specs.Prelude.{◌≡◌, ℕ, ◌⊎◌, Option, None, Some}
+use Rattle.std.specs.Global.{Box}
 use Rattle.op_core.specs.declared.Limit.{Limit}
 use Rattle.op_core.specs.declared.Op.{Op}
 use Rattle.op_core.specs.declared.Op.TheVariants.{End}
@@ -8,7 +9,7 @@ use Rattle.op_core.specs.declared.Event.{Event}
 use Rattle.op_core.specs.declared.Next.{Next}
 use Rattle.op_core.specs.declared.Next.TheVariants.{Want}
 use Rattle.op_core.specs.ThreadCode.{Code, quiet_step}
-use Rattle.step_port.specs.declared.answer.Answer.{Answer}
+use Rattle.step_port.specs.declared.answer.StepAnswer.{StepAnswer}
 use Rattle.step_port.specs.declared.step.Step.{Step}
 use Rattle.step_port.specs.declared.step.Step.TheVariants.{Split}
 use Rattle.step_port.specs.Steps.{effect_of, kind_of}
@@ -33,7 +34,7 @@ end_wanted next = None
 abbrev pub event_of : ℕ → ℕ → Op → Reply → Event
 event_of number silents op reply = record { thread = number; silent = silents; op = op; reply = reply }
 
--- the thread that is handed out stands at its first state
+-- the thread that is handed out is in its first state
 abbrev pub IsChild : {S : Type 0} → Code S → ThreadState S → Step → ThreadState S → Type 0
 IsChild code th (Split n r p) child = child ≡ first_state n p (code.child th.local r)
 IsChild code th step child = ⊥
@@ -41,10 +42,10 @@ IsChild code th step child = ⊥
 -- A started thread is handed out, with what the port hands out.
 pub record HandsOut {C S Pass : Type 0} (meant : JThread C → ThreadState S) (code : Code S) (th : ThreadState S) (step : Step)
     (handed : Pass → Type 0) (r : Turn C Pass) : Type 0 where
-  pub child : JThread C
+  pub child : Box (JThread C)
   pub pass : Pass
   pub says : r ≡ Turn.Born child pass
-  pub first : IsChild code th step (meant child)
+  pub first : IsChild code th step (meant child.value)
   pub passed : handed pass
 
 -- What a turn of a thread of this number says that tells this, but where a thread is handed out.
@@ -64,8 +65,8 @@ Says meant code th step handed r tells = SaysPlainly th.number th.silents (code.
 -- The thread th made the step, which was answered so, and is then `behind`. `stepped` says that the port made the step
 -- with an answer, `handed` what it handed out with it.
 pub record MadeStep {C S Pass : Type 0} (meant : JThread C → ThreadState S) (code : Code S) (b : Bounds) (th behind : ThreadState S) (step : Step)
-    (stepped : Answer → Type 0) (handed : Pass → Type 0) (r : Turn C Pass) : Type 0 where
-  pub answer : Answer
+    (stepped : StepAnswer → Type 0) (handed : Pass → Type 0) (r : Turn C Pass) : Type 0 where
+  pub answer : StepAnswer
   pub made : stepped answer
   pub kind : CanAnswer (effect_of step) answer
   pub goes : behind ≡ after_answer code b th step answer
@@ -91,7 +92,7 @@ TurnedQuiet code th behind r = MadeQuiet code th behind r
 -- The turn made this move of the thread th, which is then `behind`, and says r. `still` says that the port made no
 -- step.
 abbrev pub Turned : {C S Pass : Type 0} → (JThread C → ThreadState S) → Code S → Bounds → ThreadState S → ThreadState S
-    → (Step → Answer → Type 0) → (Step → Pass → Type 0) → Type 0 → Turn C Pass → Move → Type 0
+    → (Step → StepAnswer → Type 0) → (Step → Pass → Type 0) → Type 0 → Turn C Pass → Move → Type 0
 Turned meant code b th behind stepped handed still r Over = still × Stays th behind r (Turn.Ended (end_wanted (code.next th.local)))
 Turned meant code b th behind stepped handed still r (Stop limit) = still × Stays th behind r (Turn.Spent limit)
 Turned meant code b th behind stepped handed still r Quiet = still × TurnedQuiet code th behind r
@@ -107,18 +108,3 @@ MoveTakesMemory move = ⊥
 abbrev pub kind_made : Move → ℕ
 kind_made (Make step) = kind_of step
 kind_made move = 0
-
--- a thread that is handed out can be given turns of its own, within the same bounds
-pub record CanGo {C S : Type 0} (meant : JThread C → ThreadState S) (code : Code S) (b : Bounds) (child : JThread C) : Type 0 where
-  pub fits : IsFit code (meant child)
-  pub counts : AreCounted (meant child)
-  pub bounds : child.bounds ≡ b
-
-abbrev pub ChildCanGo : {C S Pass : Type 0} → (JThread C → ThreadState S) → Code S → Bounds → Turn C Pass → Type 0
-ChildCanGo meant code b (Turn.Born child pass) = CanGo meant code b child
-ChildCanGo meant code b r = Unit {0}
-
--- no thread is handed out
-abbrev pub IsUnborn : {C Pass : Type 0} → Turn C Pass → Type 0
-IsUnborn (Turn.Born child pass) = ⊥
-IsUnborn r = Unit {0}

@@ -1,84 +1,71 @@
 //! What the answer of a step makes of the thread that has made it.
 
-ghost use Rattle.std.specs.Prelude.{◌≡◌, ◌+◌, ◌≤◌, ◌<◌, ◌^◌};
-ghost use Rattle.heap_words.specs.Words.{value_of, class_state, class_thread};
-ghost use Rattle.op_core.specs.declared.Next.{Next};
-ghost use Rattle.step_port.specs.declared.answer.Answer.{Answer};
 ghost use Rattle.step_port.specs.declared.step.Step.{Step};
-ghost use Rattle.thread_automaton.specs.Answers.{section_drawn, pin_made, words_taken, ticket_drawn, start_loaded, end_loaded, thread_drawn, thread_started, is_waiting_for, is_notified_for, wait_loaded, class_loaded, change_of};
+ghost use Rattle.step_port.specs.Steps.{place_of};
+ghost use Rattle.std.specs.Prelude.{ℕ, ◌≡◌, ◌+◌, ◌≤◌, ◌<◌, ◌^◌};
+ghost use Rattle.heap_words.specs.Words.{value_of};
+ghost use Rattle.op_core.specs.declared.Next.{Next};
+ghost use Rattle.step_port.specs.declared.answer.StepAnswer.{StepAnswer};
+ghost use Rattle.step_port.specs.declared.step.Step.{Step};
+ghost use Rattle.thread_automaton.specs.Answers.{section_drawn, pin_made, words_taken, ticket_drawn, start_loaded, end_loaded, thread_drawn, thread_started, is_waiting_for, is_notified_for, wait_loaded, class_loaded, undone_at, lost_on, change_of};
 ghost use Rattle.rollback_core.specs.Thread.{thread_of, CanBeAsked};
 ghost use Rattle.rollback_core.specs.Change.{change_meant, NamesThread, IsPlain, IsMadeBy};
 
 use crate::monitors::monitor_wanted;
 use crate::{JThread, ThreadChange};
-use heap_words::{Header, HeapWord, WaitWord};
-use monitor_core::Why;
+use heap_words::{Header, HeapWord, WaitWord, class_state, class_thread};
+use monitor_core::{MonitorWord, Why};
 use op_core::{Limit, Next, Op, Reply, ThreadCode};
-use section_state::State;
-use step_port::{Answer, Step, ThreadWord};
-use thread_automaton::Stage;
+use section_state::revoke_of;
+use step_port::{Step, StepAnswer, ThreadWord};
+use thread_automaton::Attempt;
 use write_log::Noted;
-
-// How far a class is, and which thread is at it, by its word.
-#[tactic(auto, unfolding(heap_words::specs::Words::class_state))]
-fn class_state(word: u64) -> u8
-    ensures { result ≡ class_state word }
-{
-    (word % 256) as u8
-}
-
-#[tactic(auto, unfolding(heap_words::specs::Words::class_thread))]
-fn class_thread(word: u64) -> u8
-    ensures { result ≡ class_thread word }
-{
-    (word / 256 % 256) as u8
-}
 
 impl<C: ThreadCode> JThread<C> {
     fn section_drawn(&self, drawn: u64) -> ThreadChange
         ensures meant { change_meant (thread_of C.state C.saved self.now) result
-            ≡ section_drawn self.now.bounds (thread_of C.state C.saved self.now) drawn }
+            ≡ section_drawn self.now.own.bounds (thread_of C.state C.saved self.now) drawn }
         ensures plain { IsPlain result }
     {
-        if drawn < self.bounds.limits.sections as u64 {
+        if drawn < self.own.bounds.limits.sections as u64 {
             let section = (drawn + 1) as u32;
-            let open = Step::OpenSection(section, self.own_word(State::Live));
-            ThreadChange::Goes(Stage::Fixed(open))
+            let open = Step::OpenSection(section, self.opening_word());
+            ThreadChange::Goes(Attempt::Fixed(open))
         } else {
-            ThreadChange::Goes(Stage::Full(Limit::Sections))
+            ThreadChange::Goes(Attempt::Full(Limit::Sections))
         }
     }
 
-    fn pin_made(&self, next: Next, section: u32) -> ThreadChange
+    fn pin_made(&self, next: Next, section: u32, level: u8) -> ThreadChange
         ensures meant { change_meant (thread_of C.state C.saved self.now) result
-            ≡ pin_made (thread_of C.state C.saved self.now) next section }
+            ≡ pin_made (thread_of C.state C.saved self.now) next section level }
         ensures plain { IsPlain result }
     {
-        if section == self.section {
-            ThreadChange::SeesPinned(self.behind_pin(next))
+        if section == self.own.section {
+            ThreadChange::SeesPinned(level, self.behind_pin(next))
         } else {
-            ThreadChange::Knows(section)
+            ThreadChange::Knows(section, level)
         }
     }
 
     fn words_taken(&self, next: Next, taken: u64) -> ThreadChange
-        requires room { self.now.bounds.first + self.now.bounds.limits.heap ≤ 2 ^ 32 }
+        requires room { self.now.own.bounds.first + self.now.own.bounds.limits.heap ≤ 2 ^ 32 }
         requires asked { CanBeAsked C.code (C.state self.now.code) next }
         ensures meant { change_meant (thread_of C.state C.saved self.now) result
-            ≡ words_taken C.code self.now.bounds (thread_of C.state C.saved self.now) next taken }
+            ≡ words_taken C.code self.now.own.bounds (thread_of C.state C.saved self.now) next taken }
         ensures plain { IsPlain result }
     {
         let Next::Want(Op::New(class, length)) = next else {
-            return ThreadChange::Goes(Stage::Begin);
+            return ThreadChange::never_comes();
         };
         let asked = self.words_asked(class, length);
         match taken.checked_add(asked) {
-            Some(end) if end <= self.bounds.limits.heap as u64 => {
-                let reference = taken as u32 + self.bounds.first;
+            Some(end) if end <= self.own.bounds.limits.heap as u64 => {
+                let reference = taken as u32 + self.own.bounds.first;
                 let header = Header { class, length };
-                ThreadChange::Goes(Stage::Fixed(Step::SetHeader(reference, header.pack())))
+                ThreadChange::Goes(Attempt::Fixed(Step::SetHeader(reference, header.pack())))
             }
-            _ => ThreadChange::Goes(Stage::Full(Limit::Heap)),
+            _ => ThreadChange::Goes(Attempt::Full(Limit::Heap)),
         }
     }
 
@@ -88,7 +75,7 @@ impl<C: ThreadCode> JThread<C> {
     {
         match next {
             Next::Want(Op::Print(line)) => ThreadChange::Prints(ticket, line),
-            _ => ThreadChange::Goes(Stage::Begin),
+            _ => ThreadChange::never_comes(),
         }
     }
 
@@ -112,7 +99,7 @@ impl<C: ThreadCode> JThread<C> {
                 }
                 let thread = HeapWord::unpack(word).value as u8;
                 let end = Step::LoadThread(ThreadWord::Ended(thread));
-                ThreadChange::Goes(Stage::Fixed(end))
+                ThreadChange::Goes(Attempt::Fixed(end))
             }
         }
     }
@@ -136,12 +123,12 @@ impl<C: ThreadCode> JThread<C> {
             Next::Want(Op::Start(object, _)) => {
                 if drawn < 255 {
                     let start = Step::StartThread(object, (drawn + 1) as u8);
-                    ThreadChange::Goes(Stage::Fixed(start))
+                    ThreadChange::Goes(Attempt::Fixed(start))
                 } else {
-                    ThreadChange::Goes(Stage::Full(Limit::Threads))
+                    ThreadChange::Goes(Attempt::Full(Limit::Threads))
                 }
             }
-            _ => ThreadChange::Goes(Stage::Begin),
+            _ => ThreadChange::never_comes(),
         }
     }
 
@@ -151,9 +138,9 @@ impl<C: ThreadCode> JThread<C> {
     {
         match next {
             Next::Want(Op::Start(object, priority)) => {
-                ThreadChange::Goes(Stage::Fixed(Step::Split(thread, object, priority)))
+                ThreadChange::Goes(Attempt::Fixed(Step::Split(thread, object, priority)))
             }
-            _ => ThreadChange::Goes(Stage::Begin),
+            _ => ThreadChange::never_comes(),
         }
     }
 
@@ -164,21 +151,21 @@ impl<C: ThreadCode> JThread<C> {
         match next {
             Next::Want(Op::Rewake(object)) => {
                 if is_notified_for(object, word) {
-                    ThreadChange::Goes(Stage::Fixed(Step::LoadMonitor(object)))
+                    ThreadChange::Goes(Attempt::Fixed(Step::LoadMonitor(object)))
                 } else {
                     ThreadChange::HasToWait(Why::NotNotified)
                 }
             }
             Next::Want(Op::Notify(object)) => {
                 if is_waiting_for(object, word) {
-                    ThreadChange::Goes(Stage::Fixed(Step::Notify(thread, word)))
+                    ThreadChange::Goes(Attempt::Fixed(Step::Notify(thread, word)))
                 } else if thread < 255 {
-                    ThreadChange::Goes(Stage::Fixed(Step::LoadWait(thread + 1)))
+                    ThreadChange::Goes(Attempt::Fixed(Step::LoadWait(thread + 1)))
                 } else {
                     ThreadChange::Replies(Reply::Woken(0))
                 }
             }
-            _ => ThreadChange::Goes(Stage::Begin),
+            _ => ThreadChange::never_comes(),
         }
     }
 
@@ -195,7 +182,7 @@ impl<C: ThreadCode> JThread<C> {
             ThreadChange::Replies(Reply::Bad)
         } else if state == 0 {
             ThreadChange::Goes(self.to_pin(next))
-        } else if thread == self.number {
+        } else if thread == self.own.number {
             ThreadChange::Replies(Reply::Ready)
         } else {
             ThreadChange::HasToWait(Why::ClassBusy(thread))
@@ -204,11 +191,11 @@ impl<C: ThreadCode> JThread<C> {
 
     // A load or a fetch-add found this word.
     fn found(&self, next: Next, step: Step, word: u64) -> ThreadChange
-        requires room { self.now.bounds.first + self.now.bounds.limits.heap ≤ 2 ^ 32 }
+        requires room { self.now.own.bounds.first + self.now.own.bounds.limits.heap ≤ 2 ^ 32 }
         requires asked { CanBeAsked C.code (C.state self.now.code) next }
-        requires names { NamesThread step (Answer.Found word) }
+        requires names { NamesThread step (StepAnswer.Found word) }
         ensures meant { change_meant (thread_of C.state C.saved self.now) result
-            ≡ change_of C.code self.now.bounds (thread_of C.state C.saved self.now) next step (Answer.Found word) }
+            ≡ change_of C.code self.now.own.bounds (thread_of C.state C.saved self.now) next step (StepAnswer.Found word) }
         ensures made_by { IsMadeBy step result }
     {
         match step {
@@ -224,52 +211,110 @@ impl<C: ThreadCode> JThread<C> {
             Step::LoadWait(thread) => self.wait_loaded(next, thread, word),
             Step::LoadClass(_) => self.class_loaded(next, word),
             Step::Split(thread, _, _) => ThreadChange::Replies(Reply::Number(thread)),
-            _ => ThreadChange::Goes(Stage::Begin),
+            _ => ThreadChange::never_comes(),
+        }
+    }
+
+    // The section is undone to the level to which it was revoked.
+    fn undone_at(&self) -> ThreadChange
+        ensures meant { change_meant (thread_of C.state C.saved self.now) result ≡ undone_at self.now.own.attempt }
+        ensures plain { IsPlain result }
+    {
+        match self.own.attempt {
+            Attempt::Undoing(word) => ThreadChange::GoesBack(revoke_of(word)),
+            _ => ThreadChange::never_comes(),
+        }
+    }
+
+    // A compare-exchange was lost.
+    fn lost_on(&self, step: Step) -> ThreadChange
+        ensures meant { change_meant (thread_of C.state C.saved self.now) result
+            ≡ lost_on (thread_of C.state C.saved self.now) (place_of step) }
+        ensures made_by { IsMadeBy step result }
+    {
+        match step {
+            Step::OpenSection(section, _)
+            | Step::LoadSection(section)
+            | Step::Pin(section, _, _)
+            | Step::Revoke(section, _, _)
+            | Step::Commit(section, _)
+            | Step::MarkUndone(section, _)
+            | Step::OpenLevel(section, _)
+            | Step::CloseLevel(section, _, _)
+            | Step::LookSection(section)
+            | Step::BreakLevel(section, _, _) => {
+                if self.own.section > 0 && section == self.own.section {
+                    ThreadChange::Goes(Attempt::Look)
+                } else {
+                    ThreadChange::Goes(Attempt::Begin)
+                }
+            }
+            _ => ThreadChange::Goes(Attempt::Begin),
         }
     }
 
     // A store or a compare-exchange was done.
     fn done(&self, next: Next, step: Step) -> ThreadChange
+        requires { (s w : ℕ) → step ≡ Step.OpenLevel s w → self.now.own.levels < 255 }
         ensures meant { change_meant (thread_of C.state C.saved self.now) result
-            ≡ change_of C.code self.now.bounds (thread_of C.state C.saved self.now) next step Answer.Done }
+            ≡ change_of C.code self.now.own.bounds (thread_of C.state C.saved self.now) next step StepAnswer.Done }
         ensures made_by { IsMadeBy step result }
     {
         match step {
             Step::SwapWord(at, old, _) => ThreadChange::Writes(Noted { at, old }),
             Step::RestoreWord(_, _) => ThreadChange::PutsBack,
             Step::OpenSection(section, _) => {
-                ThreadChange::Opens(section, Stage::Fixed(self.take_for(next, section)))
+                ThreadChange::Opens(section, Attempt::Fixed(self.take_for(next, section, 1)))
             }
-            Step::Pin(section, _) => self.pin_made(next, section),
+            Step::Pin(section, _, level) => self.pin_made(next, section, level),
+            Step::Revoke(_, _, _) => ThreadChange::Goes(Attempt::Begin),
             Step::Commit(_, _) | Step::SetWait(_, _) => {
-                ThreadChange::Goes(Stage::Fixed(Step::Release(monitor_wanted(next))))
+                ThreadChange::Goes(Attempt::Fixed(Step::Release(monitor_wanted(next))))
             }
-            Step::MarkUndone(_, _) => ThreadChange::GoesBack,
-            Step::TakeMonitor(object, _) => { ThreadChange::Takes(object, self.depth_behind(next)) }
-            Step::SetDepth(_, _) | Step::SettleClass(_, _) => ThreadChange::Replies(Reply::Done),
+            Step::MarkUndone(_, _) => self.undone_at(),
+            Step::TakeMonitor(_, _) => ThreadChange::Takes(self.entry(next, self.own.levels)),
+            Step::SetDepth(object, new) => {
+                self.depth_set(object, MonitorWord::unpack(new).depth)
+            }
+            Step::OpenLevel(section, _) => {
+                let levels = if self.own.levels == 255 {
+                    255
+                } else {
+                    self.own.levels + 1
+                };
+                let take = self.take_for(next, section, levels);
+                ThreadChange::OpensLevel(Attempt::Fixed(take))
+            }
+            Step::CloseLevel(_, _, depth) => {
+                let release = Step::Release(monitor_wanted(next));
+                ThreadChange::ClosesTo(depth, Attempt::Fixed(release))
+            }
+            Step::SettleClass(_, _) => ThreadChange::Replies(Reply::Done),
             Step::Release(object) => self.let_go(next, object),
             Step::SetHeader(object, _) => ThreadChange::Replies(Reply::Made(object)),
             Step::StartThread(_, thread) => self.thread_started(next, thread),
             Step::EndThread(_) => ThreadChange::Ends,
             Step::Notify(thread, _) => ThreadChange::Replies(Reply::Woken(thread)),
             Step::ClaimClass(_, _) => ThreadChange::Replies(Reply::Claimed),
-            _ => ThreadChange::Goes(Stage::Begin),
+            _ => ThreadChange::never_comes(),
         }
     }
 
     // What the answer of a step makes of the thread, whose code says `next`.
-    pub(crate) fn change_of(&self, next: Next, step: Step, answer: Answer) -> ThreadChange
-        requires room { self.now.bounds.first + self.now.bounds.limits.heap ≤ 2 ^ 32 }
+    #[tactic(auto, using(crate::proofs::ChangeLemmas::lost_change))]
+    pub(crate) fn change_of(&self, next: Next, step: Step, answer: StepAnswer) -> ThreadChange
+        requires room { self.now.own.bounds.first + self.now.own.bounds.limits.heap ≤ 2 ^ 32 }
         requires asked { CanBeAsked C.code (C.state self.now.code) next }
         requires names { NamesThread step answer }
+        requires levels { (s w : ℕ) → step ≡ Step.OpenLevel s w → self.now.own.levels < 255 }
         ensures meant { change_meant (thread_of C.state C.saved self.now) result
-            ≡ change_of C.code self.now.bounds (thread_of C.state C.saved self.now) next step answer }
+            ≡ change_of C.code self.now.own.bounds (thread_of C.state C.saved self.now) next step answer }
         ensures made_by { IsMadeBy step result }
     {
         match answer {
-            Answer::Found(word) => self.found(next, step, word),
-            Answer::Done => self.done(next, step),
-            Answer::Lost(_) => ThreadChange::Goes(Stage::Begin),
+            StepAnswer::Found(word) => self.found(next, step, word),
+            StepAnswer::Done => self.done(next, step),
+            StepAnswer::Lost(_) => self.lost_on(step),
         }
     }
 }

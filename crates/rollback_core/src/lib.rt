@@ -1,8 +1,4 @@
 //! A thread as it goes on the words that threads share, and one turn of it.
-//!
-//! A [`JThread`] is the code of a Java thread with what the thread alone knows of its section. It goes on by turns
-//! ([`turn`]): each makes the one move that `thread_automaton` says comes next, through a port that makes at most one
-//! step on the shared words.
 #![tactic(auto)]
 
 mod absorb;
@@ -10,9 +6,11 @@ mod answers;
 mod apply;
 mod change;
 mod checks;
+mod mark;
 mod monitors;
 mod next_move;
 mod quiet;
+mod ready;
 mod stack;
 mod thread;
 mod told;
@@ -20,7 +18,9 @@ mod turned;
 mod turning;
 
 pub(crate) use change::ThreadChange;
-pub use thread::{JThread, PrintedLine};
+pub use mark::SavedMark;
+pub use ready::{ReadyThread, turn};
+pub use stack::Stack;
+pub use thread::{JThread, Own, PrintedLine};
 pub(crate) use told::StepTold;
 pub use turned::Turn;
-pub use turning::turn;

@@ -1,18 +1,18 @@
 //! What a thread makes of the monitors that it has loaded, and how it takes and leaves them.
 
-ghost use Rattle.std.specs.Prelude.{◌≡◌, true, if◌then◌else◌};
-ghost use Rattle.section_state.specs.declared.State.{State};
+ghost use Rattle.std.specs.Prelude.{◌≡◌, true};
 ghost use Rattle.monitor_core.specs.Monitors.{is_own};
-ghost use Rattle.thread_automaton.specs.Monitors.{monitor_wanted, entry_depth, depth_behind, take_for, deepened, entering_free, entering_own, entering, is_only, exiting, monitor_loaded, let_go};
+ghost use Rattle.thread_automaton.specs.Monitors.{monitor_wanted, entry, take_for, deepened, needs_level, entering_free, entering_own, entering, leaving, exiting, monitor_loaded, let_go, depth_set};
+ghost use Rattle.thread_automaton.specs.Changes.{without};
 ghost use Rattle.rollback_core.specs.Thread.{thread_of};
 ghost use Rattle.rollback_core.specs.Change.{change_meant, IsPlain};
 
+use crate::next_move::held_word;
 use crate::{JThread, ThreadChange};
 use monitor_core::{MonitorWord, is_own};
 use op_core::{Limit, Next, Op, Reply, ThreadCode};
-use section_state::State;
 use step_port::Step;
-use thread_automaton::Stage;
+use thread_automaton::{Attempt, Held};
 
 // The monitor that is to be entered or left.
 pub(crate) fn monitor_wanted(next: Next) -> u32
@@ -26,46 +26,54 @@ pub(crate) fn monitor_wanted(next: Next) -> u32
 }
 
 impl<C: ThreadCode> JThread<C> {
-    // How often the wanted monitor is then entered.
-    fn entry_depth(&self, next: Next) -> u16
-        ensures { result ≡ entry_depth (thread_of C.state C.saved self.now) next }
+    // The wanted monitor, once it is taken with this open depth.
+    pub(crate) fn entry(&self, next: Next, levels: u8) -> Held
+        ensures { result ≡ entry (thread_of C.state C.saved self.now) next levels }
     {
         match next {
-            Next::Want(Op::Rewake(_)) => self.depth,
-            _ => 1,
-        }
-    }
-
-    // What is left of the depth that a wait gave up.
-    pub(crate) fn depth_behind(&self, next: Next) -> u16
-        ensures { result ≡ depth_behind (thread_of C.state C.saved self.now) next }
-    {
-        match next {
-            Next::Want(Op::Rewake(_)) => 0,
-            _ => self.depth,
+            Next::Want(Op::Rewake(object)) => Held {
+                object,
+                level: self.own.level,
+                depth: self.own.depth,
+            },
+            _ => Held {
+                object: monitor_wanted(next),
+                level: levels,
+                depth: 1,
+            },
         }
     }
 
     // The section takes the wanted monitor.
-    pub(crate) fn take_for(&self, next: Next, section: u32) -> Step
-        ensures { result ≡ take_for (thread_of C.state C.saved self.now) next section }
+    pub(crate) fn take_for(&self, next: Next, section: u32, levels: u8) -> Step
+        ensures { result ≡ take_for (thread_of C.state C.saved self.now) next section levels }
     {
-        let word = MonitorWord {
-            section,
-            depth: self.entry_depth(next),
-        };
-        Step::TakeMonitor(monitor_wanted(next), word.pack())
+        Step::TakeMonitor(
+            monitor_wanted(next),
+            held_word(section, self.entry(next, levels)),
+        )
     }
 
-    // The own section then holds the monitor so often.
-    fn deepened(&self, object: u32, depth: u16) -> Step
-        ensures { result ≡ deepened (thread_of C.state C.saved self.now) object depth }
+    // The own section then holds the monitor of this word so often.
+    fn deepened(&self, object: u32, monitor: u64, depth: u16) -> Step
+        ensures { result ≡ deepened (thread_of C.state C.saved self.now) object monitor depth }
     {
         let word = MonitorWord {
-            section: self.section,
+            section: self.own.section,
             depth,
+            level: MonitorWord::unpack(monitor).level,
         };
         Step::SetDepth(object, word.pack())
+    }
+
+    // A monitor that is taken needs a level of its own.
+    fn needs_level(&self, next: Next) -> bool
+        ensures { result ≡ needs_level (thread_of C.state C.saved self.now) next }
+    {
+        match next {
+            Next::Want(Op::Rewake(_)) => false,
+            _ => self.own.held.has_level(self.own.levels),
+        }
     }
 
     fn entering_free(&self, next: Next) -> ThreadChange
@@ -73,12 +81,19 @@ impl<C: ThreadCode> JThread<C> {
             ≡ entering_free (thread_of C.state C.saved self.now) next }
         ensures plain { IsPlain result }
     {
-        let step = if self.section == 0 {
-            Step::DrawSection
+        if self.own.section == 0 {
+            return ThreadChange::Goes(Attempt::Fixed(Step::DrawSection));
+        }
+        if !self.needs_level(next) {
+            let take = self.take_for(next, self.own.section, self.own.levels);
+            return ThreadChange::Goes(Attempt::Fixed(take));
+        }
+        if self.own.levels == 255 {
+            ThreadChange::Goes(Attempt::Full(Limit::Depth))
         } else {
-            self.take_for(next, self.section)
-        };
-        ThreadChange::Goes(Stage::Fixed(step))
+            let open = Step::OpenLevel(self.own.section, self.own_word());
+            ThreadChange::Goes(Attempt::Fixed(open))
+        }
     }
 
     fn entering_own(&self, object: u32, monitor: u64) -> ThreadChange
@@ -88,9 +103,9 @@ impl<C: ThreadCode> JThread<C> {
     {
         let depth = MonitorWord::unpack(monitor).depth;
         if depth == 65535 {
-            ThreadChange::Goes(Stage::Full(Limit::Depth))
+            ThreadChange::Goes(Attempt::Full(Limit::Depth))
         } else {
-            ThreadChange::Goes(Stage::Fixed(self.deepened(object, depth + 1)))
+            ThreadChange::Goes(Attempt::Fixed(self.deepened(object, monitor, depth + 1)))
         }
     }
 
@@ -101,21 +116,30 @@ impl<C: ThreadCode> JThread<C> {
     {
         if monitor == 0 {
             self.entering_free(next)
-        } else if is_own(monitor, self.section) {
+        } else if is_own(monitor, self.own.section) {
             self.entering_own(object, monitor)
         } else {
-            let holder = MonitorWord::unpack(monitor).section;
-            ThreadChange::Goes(Stage::Fixed(Step::LoadSection(holder)))
+            let holder = MonitorWord::unpack(monitor);
+            ThreadChange::Goes(Attempt::Meets(holder.section, holder.level))
         }
     }
 
-    // Nothing but the monitor of the object is held.
-    fn holds_only(&self, object: u32) -> bool
-        ensures { result ≡ is_only object self.now.held.newest_first }
+    // The monitor, of this level, is to be left altogether.
+    fn leaving(&self, object: u32, level: u8) -> ThreadChange
+        ensures meant { change_meant (thread_of C.state C.saved self.now) result
+            ≡ leaving (thread_of C.state C.saved self.now) object level (without object self.now.own.held.newest_first) }
+        ensures plain { IsPlain result }
     {
-        match self.held.as_slice() {
-            [only] => *only == object,
-            _ => false,
+        if !self.own.held.has_others(object) {
+            let commit = Step::Commit(self.own.section, self.own_word());
+            return ThreadChange::Goes(Attempt::Fixed(commit));
+        }
+        let highest = self.own.held.highest_of_others(object);
+        if highest < level {
+            let close = Step::CloseLevel(self.own.section, self.own_word(), highest);
+            ThreadChange::Goes(Attempt::Fixed(close))
+        } else {
+            ThreadChange::Goes(self.to_pin(Next::Want(Op::Exit(object))))
         }
     }
 
@@ -124,42 +148,25 @@ impl<C: ThreadCode> JThread<C> {
             ≡ exiting (thread_of C.state C.saved self.now) object monitor }
         ensures plain { IsPlain result }
     {
-        let depth = MonitorWord::unpack(monitor).depth;
-        let step = if depth > 1 {
-            self.deepened(object, depth - 1)
-        } else if self.holds_only(object) {
-            Step::Commit(self.section, self.own_word(self.state_seen()))
+        let word = MonitorWord::unpack(monitor);
+        if word.depth > 1 {
+            let step = self.deepened(object, monitor, word.depth - 1);
+            ThreadChange::Goes(Attempt::Fixed(step))
         } else {
-            Step::Release(object)
-        };
-        ThreadChange::Goes(Stage::Fixed(step))
-    }
-
-    // The state in which it last saw its open section.
-    fn state_seen(&self) -> State
-        ensures { result ≡ (if self.now.pinned then State.Pinned else State.Live) }
-    {
-        if self.pinned {
-            State::Pinned
-        } else {
-            State::Live
+            self.leaving(object, word.level)
         }
     }
 
     // The monitor is to be left, given up by a wait, or notified by its owner.
     fn owned(&self, next: Next, object: u32, monitor: u64) -> ThreadChange
-        requires { is_own monitor self.now.section ≡ true }
+        requires { is_own monitor self.now.own.section ≡ true }
         ensures meant { change_meant (thread_of C.state C.saved self.now) result
             ≡ monitor_loaded (thread_of C.state C.saved self.now) next object monitor }
         ensures plain { IsPlain result }
     {
         match next {
             Next::Want(Op::Exit(_)) => self.exiting(object, monitor),
-            Next::Want(Op::Wait(_)) => {
-                let depth = MonitorWord::unpack(monitor).depth;
-                ThreadChange::GivesUp(depth, self.to_pin(next))
-            }
-            Next::Want(Op::Notify(_)) => ThreadChange::Goes(self.to_pin(next)),
+            Next::Want(Op::Wait(_) | Op::Notify(_)) => ThreadChange::Goes(self.to_pin(next)),
             _ => self.entering(next, object, monitor),
         }
     }
@@ -169,7 +176,7 @@ impl<C: ThreadCode> JThread<C> {
             ≡ monitor_loaded (thread_of C.state C.saved self.now) next object monitor }
         ensures plain { IsPlain result }
     {
-        if is_own(monitor, self.section) {
+        if is_own(monitor, self.own.section) {
             return self.owned(next, object, monitor);
         }
         match next {
@@ -182,13 +189,24 @@ impl<C: ThreadCode> JThread<C> {
 
     pub(crate) fn let_go(&self, next: Next, object: u32) -> ThreadChange
         ensures meant { change_meant (thread_of C.state C.saved self.now) result
-            ≡ let_go (thread_of C.state C.saved self.now) next self.now.stage object }
+            ≡ let_go (thread_of C.state C.saved self.now) next self.now.own.attempt object }
         ensures plain { IsPlain result }
     {
-        match (self.stage, next) {
-            (Stage::Undoing(_), _) => ThreadChange::GivesBack,
+        match (self.own.attempt, next) {
+            (Attempt::Undoing(_), _) => ThreadChange::GivesBack(object),
             (_, Next::Want(Op::Wait(_))) => ThreadChange::Waits(object),
             _ => ThreadChange::Leaves(object),
+        }
+    }
+
+    // The monitor, which was held already, has this depth now.
+    pub(crate) fn depth_set(&self, object: u32, depth: u16) -> ThreadChange
+        ensures meant { change_meant (thread_of C.state C.saved self.now) result ≡ depth_set self.now.own.attempt object depth }
+        ensures plain { IsPlain result }
+    {
+        match self.own.attempt {
+            Attempt::Undoing(_) => ThreadChange::SetsBack(object, depth),
+            _ => ThreadChange::Deepens(object, depth),
         }
     }
 }

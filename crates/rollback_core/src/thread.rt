@@ -1,81 +1,98 @@
-//! A Java thread with its printed lines and what it alone knows of its section.
+//! A Java thread: its code, and what is kept of it beside the code.
 
-ghost use Rattle.std.specs.Prelude.{◌≡◌, [], length, map, reverse};
+ghost use Rattle.std.specs.Prelude.{◌≡◌, None, [], length, map, reverse};
 ghost use Rattle.thread_automaton.specs.ThreadState.{first_state};
 ghost use Rattle.automaton_rows.specs.Fits.{IsFit};
 ghost use Rattle.rollback_core.specs.Thread.{printed, thread_of, AreCounted};
 
+use crate::mark::SavedMark;
 use crate::stack::Stack;
 use op_core::{Line, ThreadCode};
 use std::alloc::Global;
-use thread_automaton::{Bounds, Stage};
+use thread_automaton::{Attempt, Bounds, Held};
 use write_log::WriteLog;
 
 /// A printed line.
 #[derive(Clone, Copy)]
 pub struct PrintedLine {
-    /// Where the line stands among those of all threads, from 0.
+    /// The place of the line among those of all threads, from 0.
     pub ticket: u64,
     /// What was printed.
     pub line: Line,
 }
 
-/// A Java thread: its code, how far it is with what it does next, and what it alone knows of its section.
+/// A Java thread: its code, and what is kept of it beside the code.
 #[derive(Drop)]
 pub struct JThread<C> {
+    pub(crate) code: C,
+    pub(crate) own: Own,
+}
+
+/// What is kept of a thread beside its code: how far it is with what it does next, and what it alone knows of its section.
+#[derive(Drop)]
+pub struct Own {
     pub(crate) alloc: Global,
     pub(crate) bounds: Bounds,
-    pub(crate) code: C,
     pub(crate) number: u8,
     pub(crate) priority: u8,
-    // Beside the saved local state the number of silent moves at the save.
-    pub(crate) mark: Option<u64>,
+    // Beside each saved local state how the thread was at the save, oldest first.
+    pub(crate) marks: Vec<SavedMark>,
+    // The mark of a level that is about to open, whose save is on top of the others.
+    pub(crate) opening: Option<SavedMark>,
     pub(crate) section: u32,
-    pub(crate) pinned: bool,
+    pub(crate) levels: u8,
+    pub(crate) pinned: u8,
     pub(crate) known: u32,
+    pub(crate) known_depth: u8,
     pub(crate) log: WriteLog,
-    pub(crate) held: Stack<u32>,
-    pub(crate) giving: u16,
+    pub(crate) held: Stack<Held>,
     pub(crate) depth: u16,
+    pub(crate) level: u8,
     pub(crate) counted: u64,
     pub(crate) silents: u64,
     pub(crate) lines: Stack<PrintedLine>,
     pub(crate) over: bool,
-    pub(crate) stage: Stage,
+    pub(crate) attempt: Attempt,
     pub(crate) last_kind: u8,
 }
 
 impl<C: ThreadCode> JThread<C> {
     /// A thread of this number (from 1) and priority (1 to 10 in Java) that begins at the local state of its code, of
     /// which nothing must be saved. Takes no memory.
-    pub fn first(alloc: Global, code: C, number: u8, priority: u8, bounds: Bounds) -> Self
+    pub(crate) fn first(alloc: Global, code: C, number: u8, priority: u8, bounds: Bounds) -> Self
         requires { C.saved code ≡ [] }
         ensures thread { thread_of C.state C.saved result ≡ first_state number priority (C.state code) }
         ensures fits { IsFit C.code (thread_of C.state C.saved result) }
         ensures counts { AreCounted (thread_of C.state C.saved result) }
-        ensures bounds { result.bounds ≡ bounds }
-        ensures last_kind { result.last_kind ≡ 0 }
+        ensures settled { result.own.opening ≡ None }
+        ensures bounds { result.own.bounds ≡ bounds }
+        ensures last_kind { result.own.last_kind ≡ 0 }
     {
         JThread {
-            alloc,
-            bounds,
             code,
-            number,
-            priority,
-            mark: None,
-            section: 0,
-            pinned: false,
-            known: 0,
-            log: WriteLog::empty(alloc),
-            held: Stack::empty(alloc),
-            giving: 0,
-            depth: 0,
-            counted: 0,
-            silents: 0,
-            lines: Stack::empty(alloc),
-            over: false,
-            stage: Stage::Begin,
-            last_kind: 0,
+            own: Own {
+                alloc,
+                bounds,
+                number,
+                priority,
+                marks: Vec::new(alloc),
+                opening: None,
+                section: 0,
+                levels: 0,
+                pinned: 0,
+                known: 0,
+                known_depth: 0,
+                log: WriteLog::empty(alloc),
+                held: Stack::empty(alloc),
+                depth: 0,
+                level: 1,
+                counted: 0,
+                silents: 0,
+                lines: Stack::empty(alloc),
+                over: false,
+                attempt: Attempt::Begin,
+                last_kind: 0,
+            },
         }
     }
 
@@ -83,17 +100,17 @@ impl<C: ThreadCode> JThread<C> {
     pub fn number(&self) -> u8
         ensures { result ≡ (thread_of C.state C.saved self.now).number }
     {
-        self.number
+        self.own.number
     }
 
     /// Its priority.
     pub fn priority(&self) -> u8
         ensures { result ≡ (thread_of C.state C.saved self.now).priority }
     {
-        self.priority
+        self.own.priority
     }
 
-    /// Its code, as it stands now.
+    /// Its code, as it is now.
     pub fn code(&self) -> &C
         ensures { result.now ≡ self.now.code }
     {
@@ -102,57 +119,64 @@ impl<C: ThreadCode> JThread<C> {
 
     /// What bounds its run.
     pub fn bounds(&self) -> Bounds
-        ensures { result ≡ self.now.bounds }
+        ensures { result ≡ self.now.own.bounds }
     {
-        self.bounds
+        self.own.bounds
     }
 
     /// The number of the section that it has open, or 0.
     pub fn section(&self) -> u32
         ensures { result ≡ (thread_of C.state C.saved self.now).section }
     {
-        self.section
+        self.own.section
+    }
+
+    /// How many levels of it are open.
+    pub fn levels(&self) -> u8
+        ensures { result ≡ (thread_of C.state C.saved self.now).levels }
+    {
+        self.own.levels
     }
 
     /// How far it is with what it does next.
-    pub fn stage(&self) -> Stage
-        ensures { result ≡ (thread_of C.state C.saved self.now).stage }
+    pub fn attempt(&self) -> Attempt
+        ensures { result ≡ (thread_of C.state C.saved self.now).attempt }
     {
-        self.stage
+        self.own.attempt
     }
 
     /// Whether it has ended.
     pub fn is_over(&self) -> bool
         ensures { result ≡ (thread_of C.state C.saved self.now).over }
     {
-        self.over
+        self.own.over
     }
 
     /// Its turns that count.
     pub fn counted(&self) -> u64
         ensures { result ≡ (thread_of C.state C.saved self.now).counted }
     {
-        self.counted
+        self.own.counted
     }
 
-    /// The number of the kind of the step that its last turn made (1 to 30), or 0 where that turn made none.
+    /// The number of the kind of the step that its last turn made (1 to 30, 32 and 33), or 0 where that turn made none.
     pub fn last_kind(&self) -> u8
-        ensures { result ≡ self.now.last_kind }
+        ensures { result ≡ self.now.own.last_kind }
     {
-        self.last_kind
+        self.own.last_kind
     }
 
     /// How many words it has noted, so that they can be put back.
     pub fn log_len(&self) -> usize
         ensures { result ≡ length (thread_of C.state C.saved self.now).log }
     {
-        self.log.len()
+        self.own.log.len()
     }
 
     /// What it printed, the oldest line first.
     pub fn lines(&self) -> &[PrintedLine]
         ensures { (thread_of C.state C.saved self.now).lines ≡ map printed (reverse result.now) }
     {
-        self.lines.as_slice()
+        self.own.lines.as_slice()
     }
 }

@@ -10,8 +10,8 @@ ghost use Rattle.rollback_core.specs.Told.{told_meant};
 use crate::{JThread, ThreadChange};
 use monitor_core::Why;
 use op_core::{Next, Op, Reply, ThreadCode};
-use step_port::{Answer, Effect, Step};
-use thread_automaton::Stage;
+use step_port::{Effect, Step, StepAnswer};
+use thread_automaton::Attempt;
 
 /// What a turn tells of the step that it made.
 #[derive(Clone, Copy)]
@@ -48,11 +48,12 @@ impl<C: ThreadCode> JThread<C> {
     {
         match change {
             ThreadChange::Replies(reply) => Some(reply),
-            ThreadChange::Goes(Stage::Fixed(Step::Split(thread, _, _))) => {
+            ThreadChange::Goes(Attempt::Fixed(Step::Split(thread, _, _))) => {
                 Some(Reply::Number(thread))
             }
             ThreadChange::Writes(_)
-            | ThreadChange::Takes(_, _)
+            | ThreadChange::Takes(_)
+            | ThreadChange::Deepens(_, _)
             | ThreadChange::Leaves(_)
             | ThreadChange::Waits(_)
             | ThreadChange::Prints(_, _)
@@ -76,14 +77,14 @@ impl<C: ThreadCode> JThread<C> {
         &self,
         next: Next,
         step: Step,
-        answer: Answer,
+        answer: StepAnswer,
         change: ThreadChange,
     ) -> StepTold
         ensures { told_meant result ≡ told_of next step answer (change_meant (thread_of C.state C.saved self.now) change)
             (shown (change_meant (thread_of C.state C.saved self.now) change)) }
     {
         match (answer, step) {
-            (Answer::Lost(found), _) => StepTold::Lost(found),
+            (StepAnswer::Lost(found), _) => StepTold::Lost(found),
             (_, Step::Split(_, _, _)) => StepTold::Born,
             _ => match self.shown(change) {
                 Some(reply) => StepTold::Advanced(Some(reply)),

@@ -1,15 +1,13 @@
--- Pinned sections stay in runs as lists.
+-- The facts on sections along a run that is one list.
 use Rattle.std.proofs.Common.{◌≡◌, ◌≢◌, ◌⊎◌, inl, inr, ℕ, zero, suc, ◌<◌, Bool, true, false, List, [], ◌∷◌, nat_eq, refl, sym, ◌∙◌, ap, subst, arith}
 use Rattle.std.specs.Prelude.{Contains, if◌then◌else◌}
 use Rattle.std.proofs.lemmas.Grind.{common_steps}
 use Rattle.std.proofs.lemmas.Bool.Decides.{nat_tests}
 use Rattle.op_core.specs.ThreadCode.{Code}
 use Rattle.heap_words.specs.declared.areas.Area.TheVariants.{Section}
-use Rattle.section_state.specs.declared.State.TheVariants.{Pinned, Committed}
-use Rattle.section_state.specs.SectionWord.{with_state, state_of}
-use Rattle.step_port.specs.declared.answer.Answer.{Answer}
+use Rattle.section_state.specs.SectionWord.{state_of}
 use Rattle.step_port.specs.declared.step.Step.{Step}
-use Rattle.step_port.specs.declared.step.Step.TheVariants.{Pin, Revoke, Split}
+use Rattle.step_port.specs.declared.step.Step.TheVariants.{Split}
 use Rattle.step_port.specs.Steps.{effect_of}
 use Rattle.step_port.specs.Words.{Words, CanAnswer, words_after}
 use Rattle.thread_automaton.specs.declared.Bounds.{Bounds}
@@ -19,16 +17,13 @@ use Rattle.thread_automaton.specs.NextMove.{next_move}
 use Rattle.thread_automaton.specs.Told.{after_answer}
 use Rattle.automaton_rows.specs.Fits.{IsFit}
 use Rattle.automaton_rows.proofs.RowLemmas.{words_can_answer}
-use Rattle.automaton_rows.proofs.FitLemmas.{answers_keep, silent_steps_keep}
+use Rattle.automaton_rows.proofs.FitLemmas.{answers_keep}
 use Rattle.core_runs.specs.WordRuns.{StepMade, RunEntry, words_by, part_of}
 use Rattle.core_runs.specs.OwnParts.{is_beside, Quietly, MakesOwn, OwnTo, IsOwnPart, Birth, births_after, births, IsCoreRun}
 use Rattle.section_laws.specs.Runs.{BeginsAt, RunsBeginWithRuns}
-use Rattle.section_laws.specs.Pinning.{StaysPinnedIn, PinnedSectionsStayInRuns}
-use Rattle.section_laws.proofs.WordLemmas.{state_replaced, is_state, exchanged, put_section}
-use Rattle.section_laws.proofs.DeedLemmas.{view, calm, Deed, deed_of, done_as}
+use Rattle.section_laws.proofs.DeedLemmas.{view, calm, Deed, deed_of}
 use Rattle.section_laws.proofs.ClaimLemmas.{section_changes}
-use Rattle.section_laws.proofs.FactLemmas.{Facts, came_other, came_own, step_facts, Calmed, as_before, calmed, still_facts, first_facts, beside_facts}
-use Rattle.section_laws.proofs.PinLemmas.{Moves, Settled, Gone, state_moves, settled_follows, gone_follows, change_moves, beside_stays}
+use Rattle.section_laws.proofs.FactLemmas.{silent_steps_keep, Facts, touched_some, stays_opened, came_other, came_own, step_facts, Calmed, as_before, calmed, still_facts, first_facts, beside_touches, beside_facts}
 
 -- ---- lists
 
@@ -156,8 +151,8 @@ module _ {S : Type 0} (code : Code S) (b : Bounds) where
 
       -- a thread that stands there and makes the step
       pub deed_by : (z : ThreadState S) → StandsIn run e.thread z → next_move code b z ≡ Make e.made.step
-          → Deed code z e.made.step e.made.answer (view (after_answer code b z e.made.step e.made.answer))
-      deed_by z at move = deed_of code b z before e.made.step e.made.answer (facts.fit e.thread z at).stage move so.words.1
+          → Deed z e.made.step e.made.answer (view (after_answer code b z e.made.step e.made.answer))
+      deed_by z at move = deed_of code b z before e.made.step e.made.answer (facts.fit e.thread z at) move so.words.1
 
       right_facts : (t : Bool) → is_beside e.made.step ≡ t → Facts code (words_by w (e ∷ run)) (StandsRight (e ∷ run))
       right_facts true is =
@@ -175,15 +170,15 @@ module _ {S : Type 0} (code : Code S) (b : Bounds) where
             | by_other other there ↦ came_other other there
             | by_itself own z there makes ↦
                 let does = subst (λ t. MakesOwn t code b e.made z y) is makes in
-                came_own own z there (subst (λ x. Deed code z e.made.step e.made.answer (view x)) (sym does.1) (deed_by z there does.0))
+                came_own own z there (subst (λ x. Deed z e.made.step e.made.answer (view x)) (sym does.1) (deed_by z there does.0))
                 (subst (IsFit code) (sym does.1) (answers_keep code b z e.made.step e.made.answer (facts.fit e.thread z there) does.0 can))
           ])
 
-      pub entry_moves : (t : Bool) → is_beside e.made.step ≡ t → (s : ℕ) → Moves (before (Section s)) (words_after e.made.step before (Section s))
-      entry_moves true is s = inl (beside_stays e.made.step before s is)
-      entry_moves false is s =
+      pub entry_opened : (t : Bool) → is_beside e.made.step ≡ t → (s : ℕ) → 0 < state_of (before (Section s)) → 0 < state_of (words_after e.made.step before (Section s))
+      entry_opened true is s some = touched_some (beside_touches e.made.step before s is) some
+      entry_opened false is s some =
           let one = maker e run so is in
-          change_moves code before (StandsIn run) facts e.thread one.thread one.stands s _ (section_changes code one.thread before (deed_by one.thread one.stands one.move) so.words.1 s)
+          stays_opened (section_changes one.thread before (deed_by one.thread one.stands one.move) so.words.1 s) some
 
     pub run_facts : (run : List RunEntry) → IsRun run → Facts code (words_by w run) (StandsIn run)
     run_facts [] so = settle_down w [] (first_facts code w (StandsRight []) none (λ u th at. subst BeginsAt at.own at.begins))
@@ -194,61 +189,8 @@ module _ {S : Type 0} (code : Code S) (b : Bounds) where
     abbrev pub state : List RunEntry → ℕ → ℕ
     state run s = state_of (words_by w run (Section s))
 
-    pub onwards : (P : ℕ → Type 0) → ((old new : ℕ) → Moves old new → P (state_of old) → P (state_of new)) → (e : RunEntry) (run : List RunEntry) → IsRun (e ∷ run) → (s : ℕ)
-        → P (state run s) → P (state (e ∷ run) s)
-    onwards P keeps e run so s = keeps _ _ (entry_moves e run so (run_facts run (sub_run e run so)) (is_beside e.made.step) refl s)
-
-    abbrev pin_of : ℕ → ℕ → ℕ → RunEntry
-    pin_of t s x = record { thread = t; made = record { step = Pin s x; answer = Answer.Done } }
-
-    abbrev revoke_of : ℕ → ℕ → ℕ → RunEntry
-    revoke_of t s x = record { thread = t; made = record { step = Revoke s x; answer = Answer.Done } }
-
-    pinned_from : (t s x : ℕ) (run : List RunEntry) → IsRun (pin_of t s x ∷ run) → (state run s ≡ 1) × (state (pin_of t s x ∷ run) s ≡ 2)
-    pinned_from t s x run so =
-        let facts = run_facts run (sub_run (pin_of t s x) run so) in
-        let one = maker (pin_of t s x) run so refl in
-        let live : state_of x ≡ 1 = done_as (deed_by (pin_of t s x) run so facts one.thread one.stands one.move) refl in
-        let e = exchanged (words_by w run) (Section s) x (with_state x 2) so.words.1 in
-        (ap state_of e.found ∙ live, ap (λ (v : Words). state_of (v (Section s))) e.leaves ∙ ap state_of (put_section (words_by w run) s (with_state x 2)) ∙ state_replaced x 2 (omega arith))
-
-    revoked_from : (t s x : ℕ) (run : List RunEntry) → IsRun (revoke_of t s x ∷ run) → (state run s ≡ 1) × (state (revoke_of t s x ∷ run) s ≡ 3)
-    revoked_from t s x run so =
-        let facts = run_facts run (sub_run (revoke_of t s x) run so) in
-        let one = maker (revoke_of t s x) run so refl in
-        let live : state_of x ≡ 1 = done_as (deed_by (revoke_of t s x) run so facts one.thread one.stands one.move) refl in
-        let e = exchanged (words_by w run) (Section s) x (with_state x 3) so.words.1 in
-        (ap state_of e.found ∙ live, ap (λ (v : Words). state_of (v (Section s))) e.leaves ∙ ap state_of (put_section (words_by w run) s (with_state x 3)) ∙ state_replaced x 3 (omega arith))
-
-    pub gone_in : (run : List RunEntry) → IsRun run → (u s x : ℕ) → Contains run (revoke_of u s x) → Gone (state run s)
-    gone_in [] so u s x there = none_there _ there
-    gone_in (e ∷ run) so u s x there = elim (in_front e (revoke_of u s x) run there) [
-      | inl is ↦ subst (λ z. IsRun (z ∷ run) → Gone (state (z ∷ run) s)) (sym is) (λ now. inl (revoked_from u s x run now).1) so
-      | inr before ↦ onwards Gone (state_moves Gone (λ no. omega (arith, no)) gone_follows) e run so s (gone_in run (sub_run e run so) u s x before)
-    ]
-
-    pub settled_in : (run : List RunEntry) → IsRun run → (t s x : ℕ) → Contains run (pin_of t s x) → Settled (state run s)
-    settled_in [] so t s x there = none_there _ there
-    settled_in (e ∷ run) so t s x there = elim (in_front e (pin_of t s x) run there) [
-      | inl is ↦ subst (λ z. IsRun (z ∷ run) → Settled (state (z ∷ run) s)) (sym is) (λ now. inl (pinned_from t s x run now).1) so
-      | inr before ↦ onwards Settled (state_moves Settled (λ no. omega (arith, no)) settled_follows) e run so s (settled_in run (sub_run e run so) t s x before)
-    ]
-
-    -- both can't be
-    stays_pinned_in : (run : List RunEntry) → IsRun run → (t s x : ℕ) → Contains run (pin_of t s x) → StaysPinnedIn w run s
-    stays_pinned_in run so t s x there = record {
-      stays = elim (settled_in run so t s x there) [
-        | inl pinned ↦ inl (is_state Pinned (words_by w run (Section s)) pinned)
-        | inr committed ↦ inr (is_state Committed (words_by w run (Section s)) committed)
-      ];
-      unrevoked = λ u y revoked. not_both (state run s) (settled_in run so t s x there) (gone_in run so u s y revoked);
-    }
-      where
-        not_both : (n : ℕ) → Settled n → Gone n → ⊥
-        not_both n settled gone = omega (arith, settled, gone)
-
-pub pinned_stay_in_runs : {S : Type 0} (code : Code S) → PinnedSectionsStayInRuns code
-pinned_stay_in_runs code b first main w run so t s x there = stays_pinned_in code b first main w so.sections so.threads run so.is_run t s x there
+    pub onwards : (e : RunEntry) (run : List RunEntry) → IsRun (e ∷ run) → (s : ℕ) → 0 < state run s → 0 < state (e ∷ run) s
+    onwards e run so s some = entry_opened e run so (run_facts run (sub_run e run so)) (is_beside e.made.step) refl s some
 
 pub begin_with_runs : {S : Type 0} (code : Code S) → RunsBeginWithRuns code
 begin_with_runs code b first main w e run so =

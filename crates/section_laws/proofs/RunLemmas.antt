@@ -4,7 +4,7 @@ use Rattle.std.specs.Prelude.{slice_get}
 use Rattle.std.proofs.lemmas.Option.{same_Some}
 use Rattle.op_core.specs.ThreadCode.{Code}
 use Rattle.op_core.specs.OrdinaryState.{set_at}
-use Rattle.step_port.specs.declared.answer.Answer.{Answer}
+use Rattle.step_port.specs.declared.answer.StepAnswer.{StepAnswer}
 use Rattle.step_port.specs.declared.step.Step.{Step}
 use Rattle.step_port.specs.declared.step.Step.TheVariants.{Split}
 use Rattle.step_port.specs.Steps.{effect_of}
@@ -13,13 +13,13 @@ use Rattle.thread_automaton.specs.declared.Bounds.{Bounds}
 use Rattle.thread_automaton.specs.ThreadState.{ThreadState, first_state}
 use Rattle.thread_automaton.specs.Told.{after_answer, after_quiet}
 use Rattle.automaton_rows.proofs.RowLemmas.{words_can_answer}
-use Rattle.automaton_rows.proofs.FitLemmas.{answers_keep, silent_steps_keep}
+use Rattle.automaton_rows.proofs.FitLemmas.{answers_keep}
 use Rattle.core_runs.specs.Cores.{Core, threads_by}
 use Rattle.core_runs.specs.Acts.{Act, quiet, did, beside, QuietAt, DidAt, ActAt, ActFrom}
 use Rattle.section_laws.specs.Runs.{IsBeginning, IsRun}
 use Rattle.section_laws.proofs.DeedLemmas.{view, Deed, deed_of}
 use Rattle.section_laws.proofs.ClaimLemmas.{none_some}
-use Rattle.section_laws.proofs.FactLemmas.{Threads, InThreads, Facts, each, came_other, came_own, step_facts, Still, as_before, calmed, just_begun, still_facts, first_facts, beside_facts}
+use Rattle.section_laws.proofs.FactLemmas.{silent_steps_keep, Threads, InThreads, Facts, each, came_other, came_own, step_facts, Still, as_before, calmed, just_begun, still_facts, first_facts, beside_facts}
 
 -- ---- lists of acts
 
@@ -64,11 +64,11 @@ module _ {S : Type 0} (code : Code S) where
 
   module _ (b : Bounds) (c : ℕ → Core S) (k : ℕ) where
     -- what the thread does with its step
-    pub deed_at : {t : ℕ} {step : Step} {a : Answer} (at : DidAt code b c k t step a) → Known code (c k)
-        → Deed code at.from step a (view (after_answer code b at.from step a))
-    deed_at {t} {step} {a} at facts = deed_of code b at.from (c k).words step a (facts.fit t at.from at.stands).stage at.move at.answered
+    pub deed_at : {t : ℕ} {step : Step} {a : StepAnswer} (at : DidAt code b c k t step a) → Known code (c k)
+        → Deed at.from step a (view (after_answer code b at.from step a))
+    deed_at {t} {step} {a} at facts = deed_of code b at.from (c k).words step a (facts.fit t at.from at.stands) at.move at.answered
 
-    did_facts : (t : ℕ) (step : Step) (a : Answer) → DidAt code b c k t step a → Known code (c k) → Known code (c (suc k))
+    did_facts : (t : ℕ) (step : Step) (a : StepAnswer) → DidAt code b c k t step a → Known code (c k) → Known code (c (suc k))
     did_facts t step a at facts =
         let can : CanAnswer (effect_of step) a = subst (CanAnswer (effect_of step)) (sym at.answered) (words_can_answer (c k).words step) in
         let y : ThreadState S = after_answer code b at.from step a in

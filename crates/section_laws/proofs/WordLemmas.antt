@@ -1,37 +1,64 @@
--- What steps make of the words of sections and of objects.
-use Rattle.std.proofs.Common.{◌≡◌, ℕ, ◌+◌, ◌^◌, ◌<◌, Bool, true, false, nat_eq, refl, sym, ap, subst, arith}
-use Rattle.std.specs.Prelude.{if◌then◌else◌}
+-- What steps make of the words of sections.
+use Rattle.std.proofs.Common.{◌≡◌, ℕ, ◌+◌, ◌-◌, ◌^◌, ◌<◌, Bool, true, false, nat_eq, refl, sym, ◌∙◌, ap, subst, arith}
+use Rattle.std.specs.Prelude.{nat_le, if◌then◌else◌}
 use Rattle.std.proofs.lemmas.Grind.{common_steps}
 use Rattle.std.proofs.lemmas.Bool.Decides.{nat_tests}
 use Rattle.heap_words.specs.declared.areas.Area.{Area}
 use Rattle.heap_words.specs.declared.areas.Area.TheVariants.{Section}
-use Rattle.heap_words.specs.Words.{pack, tag_of}
 use Rattle.section_state.specs.declared.State.{State}
-use Rattle.section_state.specs.SectionWord.{number_of, section_word, state_of, with_state}
+use Rattle.section_state.specs.SectionWord.{number_of, section_word, state_of, revoke_of, with_state, with_pinned, with_depth, with_revoke, revoked_of, committed_of, undone_of}
 use Rattle.monitor_core.specs.Contention.{is_in}
-use Rattle.step_port.specs.declared.answer.Answer.{Answer}
-use Rattle.step_port.specs.declared.answer.Answer.TheVariants.{Found, Done, Lost}
+use Rattle.step_port.specs.declared.answer.StepAnswer.{StepAnswer}
+use Rattle.step_port.specs.declared.answer.StepAnswer.TheVariants.{Found, Done, Lost}
 use Rattle.step_port.specs.declared.step.Effect.{Effect}
 use Rattle.step_port.specs.declared.step.Effect.TheVariants.{Load, Store, Exchange, Add}
 use Rattle.step_port.specs.Words.{Words, area_eq, put_at, put_by, answer_to}
 
--- ---- states and tags
+-- ---- states
 
 pub state_replaced : (w n : ℕ) → n < 2 ^ 8 → state_of (with_state w n) ≡ n
 unfolding state_of with_state
 state_replaced w n below = omega arith
 
-pub state_packed : (n owner priority : ℕ) → n < 2 ^ 8 → state_of (section_word n owner priority) ≡ n
+pub state_pinned : (w n : ℕ) → state_of (with_pinned w n) ≡ state_of w
+unfolding state_of with_pinned
+state_pinned w n = omega arith
+
+state_deep : (w n : ℕ) → state_of (with_depth w n) ≡ state_of w
+unfolding state_of with_depth
+state_deep w n = omega arith
+
+state_turned : (w n : ℕ) → state_of (with_revoke w n) ≡ state_of w
+unfolding state_of with_revoke
+state_turned w n = omega arith
+
+pub state_packed : (s o p n d r : ℕ) → s < 2 ^ 8 → state_of (section_word s o p n d r) ≡ s
 unfolding state_of section_word
-state_packed n owner priority below = omega arith
+state_packed s o p n d r below = omega arith
 
 pub state_of_zero : state_of 0 ≡ 0
 unfolding state_of
 state_of_zero = refl
 
-pub tag_packed : (v tag : ℕ) → v < 2 ^ 32 → tag_of (pack v tag) ≡ tag
-unfolding tag_of pack
-tag_packed v tag below = omega arith
+-- what a section's word may be changed to has a state
+pub pinned_some : (w n : ℕ) → state_of w ≡ 1 → 0 < state_of (with_pinned w n)
+pinned_some w n live = let now = state_pinned w n in omega (arith, live, now)
+
+pub deep_some : (w n : ℕ) → state_of w ≡ 1 → 0 < state_of (with_depth w n)
+deep_some w n live = let now = state_deep w n in omega (arith, live, now)
+
+pub revoked_some : (w n : ℕ) → 0 < state_of (revoked_of w n)
+revoked_some w n = let now = state_turned (with_state w 3) n ∙ state_replaced w 3 (omega arith) in omega (arith, now)
+
+pub committed_some : (w : ℕ) → 0 < state_of (committed_of w)
+committed_some w = let now = state_replaced w 5 (omega arith) in omega (arith, now)
+
+pub undone_some : (w : ℕ) → 0 < state_of (undone_of w)
+undone_some w = by_test (nat_le (revoke_of w) 1)
+  where
+    by_test : (t : Bool) → 0 < state_of (with_revoke (if t then with_state w 4 else with_depth (with_state w 1) (revoke_of w - 1)) 0)
+    by_test true = let now = state_turned (with_state w 4) 0 ∙ state_replaced w 4 (omega arith) in omega (arith, now)
+    by_test false = let now = state_turned (with_depth (with_state w 1) (revoke_of w - 1)) 0 ∙ state_deep (with_state w 1) (revoke_of w - 1) ∙ state_replaced w 1 (omega arith) in omega (arith, now)
 
 pub state_is : (state : State) (w : ℕ) → is_in state w ≡ true → state_of w ≡ number_of state
 state_is state w is = grind (arith, common_steps, nat_tests)
@@ -41,11 +68,11 @@ is_state state w is = grind (arith, common_steps, nat_tests)
 
 -- ---- what is done with one word
 
-abbrev IsLost : Answer → Type 0
+abbrev IsLost : StepAnswer → Type 0
 IsLost (Lost v) = Unit {0}
 IsLost answer = ⊥
 
-not_lost : {A : Type 0} (v : ℕ) (a : Answer) → (IsLost a → ⊥) → Lost v ≡ a → A
+not_lost : {A : Type 0} (v : ℕ) (a : StepAnswer) → (IsLost a → ⊥) → Lost v ≡ a → A
 not_lost v a other is = absurd (other (subst IsLost is tt))
 
 -- a compare-exchange that is done has found the word that it expected

@@ -1,9 +1,2 @@
 pub mod Runs
-pub mod Pinning
-pub mod Observed
-pub mod Undoing
-pub mod Layout
-pub mod UndoOrder
-pub mod Gone
 pub mod InRuns
-pub mod Example

@@ -52,7 +52,7 @@ mapped_more f xs i x at = sym (ap (map f) (take_next xs i x at) ∙ map-append f
 -- ---- the words that are kept
 
 pub kept_right : (us : List ClassUnit) (files : List (List ℕ)) (c i : ℕ) → files ≡ map (class_words_of_unit (program_names us)) us → kept_word files c i ≡ static_value (program_names us) us c i
-kept_right us files c i are = ap (λ xs. kept_word xs c i) are ∙ go (nat_le c 27)
+kept_right us files c i are = ap (λ xs. kept_word xs c i) are ∙ go (nat_le c 28)
   where
     its : List ℕ → ℕ
     its words = unwrap_or (slice_get words i) 0
@@ -64,7 +64,7 @@ kept_right us files c i are = ap (λ xs. kept_word xs c i) are ∙ go (nat_le c 
     at_file None = refl
     at_file (Some u) = refl
 
-    go : (b : Bool) → unwrap_or (slice_get (option_map_or (λ (words : List ℕ). words) (cond b None (slice_get (map (class_words_of_unit (program_names us)) us) (c - 28))) []) i) 0
-        ≡ unwrap_or (slice_get (option_map_or (class_words_of_unit (program_names us)) (cond b None (slice_get us (c - 28))) []) i) 0
+    go : (b : Bool) → unwrap_or (slice_get (option_map_or (λ (words : List ℕ). words) (cond b None (slice_get (map (class_words_of_unit (program_names us)) us) (c - 29))) []) i) 0
+        ≡ unwrap_or (slice_get (option_map_or (class_words_of_unit (program_names us)) (cond b None (slice_get us (c - 29))) []) i) 0
     go true = refl
-    go false = ap (λ (words : List ℕ). unwrap_or (slice_get words i) 0) (ap (λ o. option_map_or (λ (words : List ℕ). words) o []) (slice_get-map (class_words_of_unit (program_names us)) us (c - 28)) ∙ at_file (slice_get us (c - 28)))
+    go false = ap (λ (words : List ℕ). unwrap_or (slice_get words i) 0) (ap (λ o. option_map_or (λ (words : List ℕ). words) o []) (slice_get-map (class_words_of_unit (program_names us)) us (c - 29)) ∙ at_file (slice_get us (c - 29)))

@@ -57,7 +57,7 @@ impl FileConstants<'_> {
         ensures { (us : List ClassUnit) (u : ClassUnit) → AreConstantsOf us u self.now → result ≡ string_at (program_names us) u.file.pool (slice_get u.file.pool index) }
     {
         match self.literals.number(self.file, index) {
-            Some(number) => self.first_string + 2 * number,
+            Some(number) => self.first_string + 3 * number,
             None => 0,
         }
     }

@@ -58,7 +58,7 @@ impl StartObjects {
         let system_out = layout.class_object(classes + 1);
         let first_string = system_out + 9;
         let statics = static_words(alloc, units, literals, first_string)?;
-        let free = first_string + 2 * literals.count();
+        let free = first_string + 3 * literals.count();
         Ok(StartObjects {
             places: StartPlaces { system_out, free },
             statics,
@@ -91,7 +91,7 @@ impl StartObjects {
         requires { number < 2 ^ 30 }
         ensures { (us : List ClassUnit) → AreStartObjectsOf us self.now → result ≡ string_object (program_names us) number }
     {
-        self.places.system_out + 9 + 2 * number
+        self.places.system_out + 9 + 3 * number
     }
 
     /// The first place behind the objects at the start, less than 2^30.

@@ -12,8 +12,8 @@ use Rattle.type_rules.specs.Wants.{wants, words_wanted, verdicts, is_wrong, is_u
 use Rattle.type_rules.specs.FrameAfter.{frame_after, stack_with}
 use Rattle.type_rules.specs.TypeFaults.{◌or_else◌, unless, is_local_right, is_initialization_right, are_locals_there, returns_rightly, own_fault}
 use Rattle.step_faults.proofs.Puts.{after_length}
-use Rattle.shared_words.specs.Store.{word_at}
-use Rattle.shared_words.proofs.ListLaws.{stack_depth}
+use Rattle.type_lists.specs.Store.{word_at}
+use Rattle.type_lists.proofs.ListLaws.{stack_depth}
 use Rattle.typing_frames.specs.declared.stores.FrameStores.{FrameStores}
 use Rattle.typing_frames.specs.declared.stores.CurrentFrame.{CurrentFrame}
 use Rattle.typing_frames.specs.Frames.{shown}

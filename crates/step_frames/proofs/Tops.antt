@@ -8,8 +8,8 @@ use Rattle.type_rules.specs.Environment.{TypeFrame}
 use Rattle.typing_frames.specs.declared.stores.FrameStores.{FrameStores}
 use Rattle.typing_frames.specs.declared.stores.CurrentFrame.{CurrentFrame}
 use Rattle.typing_frames.specs.Frames.{shown, IsFrame, StoresFollow, StoresRemember}
-use Rattle.shared_words.specs.Store.{word_at}
-use Rattle.shared_words.proofs.ListLaws.{stack_depth}
+use Rattle.type_lists.specs.Store.{word_at}
+use Rattle.type_lists.proofs.ListLaws.{stack_depth}
 use Rattle.typing_frames.proofs.FrameLaws.{stores_follow_itself, stores_follow_on, type_frame}
 
 -- the last words of a list are pushed, up to one of them

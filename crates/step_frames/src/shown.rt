@@ -3,8 +3,8 @@
 ghost use Rattle.std.specs.Prelude.{◌≡◌};
 ghost use Rattle.typing_frames.specs.Frames.{shown, IsFrame};
 ghost use Rattle.typing_frames.specs.Told.{Tells};
-ghost use Rattle.shared_words.specs.Shown.{EndsBy};
-ghost use Rattle.shared_words.specs.Store.{word_at};
+ghost use Rattle.type_lists.specs.Shown.{EndsBy};
+ghost use Rattle.type_lists.specs.Store.{word_at};
 ghost use Rattle.std.proofs.Props.{props};
 ghost use Rattle.type_rules.specs.TypeFaults.{own_fault};
 

@@ -3,36 +3,40 @@
 ghost use Rattle.std.specs.Prelude.{◌≡◌, ◌<◌};
 ghost use Rattle.step_port.specs.Steps.{effect_of, IsOwnStep, IsStore};
 ghost use Rattle.step_port.specs.Words.{exchanged, CanAnswer};
-ghost use Rattle.step_port.specs.declared.answer.Answer.{Answer};
+ghost use Rattle.step_port.specs.declared.answer.StepAnswer.{StepAnswer};
 
-use crate::{Answer, Step, StepPort};
+use crate::{Step, StepAnswer, StepPort};
 
 /// Makes one step of a thread's own through a port, which must allow it. The steps of the host, and the one that
 /// hands a thread out, aren't made so. Takes no memory.
-pub fn make_step<P: StepPort>(port: &mut P, step: Step) -> Answer
+pub fn make_step<P: StepPort>(port: &mut P, step: Step) -> StepAnswer
     requires own { IsOwnStep step }
     requires allowed { P.allows port.old step }
     ensures made { P.stepped port.old step result port.new }
     ensures kind { CanAnswer (effect_of step) result }
 {
     match step {
-        Step::LoadWord(at) => Answer::Found(port.load_word(at)),
+        Step::LoadWord(at) => StepAnswer::Found(port.load_word(at)),
         Step::SwapWord(at, old, new) => answer_to_exchange(port.swap_word(at, old, new)),
-        Step::DrawSection => Answer::Found(port.draw_section()),
-        Step::LoadSection(section) => Answer::Found(port.load_section(section)),
-        Step::Pin(section, old) => answer_to_exchange(port.pin(section, old)),
-        Step::Revoke(section, old) => answer_to_exchange(port.revoke(section, old)),
+        Step::DrawSection => StepAnswer::Found(port.draw_section()),
+        Step::LoadSection(section) => StepAnswer::Found(port.load_section(section)),
+        Step::Pin(section, old, level) => answer_to_exchange(port.pin(section, old, level)),
+        Step::Revoke(section, old, level) => answer_to_exchange(port.revoke(section, old, level)),
         Step::Commit(section, old) => answer_to_exchange(port.commit(section, old)),
-        Step::LoadMonitor(object) => Answer::Found(port.load_monitor(object)),
+        Step::OpenLevel(section, old) => answer_to_exchange(port.open_level(section, old)),
+        Step::CloseLevel(section, old, depth) => {
+            answer_to_exchange(port.close_level(section, old, depth))
+        }
+        Step::LoadMonitor(object) => StepAnswer::Found(port.load_monitor(object)),
         Step::TakeMonitor(object, new) => answer_to_exchange(port.take_monitor(object, new)),
-        Step::TakeWords(count) => Answer::Found(port.take_words(count)),
-        Step::Ticket => Answer::Found(port.ticket()),
-        Step::DrawThread => Answer::Found(port.draw_thread()),
+        Step::TakeWords(count) => StepAnswer::Found(port.take_words(count)),
+        Step::Ticket => StepAnswer::Found(port.ticket()),
+        Step::DrawThread => StepAnswer::Found(port.draw_thread()),
         Step::StartThread(object, thread) => answer_to_exchange(port.start_thread(object, thread)),
-        Step::LoadThread(which) => Answer::Found(port.load_thread(which)),
+        Step::LoadThread(which) => StepAnswer::Found(port.load_thread(which)),
         Step::Notify(thread, old) => answer_to_exchange(port.notify(thread, old)),
-        Step::LoadWait(thread) => Answer::Found(port.load_wait(thread)),
-        Step::LoadClass(class) => Answer::Found(port.load_class(class)),
+        Step::LoadWait(thread) => StepAnswer::Found(port.load_wait(thread)),
+        Step::LoadClass(class) => StepAnswer::Found(port.load_class(class)),
         Step::ClaimClass(class, thread) => answer_to_exchange(port.claim_class(class, thread)),
         Step::RestoreWord(_, _)
         | Step::OpenSection(_, _)
@@ -44,9 +48,14 @@ pub fn make_step<P: StepPort>(port: &mut P, step: Step) -> Answer
         | Step::SetWait(_, _)
         | Step::SettleClass(_, _) => {
             make_store(port, step);
-            Answer::Done
+            StepAnswer::Done
         }
-        Step::LoadStop | Step::SetStop | Step::Split(_, _, _) => unreachable!(),
+        Step::LoadStop
+        | Step::SetStop
+        | Step::Split(_, _, _)
+        | Step::LookMonitor(_)
+        | Step::LookSection(_)
+        | Step::BreakLevel(_, _, _) => unreachable!(),
     }
 }
 
@@ -54,7 +63,7 @@ fn make_store<P: StepPort>(port: &mut P, step: Step)
     requires own { IsOwnStep step }
     requires store { IsStore step }
     requires allowed { P.allows port.old step }
-    ensures { P.stepped port.old step Answer.Done port.new }
+    ensures { P.stepped port.old step StepAnswer.Done port.new }
 {
     match step {
         Step::RestoreWord(at, old) => port.restore_word(at, old),
@@ -70,11 +79,11 @@ fn make_store<P: StepPort>(port: &mut P, step: Step)
     }
 }
 
-fn answer_to_exchange(exchange: Result<(), u64>) -> Answer
+fn answer_to_exchange(exchange: Result<(), u64>) -> StepAnswer
     ensures { result ≡ exchanged exchange }
 {
     match exchange {
-        Ok(()) => Answer::Done,
-        Err(found) => Answer::Lost(found),
+        Ok(()) => StepAnswer::Done,
+        Err(found) => StepAnswer::Lost(found),
     }
 }

@@ -5,7 +5,7 @@ ghost use Rattle.step_port.specs.Steps.{place_of, effect_of, kind_of, IsTooFar};
 ghost use Rattle.heap_words.specs.Words.{pack};
 
 use heap_words::{Area, ClassWord, HeapWord, control, notified};
-use section_state::{State, with_state};
+use section_state::{closed_to, committed, opened, pinned_to, revoked_to};
 
 /// What is done with a word.
 #[derive(Clone, Copy)]
@@ -47,13 +47,13 @@ pub enum Step {
     OpenSection(u32, u64),
     /// Reads the word of a section.
     LoadSection(u32),
-    /// Pins a section that has this word.
-    Pin(u32, u64),
-    /// Revokes a section that has this word.
-    Revoke(u32, u64),
+    /// Pins a section that has this word to a level.
+    Pin(u32, u64, u8),
+    /// Revokes a section that has this word to a level.
+    Revoke(u32, u64, u8),
     /// Commits a section that has this word.
     Commit(u32, u64),
-    /// Notes by this word that a section is undone.
+    /// Notes by this word that a section is undone to the level to which it was revoked.
     MarkUndone(u32, u64),
     /// Reads the monitor of an object.
     LoadMonitor(u32),
@@ -63,7 +63,7 @@ pub enum Step {
     SetDepth(u32, u64),
     /// Frees the monitor of an object.
     Release(u32),
-    /// Takes so many words for a new object.
+    /// Takes this number of words for a new object.
     TakeWords(u64),
     /// Sets the header of a new object.
     SetHeader(u32, u64),
@@ -95,10 +95,20 @@ pub enum Step {
     SetStop,
     /// Hands the thread of this number out, which this object has started with this priority.
     Split(u8, u32, u8),
+    /// Opens the next level of a section that has this word.
+    OpenLevel(u32, u64),
+    /// Closes the inner levels of a section that has this word, down to this open depth.
+    CloseLevel(u32, u64, u8),
+    /// Reads the monitor of an object, beside the turns of threads: none of them makes this step.
+    LookMonitor(u32),
+    /// Reads the word of a section, beside the turns of threads.
+    LookSection(u32),
+    /// Revokes a section that has this word to a level, beside the turns of threads.
+    BreakLevel(u32, u64, u8),
 }
 
 impl Step {
-    /// The number of the step's kind, from 1 to 30.
+    /// The number of the step's kind: 1 to 30, and 32 to 36.
     pub fn kind(self) -> u8
         ensures { result ≡ kind_of self }
     {
@@ -109,8 +119,8 @@ impl Step {
             Step::DrawSection => 4,
             Step::OpenSection(_, _) => 5,
             Step::LoadSection(_) => 6,
-            Step::Pin(_, _) => 7,
-            Step::Revoke(_, _) => 8,
+            Step::Pin(_, _, _) => 7,
+            Step::Revoke(_, _, _) => 8,
             Step::Commit(_, _) => 9,
             Step::MarkUndone(_, _) => 10,
             Step::LoadMonitor(_) => 11,
@@ -133,6 +143,11 @@ impl Step {
             Step::LoadStop => 28,
             Step::SetStop => 29,
             Step::Split(_, _, _) => 30,
+            Step::OpenLevel(_, _) => 32,
+            Step::CloseLevel(_, _, _) => 33,
+            Step::LookMonitor(_) => 34,
+            Step::LookSection(_) => 35,
+            Step::BreakLevel(_, _, _) => 36,
         }
     }
 
@@ -149,16 +164,21 @@ impl Step {
             Step::LoadMonitor(object)
             | Step::TakeMonitor(object, _)
             | Step::SetDepth(object, _)
-            | Step::Release(object) => Area::Object(object.checked_add(1)?),
+            | Step::Release(object)
+            | Step::LookMonitor(object) => Area::Object(object.checked_add(1)?),
             Step::StartThread(object, _) | Step::LoadThread(ThreadWord::Start(object)) => {
                 Area::Object(object.checked_add(3)?)
             }
             Step::OpenSection(section, _)
             | Step::LoadSection(section)
-            | Step::Pin(section, _)
-            | Step::Revoke(section, _)
+            | Step::Pin(section, _, _)
+            | Step::Revoke(section, _, _)
             | Step::Commit(section, _)
-            | Step::MarkUndone(section, _) => Area::Section(section),
+            | Step::MarkUndone(section, _)
+            | Step::OpenLevel(section, _)
+            | Step::CloseLevel(section, _, _)
+            | Step::LookSection(section)
+            | Step::BreakLevel(section, _, _) => Area::Section(section),
             Step::EndThread(thread) | Step::LoadThread(ThreadWord::Ended(thread)) => {
                 Area::Thread(thread as u32)
             }
@@ -189,7 +209,9 @@ impl Step {
             | Step::LoadWait(_)
             | Step::LoadClass(_)
             | Step::LoadStop
-            | Step::Split(_, _, _) => Effect::Load,
+            | Step::Split(_, _, _)
+            | Step::LookMonitor(_)
+            | Step::LookSection(_) => Effect::Load,
             Step::SwapWord(_, old, new) => Effect::Exchange(old, new),
             Step::RestoreWord(_, word)
             | Step::OpenSection(_, word)
@@ -200,9 +222,13 @@ impl Step {
             | Step::SettleClass(_, word) => Effect::Store(word),
             Step::DrawSection | Step::Ticket | Step::DrawThread => Effect::Add(1),
             Step::TakeWords(count) => Effect::Add(count),
-            Step::Pin(_, old) => Effect::Exchange(old, with_state(old, State::Pinned)),
-            Step::Revoke(_, old) => Effect::Exchange(old, with_state(old, State::Revoking)),
-            Step::Commit(_, old) => Effect::Exchange(old, with_state(old, State::Committed)),
+            Step::Pin(_, old, level) => Effect::Exchange(old, pinned_to(old, level)),
+            Step::Revoke(_, old, level) | Step::BreakLevel(_, old, level) => {
+                Effect::Exchange(old, revoked_to(old, level))
+            }
+            Step::Commit(_, old) => Effect::Exchange(old, committed(old)),
+            Step::OpenLevel(_, old) => Effect::Exchange(old, opened(old)),
+            Step::CloseLevel(_, old, depth) => Effect::Exchange(old, closed_to(old, depth)),
             Step::TakeMonitor(_, word) => Effect::Exchange(0, word),
             Step::Release(_) => Effect::Store(0),
             Step::StartThread(_, thread) => Effect::Exchange(0, start_word(thread)),

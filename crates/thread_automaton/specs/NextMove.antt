@@ -1,5 +1,5 @@
 -- What a thread does next.
-use Rattle.std.specs.Prelude.{ℕ, ◌+◌, ◌&&◌, List, [], ◌∷◌, nat_le, if◌then◌else◌}
+use Rattle.std.specs.Prelude.{ℕ, ◌+◌, ◌&&◌, not, List, [], ◌∷◌, filter, reverse, nat_eq, nat_le, if◌then◌else◌}
 use Rattle.op_core.specs.declared.Limit.TheVariants.{Turns}
 use Rattle.op_core.specs.declared.Op.{Op}
 use Rattle.op_core.specs.declared.Op.TheVariants.{ClassOf, Read, Write, New, Enter, Exit, Wait, Rewake, Print, Start, Join, Init, InitDone, End}
@@ -8,28 +8,29 @@ use Rattle.op_core.specs.declared.Next.TheVariants.{Silent, Want, Ended}
 use Rattle.op_core.specs.ThreadCode.{Code, leaves_any}
 use Rattle.heap_words.specs.declared.words.ClassWord.TheVariants.{Ready, Bad}
 use Rattle.heap_words.specs.Words.{class_word_of}
-use Rattle.section_state.specs.declared.State.TheVariants.{Live, Undone}
-use Rattle.section_state.specs.SectionWord.{number_of, with_state}
+use Rattle.section_state.specs.SectionWord.{revoke_of, undone_of}
 use Rattle.write_log.specs.declared.Noted.{Noted}
+use Rattle.monitor_core.specs.Monitors.{monitor_word}
 use Rattle.step_port.specs.declared.step.ThreadWord.{ThreadWord}
 use Rattle.step_port.specs.declared.step.Step.{Step}
-use Rattle.step_port.specs.declared.step.Step.TheVariants.{LoadWord, RestoreWord, LoadSection, Pin, MarkUndone, LoadMonitor, Release, TakeWords, Ticket, EndThread, LoadThread, LoadWait, LoadClass, SettleClass}
+use Rattle.step_port.specs.declared.step.Step.TheVariants.{LoadWord, RestoreWord, LoadSection, Pin, MarkUndone, LoadMonitor, SetDepth, Release, TakeWords, Ticket, EndThread, LoadThread, LoadWait, LoadClass, SettleClass}
 use Rattle.thread_automaton.specs.declared.Bounds.{Bounds}
 use Rattle.thread_automaton.specs.declared.Move.{Move}
 use Rattle.thread_automaton.specs.declared.Move.TheVariants.{Over, Quiet, Stop, Make}
-use Rattle.thread_automaton.specs.declared.Stage.{Stage}
-use Rattle.thread_automaton.specs.declared.Stage.TheVariants.{Begin, Checked, Fixed, Undoing, Full}
-use Rattle.thread_automaton.specs.ThreadState.{ThreadState, is_open, own_word}
+use Rattle.thread_automaton.specs.declared.Attempt.{Attempt}
+use Rattle.thread_automaton.specs.declared.Attempt.TheVariants.{Begin, Look, Checked, Fixed, Meets, Undoing, Full}
+use Rattle.thread_automaton.specs.declared.Held.{Held}
+use Rattle.thread_automaton.specs.ThreadState.{ThreadState, Mark, is_open, own_word, mark_of, noted_since, held_as, from_level}
 
--- it pins its section
+-- it pins its section, with all levels that are open
 abbrev pub own_pin : {S : Type 0} → ThreadState S → Step
-own_pin th = Pin th.section (own_word th Live)
+own_pin th = Pin th.section (own_word th) th.levels
 
--- a step that can't be taken back: first comes the pin of the own section, where one is open that wasn't seen pinned
+-- a step that can't be taken back: first comes the pin of the own section, where a level is open that wasn't seen pinned
 abbrev pub pinned_then : {S : Type 0} → ThreadState S → Step → Step
 pinned_then th step = if is_open th then own_pin th else step
 
--- where an object has its word number i: behind its header and its monitor
+-- where an object has its word number i: after its header and its monitor
 abbrev pub word_place : ℕ → ℕ → ℕ
 word_place r i = r + 2 + i
 
@@ -55,32 +56,60 @@ first_step code th (Init c) = LoadClass c
 first_step code th (InitDone c ok) = pinned_then th (SettleClass c (class_word_of (if ok then Ready else Bad)))
 first_step code th (End x) = pinned_then th (EndThread th.number)
 
--- Undoing: each word that was noted is put back, the last one first, then each monitor is released, the last one
--- first, and then the section, whose word was w, is noted to be undone.
-abbrev pub undo_step : ℕ → ℕ → List Noted → List ℕ → Step
-undo_step s w (x ∷ log) held = RestoreWord x.at x.old
-undo_step s w [] (r ∷ held) = Release r
-undo_step s w [] [] = MarkUndone s (with_state w (number_of Undone))
+-- the word of a monitor that the own section holds so
+abbrev pub held_word : ℕ → Held → ℕ
+held_word s h = monitor_word s h.depth h.level
 
--- A silent step of the code. Where it would end a frame that was on top as the section opened, and the section
--- wasn't seen pinned, it isn't made yet, and this step towards the pin is made in its place.
+-- of the monitors that were held as a level opened, those that now have another depth, as they were then; the one that was
+-- taken first comes first
+abbrev pub deepened_since : Mark → List Held → List Held
+deepened_since mark held = filter (λ h. not (nat_eq (held_as h.object held).depth h.depth)) (reverse mark.held)
+
+-- Undoing to level n, once each word that was noted since is put back and each monitor has its depth of then: each monitor
+-- that was taken since is released, the last one first, and then the section, whose word was w, is noted to be undone so far.
+abbrev pub release_step : ℕ → ℕ → List Held → Step
+release_step s w (h ∷ held) = Release h.object
+release_step s w [] = MarkUndone s (undone_of w)
+
+-- before that each monitor that was held already gets its depth of then, the one that was taken first first
+abbrev pub depth_step : ℕ → ℕ → List Held → List Held → Step
+depth_step s w (h ∷ rest) taken = SetDepth h.object (held_word s h)
+depth_step s w [] taken = release_step s w taken
+
+-- and before that each word that was noted since is put back, the last one first
+abbrev pub undo_step : ℕ → ℕ → List Noted → List Held → List Held → Step
+undo_step s w (x ∷ log) deepened taken = RestoreWord x.at x.old
+undo_step s w [] deepened taken = depth_step s w deepened taken
+
+-- the step with which the thread goes on undoing its section, whose word was w, to level n
+abbrev pub undo_next : {S : Type 0} → ThreadState S → ℕ → ℕ → Step
+undo_next th w n =
+    let mark = mark_of th n in
+    undo_step th.section w (noted_since mark.noted th.log) (deepened_since mark th.held) (from_level n th.held)
+
+-- A silent step of the code. Where it would end a frame that was on top as a level opened, and that level wasn't seen
+-- pinned, it isn't made yet, and this step towards the pin is made in its place.
 abbrev pub silent_move : {S : Type 0} → Code S → ThreadState S → Step → Move
 silent_move code th towards = if is_open th && leaves_any code th.saved th.local then Make towards else Quiet
 
--- an attempt inside a section that wasn't seen pinned begins with a look at the section's word
-abbrev pub move_of : {S : Type 0} → Code S → ThreadState S → Next → Stage → Move
+-- An attempt inside a level that wasn't seen pinned begins with a look at the section's word, and so does one after a
+-- lost exchange of that word.
+abbrev pub move_of : {S : Type 0} → Code S → ThreadState S → Next → Attempt → Move
 move_of code th next (Fixed step) = Make step
-move_of code th next (Undoing w) = Make (undo_step th.section w th.log th.held)
+move_of code th next (Meets s level) = Make (LoadSection s)
+move_of code th next (Undoing w) = Make (undo_next th w (revoke_of w))
 move_of code th next (Full limit) = Stop limit
+move_of code th Silent Look = Make (LoadSection th.section)
+move_of code th (Want op) Look = Make (LoadSection th.section)
 move_of code th Silent Begin = silent_move code th (LoadSection th.section)
 move_of code th Silent Checked = silent_move code th (own_pin th)
 move_of code th (Want op) Begin = if is_open th then Make (LoadSection th.section) else Make (first_step code th op)
 move_of code th (Want op) Checked = Make (first_step code th op)
-move_of code th Ended stage = Over
+move_of code th Ended attempt = Over
 
 -- What a thread does next. The limit of its counted turns comes before all else but its end.
 abbrev pub next_move : {S : Type 0} → Code S → Bounds → ThreadState S → Move
 next_move code b th =
     if th.over then Over
     else if nat_le b.limits.turns th.counted then Stop Turns
-    else move_of code th (code.next th.local) th.stage
+    else move_of code th (code.next th.local) th.attempt

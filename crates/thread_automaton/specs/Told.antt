@@ -7,17 +7,17 @@ use Rattle.op_core.specs.declared.Next.{Next}
 use Rattle.op_core.specs.declared.Next.TheVariants.{Want}
 use Rattle.op_core.specs.ThreadCode.{Code}
 use Rattle.monitor_core.specs.declared.Why.{Why}
-use Rattle.step_port.specs.declared.answer.Answer.{Answer}
-use Rattle.step_port.specs.declared.answer.Answer.TheVariants.{Lost}
+use Rattle.step_port.specs.declared.answer.StepAnswer.{StepAnswer}
+use Rattle.step_port.specs.declared.answer.StepAnswer.TheVariants.{Lost}
 use Rattle.step_port.specs.declared.step.Effect.{Effect}
 use Rattle.step_port.specs.declared.step.Effect.TheVariants.{Load}
 use Rattle.step_port.specs.declared.step.Step.{Step}
 use Rattle.step_port.specs.declared.step.Step.TheVariants.{LoadWait, Split}
 use Rattle.step_port.specs.Steps.{effect_of}
 use Rattle.thread_automaton.specs.declared.Bounds.{Bounds}
-use Rattle.thread_automaton.specs.declared.Stage.TheVariants.{Begin, Fixed}
+use Rattle.thread_automaton.specs.declared.Attempt.TheVariants.{Begin, Fixed}
 use Rattle.thread_automaton.specs.ThreadState.{ThreadState}
-use Rattle.thread_automaton.specs.Changes.{Change, goes, has_to_wait, replies, writes, takes, drops, closes, waits, prints, ends, changed}
+use Rattle.thread_automaton.specs.Changes.{Change, goes, has_to_wait, replies, writes, takes, deepens, drops, closes, waits, prints, ends, changed}
 use Rattle.thread_automaton.specs.Answers.{change_of}
 
 pub data Told : Type 0 where
@@ -37,10 +37,11 @@ abbrev pub shown : Change → Option Reply
 shown (replies reply) = Some reply
 shown (goes (Fixed (Split n r p))) = Some (Number n)
 shown (writes log) = Some Reply.Done
-shown (takes r depth) = Some Reply.Done
+shown (takes h) = Some Reply.Done
+shown (deepens r depth) = Some Reply.Done
 shown (drops held) = Some Reply.Done
 shown closes = Some Reply.Done
-shown (waits held) = Some Reply.Done
+shown (waits r) = Some Reply.Done
 shown (prints ticket line) = Some Reply.Done
 shown ends = Some Reply.Done
 shown change = None
@@ -55,14 +56,14 @@ abbrev pub told_unseen : Next → Step → Change → Told
 told_unseen next step (has_to_wait why) = blocked why
 told_unseen next step change = told_by step (effect_of step) next
 
-abbrev pub told_of : Next → Step → Answer → Change → Option Reply → Told
+abbrev pub told_of : Next → Step → StepAnswer → Change → Option Reply → Told
 told_of next step (Lost v) change reply = lost v
 told_of next (Split n r p) answer change reply = born
 told_of next step answer change (Some reply) = advanced (Some reply)
 told_of next step answer change None = told_unseen next step change
 
 -- what a turn tells in which the thread made the step, and this was answered
-abbrev pub told : {S : Type 0} → Code S → Bounds → ThreadState S → Step → Answer → Told
+abbrev pub told : {S : Type 0} → Code S → Bounds → ThreadState S → Step → StepAnswer → Told
 told code b th step answer =
     let change = change_of code b th (code.next th.local) step answer in
     told_of (code.next th.local) step answer change (shown change)
@@ -75,10 +76,10 @@ counted_for born th = record th { counted = suc th.counted }
 counted_for other th = th
 
 -- the thread after a step and its answer
-abbrev pub after_answer : {S : Type 0} → Code S → Bounds → ThreadState S → Step → Answer → ThreadState S
+abbrev pub after_answer : {S : Type 0} → Code S → Bounds → ThreadState S → Step → StepAnswer → ThreadState S
 after_answer code b th step answer =
     counted_for (told code b th step answer) (changed code th (change_of code b th (code.next th.local) step answer))
 
 -- the thread after a silent move to the local state l
 abbrev pub after_quiet : {S : Type 0} → ThreadState S → S → ThreadState S
-after_quiet th l = record th { local = l; stage = Begin; counted = suc th.counted; silents = suc th.silents }
+after_quiet th l = record th { local = l; attempt = Begin; counted = suc th.counted; silents = suc th.silents }

@@ -30,7 +30,7 @@ fn end_of(how: How) -> End {
     }
 }
 
-/// Scripts, the order of their turns, and what they come to. Behind the order the lowest thread that may be picked has
+/// Scripts, the order of their turns, and what they come to. After the order the lowest thread that may be picked has
 /// the turn.
 #[derive(Clone, Copy)]
 pub struct Row {
@@ -69,35 +69,35 @@ fn shown(why: Why) -> (&'static str, u32) {
     }
 }
 
-const LOCK: u32 = 1;
+pub const LOCK: u32 = 1;
 
-const OTHER: u32 = 3;
+pub const OTHER: u32 = 3;
 
-const WORDS: u32 = 5;
+pub const WORDS: u32 = 5;
 
-const SECOND: u32 = 11;
+pub const SECOND: u32 = 11;
 
-const THIRD: u32 = 16;
+pub const THIRD: u32 = 16;
 
-const FOURTH: u32 = 21;
+pub const FOURTH: u32 = 21;
 
-const ENTER: ToyStep = ToyStep::Do(Op::Enter(LOCK));
+pub const ENTER: ToyStep = ToyStep::Do(Op::Enter(LOCK));
 
-const EXIT: ToyStep = ToyStep::Do(Op::Exit(LOCK));
+pub const EXIT: ToyStep = ToyStep::Do(Op::Exit(LOCK));
 
-const READ_X: ToyStep = ToyStep::Do(Op::Read(WORDS, 0));
+pub const READ_X: ToyStep = ToyStep::Do(Op::Read(WORDS, 0));
 
-const READ_Y: ToyStep = ToyStep::Do(Op::Read(WORDS, 1));
+pub const READ_Y: ToyStep = ToyStep::Do(Op::Read(WORDS, 1));
 
-const X_11: ToyStep = ToyStep::Do(Op::Write(WORDS, 0, 11));
+pub const X_11: ToyStep = ToyStep::Do(Op::Write(WORDS, 0, 11));
 
-const Y_12: ToyStep = ToyStep::Do(Op::Write(WORDS, 1, 12));
+pub const Y_12: ToyStep = ToyStep::Do(Op::Write(WORDS, 1, 12));
 
-const ENTER_OTHER: ToyStep = ToyStep::Do(Op::Enter(OTHER));
+pub const ENTER_OTHER: ToyStep = ToyStep::Do(Op::Enter(OTHER));
 
-const EXIT_OTHER: ToyStep = ToyStep::Do(Op::Exit(OTHER));
+pub const EXIT_OTHER: ToyStep = ToyStep::Do(Op::Exit(OTHER));
 
-const PRINT_1: ToyStep = ToyStep::Do(Op::Print(Line::Int(1)));
+pub const PRINT_1: ToyStep = ToyStep::Do(Op::Print(Line::Int(1)));
 
 const PRINT_2: ToyStep = ToyStep::Do(Op::Print(Line::Int(2)));
 
@@ -106,13 +106,13 @@ const PRINT_3: ToyStep = ToyStep::Do(Op::Print(Line::Int(3)));
 const PRINT_4: ToyStep = ToyStep::Do(Op::Print(Line::Int(4)));
 
 /// A thread that writes both words under the lock.
-const WRITER: &[ToyStep] = &[ENTER, X_11, Y_12, EXIT];
+pub const WRITER: &[ToyStep] = &[ENTER, X_11, Y_12, EXIT];
 
 /// A thread that reads and prints both words under the lock.
-const READER: &[ToyStep] = &[ENTER, READ_X, ToyStep::Show, READ_Y, ToyStep::Show, EXIT];
+pub const READER: &[ToyStep] = &[ENTER, READ_X, ToyStep::Show, READ_Y, ToyStep::Show, EXIT];
 
 /// Main writes 1 and 2 and starts the second and the third thread, with these priorities.
-const PAIR_MAIN: &[ToyStep] = &[
+pub const PAIR_MAIN: &[ToyStep] = &[
     ToyStep::Do(Op::Write(WORDS, 0, 1)),
     ToyStep::Do(Op::Write(WORDS, 1, 2)),
     ToyStep::Do(Op::Start(SECOND, 1)),
@@ -395,7 +395,7 @@ const NESTED: Row = Row {
     end: End::Done,
     lines: &[0, 8],
     sections: (4, 1),
-    counted: &[10, 19, 10, 8],
+    counted: &[10, 23, 10, 8],
 };
 
 /// A thread that waits gives up the monitor that it had entered three times, and keeps the other one.
@@ -444,7 +444,7 @@ const WAIT: Row = Row {
     end: End::Done,
     lines: &[1, 2],
     sections: (3, 0),
-    counted: &[10, 17, 8, 10],
+    counted: &[10, 19, 8, 10],
 };
 
 /// Threads of one priority that want each other's monitors are stuck.
@@ -724,17 +724,23 @@ fn has_printed(run: &Run<'_>, numbers: &[i32]) -> Result<bool, AllocError> {
     Ok(true)
 }
 
+/// The run of a row, where it comes to what the row says.
+pub fn run_of(alloc: Global, row: Row) -> Result<Option<Run<'static>>, Fail> {
+    let schedule = schedule_of(alloc, row.order)?;
+    let mut run = Run::begin(alloc, row.scripts, row.limits)?;
+    let how = run.follow(&schedule)?;
+    let comes_so = end_of(how) == row.end
+        && has_waited(&run, row.waits)
+        && has_printed(&run, row.lines)?
+        && run.sections() == row.sections
+        && (row.counted.is_empty() || run.counted()?.as_slice() == row.counted);
+    Ok(if comes_so { Some(run) } else { None })
+}
+
 #[test]
 fn turns_come_to_what_each_case_says(rt: HostRuntime) -> Result<(), Fail> {
     for row in ROWS {
-        let schedule = schedule_of(rt.alloc(), row.order)?;
-        let mut run = Run::begin(rt.alloc(), row.scripts, row.limits)?;
-        let how = run.follow(&schedule)?;
-        assert!(rt; end_of(how) == row.end);
-        assert!(rt; has_waited(&run, row.waits));
-        assert!(rt; has_printed(&run, row.lines)?);
-        assert!(rt; run.sections() == row.sections);
-        assert!(rt; row.counted.is_empty() || run.counted()?.as_slice() == row.counted);
+        assert!(rt; run_of(rt.alloc(), row)?.is_some());
     }
     Ok(())
 }
@@ -745,7 +751,7 @@ const LEAVING: &[ToyScript<'static>] = &[ToyScript {
     steps: &[ToyStep::Call, ENTER, ToyStep::Return, EXIT],
 }];
 
-/// The kinds of the steps behind that which takes the monitor: the section's word is loaded, it is pinned, and a silent
+/// The kinds of the steps after that which takes the monitor: the section's word is loaded, it is pinned, and a silent
 /// step follows.
 const BEHIND_ENTRY: [u8; 3] = [6, 7, 0];
 

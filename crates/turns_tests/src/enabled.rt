@@ -1,6 +1,6 @@
 //! Which threads may be picked: those that don't have to wait for another one.
 
-use heap_words::{Area, ClassWord, HeapWord, WaitWord};
+use heap_words::{Area, ClassWord, HeapWord, Tag, WaitWord};
 use monitor_core::{Contend, MonitorWord, decide};
 use op_core::{Next, Op, ThreadCode};
 use plain_words::PlainWords;
@@ -23,10 +23,22 @@ fn object_word(words: &PlainWords, object: u32, place: u32) -> u64 {
     }
 }
 
-/// Whether the section was revoked, and isn't undone yet.
-pub fn is_revoking(words: &PlainWords, section: u32) -> bool {
+/// To which level the section is revoked and not undone yet, if it is.
+pub fn revoked_level(words: &PlainWords, section: u32) -> Option<u8> {
     match section_parts(word(words, Area::Section(section))) {
-        Some(parts) => parts.state.number() == State::Revoking.number(),
+        Some(parts) if parts.state.number() == State::Revoking.number() => Some(parts.revoke),
+        _ => None,
+    }
+}
+
+fn is_revoking(words: &PlainWords, section: u32) -> bool {
+    revoked_level(words, section).is_some()
+}
+
+/// Whether this level of the section was revoked, or one further out, and isn't undone yet.
+fn is_revoked(words: &PlainWords, section: u32, level: u8) -> bool {
+    match revoked_level(words, section) {
+        Some(revoke) => revoke <= level,
         None => false,
     }
 }
@@ -37,7 +49,7 @@ fn is_busy<C: ThreadCode>(words: &PlainWords, thread: &JThread<C>, object: u32) 
     let section = word(words, Area::Section(holder));
     match decide(monitor, section, thread.section(), thread.priority()) {
         Contend::Busy(_) => true,
-        Contend::Free | Contend::Own | Contend::Revoke => false,
+        Contend::Free | Contend::Own | Contend::Revoke(_) => false,
     }
 }
 
@@ -47,8 +59,10 @@ fn is_tagged<C: ThreadCode>(
     object: u32,
     place: u32,
 ) -> bool {
-    let tag = HeapWord::unpack(object_word(words, object, place.saturating_add(2))).tag;
-    tag != 0 && tag != thread.section() && is_revoking(words, tag)
+    let tag = Tag::unpack(
+        HeapWord::unpack(object_word(words, object, place.saturating_add(2))).tag,
+    );
+    tag.section != 0 && tag.section != thread.section() && is_revoked(words, tag.section, tag.level)
 }
 
 fn is_in_wait_set<C: ThreadCode>(words: &PlainWords, thread: &JThread<C>) -> bool {

@@ -1,4 +1,4 @@
-//! Random scripts under random schedules: with the events of revoked sections left out, what is left is an execution of
+//! Random scripts under random schedules: with the events of revoked levels left out, what is left is an execution of
 //! ordinary monitors that prints the same lines.
 
 ghost use Rattle.std.specs.Prelude.{◌<◌};
@@ -13,7 +13,7 @@ use std::alloc::{AllocError, Global};
 use std::test::Fail;
 use toy_code::{Toy, ToyScript, ToyStep};
 
-const SEEDS: u64 = 200;
+const SEEDS: u64 = 300;
 
 const LOCKS: [u32; 2] = [1, 3];
 
@@ -27,7 +27,7 @@ const LIMITS: Limits = Limits {
     sections: 100,
 };
 
-/// What a seed draws, one number behind the other.
+/// What a seed draws, one number after the other.
 #[derive(Clone, Copy)]
 struct Numbers {
     last: u64,
@@ -77,7 +77,39 @@ impl Numbers {
     }
 }
 
-/// Adds a section under a lock, with some steps and maybe a section of another lock inside.
+/// Adds some steps under a lock that is entered inside of a section, maybe the lock of the section.
+fn add_inner(
+    numbers: &mut Numbers,
+    steps: &mut Vec<ToyStep>,
+    number: i32,
+) -> Result<(), AllocError> {
+    let lock = numbers.lock();
+    steps.push(ToyStep::Do(Op::Enter(lock)))?;
+    steps.push(numbers.rare_step(number))?;
+    steps.push(ToyStep::Do(Op::Exit(lock)))?;
+    Ok(())
+}
+
+/// Adds the exits of two locks, mostly of the one first that was entered last.
+fn add_exits(
+    numbers: &mut Numbers,
+    steps: &mut Vec<ToyStep>,
+    outer: u32,
+    inner: u32,
+) -> Result<(), AllocError> {
+    let (first, second) = match numbers.below(6) {
+        0 => (outer, inner),
+        _ => (inner, outer),
+    };
+    steps.push(ToyStep::Do(Op::Exit(first)))?;
+    if numbers.below(2) == 0 {
+        steps.push(numbers.step())?;
+    }
+    steps.push(ToyStep::Do(Op::Exit(second)))?;
+    Ok(())
+}
+
+/// Adds a section under a lock, with some steps and maybe others of another lock inside.
 fn add_section(
     numbers: &mut Numbers,
     steps: &mut Vec<ToyStep>,
@@ -85,19 +117,22 @@ fn add_section(
 ) -> Result<(), AllocError> {
     let lock = numbers.lock();
     let inner = numbers.lock();
-    let is_nested = numbers.below(3) == 0;
     steps.push(ToyStep::Do(Op::Enter(lock)))?;
     for _step in 0..numbers.below(4) {
         steps.push(numbers.step())?;
     }
-    if is_nested {
-        steps.push(ToyStep::Do(Op::Enter(inner)))?;
+    if numbers.below(3) == 0 {
         steps.push(numbers.rare_step(number))?;
-        steps.push(ToyStep::Do(Op::Exit(inner)))?;
+        steps.push(ToyStep::Do(Op::Exit(lock)))?;
+        return Ok(());
     }
+    steps.push(ToyStep::Do(Op::Enter(inner)))?;
     steps.push(numbers.rare_step(number))?;
-    steps.push(ToyStep::Do(Op::Exit(lock)))?;
-    Ok(())
+    if numbers.below(3) == 0 {
+        add_inner(numbers, steps, number)?;
+        steps.push(numbers.step())?;
+    }
+    add_exits(numbers, steps, lock, inner)
 }
 
 fn random_steps(
@@ -149,12 +184,57 @@ fn are_same(left: &[Line], right: &[Line]) -> bool {
     true
 }
 
-/// How many sections a run undid, where what is left of it is an execution that printed its lines.
-fn undone_of<'a>(
+/// How often it came up in runs that levels were undone, inner ones alone, with a monitor that got its depth of before;
+/// and that a compare-exchange was lost, and one that opens or closes a level.
+#[derive(Clone, Copy)]
+struct Counts {
+    undone: usize,
+    inner: usize,
+    deepened: usize,
+    lost: usize,
+    lost_levels: usize,
+}
+
+const NONE: Counts = Counts {
+    undone: 0,
+    inner: 0,
+    deepened: 0,
+    lost: 0,
+    lost_levels: 0,
+};
+
+impl Counts {
+    fn of(run: &Run<'_>) -> Self {
+        Counts {
+            undone: run.sections().1 as usize,
+            inner: run.inner() as usize,
+            deepened: run.deepened() as usize,
+            lost: run.lost().len(),
+            lost_levels: run
+                .lost()
+                .iter()
+                .filter(|kind| **kind == 32 || **kind == 33)
+                .count(),
+        }
+    }
+
+    fn with(self, other: Counts) -> Self {
+        Counts {
+            undone: self.undone.saturating_add(other.undone),
+            inner: self.inner.saturating_add(other.inner),
+            deepened: self.deepened.saturating_add(other.deepened),
+            lost: self.lost.saturating_add(other.lost),
+            lost_levels: self.lost_levels.saturating_add(other.lost_levels),
+        }
+    }
+}
+
+/// What came up in a run, where what is left of it is an execution that printed its lines.
+fn counts_of<'a>(
     alloc: Global,
     scripts: &'a [ToyScript<'a>],
     seed: u64,
-) -> Result<Option<u32>, Fail> {
+) -> Result<Option<Counts>, Fail> {
     let mut run = Run::begin(alloc, scripts, LIMITS)?;
     let schedule = Schedule {
         order: Rows::new(alloc),
@@ -166,11 +246,11 @@ fn undone_of<'a>(
     if machine.replay(&events).is_err() || !are_same(&run.lines()?, machine.lines().as_slice()) {
         return Ok(None);
     }
-    Ok(Some(run.sections().1))
+    Ok(Some(Counts::of(&run)))
 }
 
 /// The same of scripts that a seed draws, too.
-fn undone_by(alloc: Global, seed: u64) -> Result<Option<u32>, Fail> {
+fn counts_by(alloc: Global, seed: u64) -> Result<Option<Counts>, Fail> {
     let mut numbers = Numbers { last: seed };
     let main = main_steps(alloc, &mut numbers)?;
     let second = random_steps(alloc, &mut numbers, 2)?;
@@ -194,17 +274,18 @@ fn undone_by(alloc: Global, seed: u64) -> Result<Option<u32>, Fail> {
             steps: &fourth,
         },
     ];
-    undone_of(alloc, &scripts, seed)
+    counts_of(alloc, &scripts, seed)
 }
 
 #[test]
 fn what_is_left_of_runs_is_an_execution(rt: HostRuntime) -> Result<(), Fail> {
-    let mut undone: u32 = 0;
+    let mut counts = NONE;
     for seed in 0..SEEDS {
-        let of_seed = undone_by(rt.alloc(), seed)?;
+        let of_seed = counts_by(rt.alloc(), seed)?;
         assert!(rt; of_seed.is_some());
-        undone = undone.saturating_add(of_seed.unwrap_or(0));
+        counts = counts.with(of_seed.unwrap_or(NONE));
     }
-    assert!(rt; undone > 50);
+    assert!(rt; counts.undone > 50 && counts.inner > 5);
+    assert!(rt; counts.deepened > 0 && counts.lost > 0 && counts.lost_levels > 0);
     Ok(())
 }

@@ -101,20 +101,20 @@ frame_at k = frame_in true k
 abbrev pub makes : List (Instr Target)
 makes = steps_from 0 (whats.Plain plain.Nop ∷ whats.Class uses.New 6 ∷ [])
 
--- ---- the methods as their rules see them: the class has the number 28
+-- ---- the methods as their rules see them: the class has the number 29
 
 abbrev pub tiny_names : ProgramNames
 tiny_names = program_names tiny_program
 
 abbrev pub tiny_choice : Environment
-tiny_choice = environment tiny_names (operand tiny_program 28) 28 (member_of_file tiny_file.pool (method_of (PUBLIC + STATIC) 5 6)) choice_code
+tiny_choice = environment tiny_names (operand tiny_program 29) 29 (member_of_file tiny_file.pool (method_of (PUBLIC + STATIC) 5 6)) choice_code
 
 abbrev pub tiny_constructor : Environment
-tiny_constructor = environment tiny_names (operand tiny_program 28) 28 (member_of_file tiny_file.pool (method_of PUBLIC 7 8)) constructor_code
+tiny_constructor = environment tiny_names (operand tiny_program 29) 29 (member_of_file tiny_file.pool (method_of PUBLIC 7 8)) constructor_code
 
 -- the frames of the constructor
 abbrev pub constructor_frames : ℕ → TypeFrame
 constructor_frames k =
     if k == 0 then with_flag (UninitThis ∷ []) []
     else if k == 1 then with_flag (UninitThis ∷ []) (UninitThis ∷ [])
-    else plain_frame (Object (Class 28) ∷ []) []
+    else plain_frame (Object (Class 29) ∷ []) []

@@ -5,11 +5,11 @@ use Rattle.type_rules.specs.declared.types.VerificationType.{VerificationType}
 use Rattle.type_rules.specs.Assignable.{Hierarchy, is_assignable, are_assignable, are_locals_assignable}
 use Rattle.type_rules.specs.Environment.{Environment, TypeFrame}
 use Rattle.type_rules.specs.TypeFaults.{is_frame_assignable}
-use Rattle.shared_words.specs.declared.store.WordStore.{WordStore}
-use Rattle.shared_words.specs.declared.store.Words.{Words}
-use Rattle.shared_words.specs.Shown.{first_words, stack_words, EndsBy}
-use Rattle.shared_words.specs.Store.{word_at, IsList, IsFixed, Follows}
-use Rattle.shared_words.proofs.StoreLaws.{follows_itself}
+use Rattle.type_lists.specs.declared.store.WordStore.{WordStore}
+use Rattle.type_lists.specs.declared.store.Words.{Words}
+use Rattle.type_lists.specs.Shown.{first_words, stack_words, EndsBy}
+use Rattle.type_lists.specs.Store.{word_at, IsList, IsFixed, Follows}
+use Rattle.type_lists.proofs.StoreLaws.{follows_itself}
 use Rattle.typing_frames.specs.declared.stores.FrameStores.{FrameStores}
 use Rattle.typing_frames.specs.Frames.{shown, LeavesFrames}
 use Rattle.typing_frames.proofs.FrameLaws.{type_frame, stores_follow_itself, stores_follow_on}

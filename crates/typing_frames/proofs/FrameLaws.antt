@@ -8,12 +8,12 @@ use Rattle.type_rules.specs.declared.types.VerificationType.TheVariants.{Top, In
 use Rattle.type_rules.specs.Assignable.{Hierarchy, is_same_type}
 use Rattle.type_rules.specs.Environment.{TypeFrame, padded}
 use Rattle.type_rules.specs.FrameAfter.{replaced_types}
-use Rattle.shared_words.specs.Parts.{room, with_word, replaced_type}
-use Rattle.shared_words.specs.Shown.{first_words, stack_words, EndsBy}
-use Rattle.shared_words.specs.declared.store.WordStore.{WordStore}
-use Rattle.shared_words.proofs.SetLaws.{with_here, with_other}
-use Rattle.shared_words.proofs.ListLaws.{first_set, first_padded, first_replaced, stack_read, stack_put, stack_replaced}
-use Rattle.shared_words.proofs.StoreLaws.{follows_itself, follows_on}
+use Rattle.type_lists.specs.Parts.{room, with_word, replaced_type}
+use Rattle.type_lists.specs.Shown.{first_words, stack_words, EndsBy}
+use Rattle.type_lists.specs.declared.store.WordStore.{WordStore}
+use Rattle.type_lists.proofs.SetLaws.{with_here, with_other}
+use Rattle.type_lists.proofs.ListLaws.{first_set, first_padded, first_replaced, stack_read, stack_put, stack_replaced}
+use Rattle.type_lists.proofs.StoreLaws.{follows_itself, follows_on}
 use Rattle.typing_frames.specs.declared.stores.FrameStores.{FrameStores}
 use Rattle.typing_frames.specs.declared.stores.CurrentFrame.{CurrentFrame}
 use Rattle.typing_frames.specs.Frames.{shown, IsFrame, StoresFollow, StoresRemember}

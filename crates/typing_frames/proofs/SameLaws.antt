@@ -4,8 +4,8 @@ use Rattle.std.proofs.lemmas.Bool.{and_from, and_left, and_right}
 use Rattle.std.proofs.lemmas.Bool.Decides.{eqb_tells}
 use Rattle.type_rules.specs.declared.types.VerificationType.{VerificationType}
 use Rattle.type_rules.specs.Assignable.{is_same_type, are_same_types}
-use Rattle.shared_words.specs.Shown.{first_words, stack_words}
-use Rattle.shared_words.proofs.ListLaws.{stack_depth}
+use Rattle.type_lists.specs.Shown.{first_words, stack_words}
+use Rattle.type_lists.proofs.ListLaws.{stack_depth}
 
 abbrev Places : Type 0
 Places = ℕ → VerificationType

@@ -2,8 +2,8 @@
 use Rattle.std.specs.Prelude.{◌≡◌, ◌≤◌}
 use Rattle.type_rules.specs.Assignable.{Hierarchy}
 use Rattle.type_rules.specs.Environment.{TypeFrame}
-use Rattle.shared_words.specs.Store.{word_at, IsList, IsKept, Remembers, Follows}
-use Rattle.shared_words.specs.Shown.{first_words, stack_words, EndsBy}
+use Rattle.type_lists.specs.Store.{word_at, IsList, IsKept, Remembers, Follows}
+use Rattle.type_lists.specs.Shown.{first_words, stack_words, EndsBy}
 use Rattle.typing_frames.specs.declared.stores.FrameStores.{FrameStores}
 use Rattle.typing_frames.specs.declared.stores.CurrentFrame.{CurrentFrame}
 

@@ -2,8 +2,8 @@
 
 ghost use Rattle.std.specs.Prelude.{◌≡◌, ◌≤◌};
 
-use shared_words::{WordStore, Words};
 use std::alloc::Global;
+use type_lists::{WordStore, Words};
 use type_rules::VerificationType;
 
 /// The stores of a method's locals and stacks, which are made for as many words as the method may have.

@@ -1,6 +1,6 @@
-//! Tests of how heap words, headers, monitor words, wait words and class words are packed.
+//! Tests of how tags, heap words, headers, monitor words, wait words and class words are packed.
 
-use heap_words::{ClassWord, Header, HeapWord, WaitWord, notified};
+use heap_words::{ClassWord, Header, HeapWord, Tag, WaitWord, notified};
 use monitor_core::MonitorWord;
 
 /// The low and the high half, and the word.
@@ -37,21 +37,46 @@ fn heap_words_and_headers_have_two_halves(rt: HostRuntime) {
     }
 }
 
-/// The section, the depth, and the word.
-const MONITORS: [(u32, u16, u64); 3] = [
+/// The section, the level, and the tag.
+const TAGS: [(u32, u8, u32); 4] = [
     (0, 0, 0),
-    (9, 2, 0x2_0000_0009),
-    (16_777_215, 65_535, 0xFFFF_00FF_FFFF),
+    (1, 1, 0x01_00_00_01),
+    (5, 2, 0x02_00_00_05),
+    (16_777_215, 255, 0xFFFF_FFFF),
 ];
 
 #[test]
-fn monitor_words_have_a_section_and_a_depth(rt: HostRuntime) {
-    for (section, depth, word) in MONITORS {
-        assert!(rt; MonitorWord { section, depth }.pack() == word);
-        let monitor = MonitorWord::unpack(word);
-        assert!(rt; monitor.section == section && monitor.depth == depth);
+fn tags_have_a_section_and_a_level(rt: HostRuntime) {
+    for (section, level, tag) in TAGS {
+        assert!(rt; Tag { section, level }.pack() == tag);
+        let found = Tag::unpack(tag);
+        assert!(rt; found.section == section && found.level == level);
     }
-    assert!(rt; MonitorWord::unpack(0x1_0002_0000_0009).depth == 2);
+}
+
+/// The section, the depth, the level, and the word.
+const MONITORS: [(u32, u16, u8, u64); 3] = [
+    (0, 0, 0, 0),
+    (9, 2, 1, 0x01_0002_0000_0009),
+    (16_777_215, 65_535, 255, 0xFF_FFFF_00FF_FFFF),
+];
+
+#[test]
+fn monitor_words_have_a_section_a_depth_and_a_level(rt: HostRuntime) {
+    for (section, depth, level, word) in MONITORS {
+        assert!(rt;
+            MonitorWord {
+                section,
+                depth,
+                level
+            }
+            .pack()
+                == word
+        );
+        let monitor = MonitorWord::unpack(word);
+        assert!(rt; monitor.section == section && monitor.depth == depth && monitor.level == level);
+    }
+    assert!(rt; MonitorWord::unpack(0x0101_0002_0000_0009).level == 1);
 }
 
 const WAITS: [(WaitWord, u64); 3] = [

@@ -1,10 +1,13 @@
 //! Tests of the steps on shared words: their answers, those that are refused, and the words at first.
 
+ghost use Rattle.step_port.specs.declared.step.Step.{Step};
+ghost use Rattle.step_port.specs.Steps.{IsOwnStep};
+
 use crate::setting::opened;
 use heap_words::Area;
 use plain_words::PlainWords;
 use std::test::Fail;
-use step_port::{Answer, Step, StepPort, ThreadWord, make_step};
+use step_port::{Step, StepAnswer, StepPort, ThreadWord, make_step};
 
 const FOUND: &str = "found";
 
@@ -12,40 +15,59 @@ const DONE: &str = "done";
 
 const LOST: &str = "lost";
 
+/// A live section with one open level, and the same with two.
+const ONE: u64 = 0x01_00_01_02_01;
+
+const TWO: u64 = 0x02_00_01_02_01;
+
+/// The one with two, revoked to the second.
+const REVOKED: u64 = 0x02_02_00_01_02_03;
+
 /// Steps on one table, one after another: the number of the step's kind, the step, and what it answers.
-const STEPS: [(u8, Step, (&str, u64)); 55] = [
+const STEPS: [(u8, Step, (&str, u64)); 62] = [
     (1, Step::LoadWord(8), (FOUND, 30)),
     (1, Step::LoadWord(10), (FOUND, 1)),
     (4, Step::DrawSection, (FOUND, 0)),
-    (5, Step::OpenSection(1, 0x01_02_01), (DONE, 0)),
-    (6, Step::LoadSection(1), (FOUND, 0x01_02_01)),
-    (12, Step::TakeMonitor(6, 0x1_0000_0001), (DONE, 0)),
-    (11, Step::LoadMonitor(6), (FOUND, 0x1_0000_0001)),
+    (5, Step::OpenSection(1, ONE), (DONE, 0)),
+    (6, Step::LoadSection(1), (FOUND, ONE)),
+    (12, Step::TakeMonitor(6, 0x01_0001_0000_0001), (DONE, 0)),
+    (11, Step::LoadMonitor(6), (FOUND, 0x01_0001_0000_0001)),
     (
         12,
-        Step::TakeMonitor(6, 0x1_0000_0002),
-        (LOST, 0x1_0000_0001),
+        Step::TakeMonitor(6, 0x01_0001_0000_0002),
+        (LOST, 0x01_0001_0000_0001),
     ),
-    (13, Step::SetDepth(6, 0x2_0000_0001), (DONE, 0)),
-    (11, Step::LoadMonitor(6), (FOUND, 0x2_0000_0001)),
-    (2, Step::SwapWord(10, 1, 0x1_0000_000B), (DONE, 0)),
-    (2, Step::SwapWord(10, 1, 5), (LOST, 0x1_0000_000B)),
-    (1, Step::LoadWord(10), (FOUND, 0x1_0000_000B)),
-    (8, Step::Revoke(1, 0x01_02_01), (DONE, 0)),
-    (7, Step::Pin(1, 0x01_02_01), (LOST, 0x01_02_03)),
-    (9, Step::Commit(1, 0x01_02_01), (LOST, 0x01_02_03)),
+    (13, Step::SetDepth(6, 0x01_0002_0000_0001), (DONE, 0)),
+    (11, Step::LoadMonitor(6), (FOUND, 0x01_0002_0000_0001)),
+    (2, Step::SwapWord(10, 1, 0x0100_0001_0000_000B), (DONE, 0)),
+    (2, Step::SwapWord(10, 1, 5), (LOST, 0x0100_0001_0000_000B)),
+    (1, Step::LoadWord(10), (FOUND, 0x0100_0001_0000_000B)),
+    (32, Step::OpenLevel(1, ONE), (DONE, 0)),
+    (32, Step::OpenLevel(1, ONE), (LOST, TWO)),
+    (6, Step::LoadSection(1), (FOUND, TWO)),
+    (33, Step::CloseLevel(1, TWO, 1), (DONE, 0)),
+    (33, Step::CloseLevel(1, TWO, 1), (LOST, ONE)),
+    (32, Step::OpenLevel(1, ONE), (DONE, 0)),
+    (8, Step::Revoke(1, TWO, 2), (DONE, 0)),
+    (7, Step::Pin(1, TWO, 1), (LOST, REVOKED)),
+    (9, Step::Commit(1, TWO), (LOST, REVOKED)),
+    (32, Step::OpenLevel(1, TWO), (LOST, REVOKED)),
     (3, Step::RestoreWord(10, 1), (DONE, 0)),
     (1, Step::LoadWord(10), (FOUND, 1)),
     (14, Step::Release(6), (DONE, 0)),
     (11, Step::LoadMonitor(6), (FOUND, 0)),
-    (10, Step::MarkUndone(1, 0x01_02_04), (DONE, 0)),
-    (6, Step::LoadSection(1), (FOUND, 0x01_02_04)),
+    (10, Step::MarkUndone(1, ONE), (DONE, 0)),
+    (6, Step::LoadSection(1), (FOUND, ONE)),
     (4, Step::DrawSection, (FOUND, 1)),
-    (5, Step::OpenSection(2, 0x05_01_01), (DONE, 0)),
-    (7, Step::Pin(2, 0x05_01_01), (DONE, 0)),
-    (8, Step::Revoke(2, 0x05_01_01), (LOST, 0x05_01_02)),
-    (9, Step::Commit(2, 0x05_01_02), (DONE, 0)),
-    (6, Step::LoadSection(2), (FOUND, 0x05_01_05)),
+    (5, Step::OpenSection(2, 0x01_00_05_01_01), (DONE, 0)),
+    (7, Step::Pin(2, 0x01_00_05_01_01, 1), (DONE, 0)),
+    (
+        8,
+        Step::Revoke(2, 0x01_00_05_01_01, 1),
+        (LOST, 0x01_01_05_01_01),
+    ),
+    (9, Step::Commit(2, 0x01_01_05_01_01), (DONE, 0)),
+    (6, Step::LoadSection(2), (FOUND, 0x01_01_05_01_05)),
     (15, Step::TakeWords(4), (FOUND, 0)),
     (15, Step::TakeWords(2), (FOUND, 4)),
     (16, Step::SetHeader(17, 0x2_0000_001E), (DONE, 0)),
@@ -75,16 +97,30 @@ const STEPS: [(u8, Step, (&str, u64)); 55] = [
     (25, Step::LoadClass(30), (FOUND, 2)),
 ];
 
-/// What a step answers, where it can be made.
-fn made(words: &mut PlainWords, step: Step) -> Option<(&'static str, u64)> {
-    if step.kind() > 27 || !words.may_step(step) {
+fn own_made(words: &mut PlainWords, step: Step) -> Option<(&'static str, u64)>
+    requires { IsOwnStep step }
+{
+    if !words.may_step(step) {
         return None;
     }
     Some(match make_step(words, step) {
-        Answer::Found(word) => (FOUND, word),
-        Answer::Done => (DONE, 0),
-        Answer::Lost(word) => (LOST, word),
+        StepAnswer::Found(word) => (FOUND, word),
+        StepAnswer::Done => (DONE, 0),
+        StepAnswer::Lost(word) => (LOST, word),
     })
+}
+
+/// What a step of a thread answers, where it can be made.
+fn made(words: &mut PlainWords, step: Step) -> Option<(&'static str, u64)> {
+    match step {
+        Step::LoadStop
+        | Step::SetStop
+        | Step::Split(_, _, _)
+        | Step::LookMonitor(_)
+        | Step::LookSection(_)
+        | Step::BreakLevel(_, _, _) => None,
+        _ => own_made(words, step),
+    }
 }
 
 #[test]
@@ -115,6 +151,35 @@ fn host_threads_stop_and_threads_are_handed_out(rt: HostRuntime) -> Result<(), F
     let split = Step::Split(2, 12, 5);
     assert!(rt; split.kind() == 30);
     assert!(rt; words.may_step(split) && words.split(2, 12, 5).is_ok());
+    Ok(())
+}
+
+/// The steps that no turn makes: loads of a monitor and of a section, and the revocation of a level.
+fn beside(words: &mut PlainWords) -> Option<(u64, u64, Result<(), u64>, u64)> {
+    let open = Step::OpenSection(1, TWO);
+    let look_monitor = Step::LookMonitor(6);
+    let look_section = Step::LookSection(1);
+    let revoke = Step::BreakLevel(1, TWO, 2);
+    if !words.may_step(open)
+        || !words.may_step(look_monitor)
+        || !words.may_step(look_section)
+        || !words.may_step(revoke)
+    {
+        return None;
+    }
+    words.open_section(1, TWO);
+    let monitor = words.look_monitor(6);
+    let section = words.look_section(1);
+    let revoked = words.break_level(1, TWO, 2);
+    Some((monitor, section, revoked, words.look_section(1)))
+}
+
+#[test]
+fn steps_beside_turns_read_and_revoke(rt: HostRuntime) -> Result<(), Fail> {
+    let mut words = opened(rt.alloc())?;
+    assert!(rt; beside(&mut words) == Some((0, TWO, Ok(()), REVOKED)));
+    assert!(rt; Step::LookMonitor(6).kind() == 34 && Step::LookSection(1).kind() == 35);
+    assert!(rt; Step::BreakLevel(1, TWO, 2).kind() == 36);
     Ok(())
 }
 

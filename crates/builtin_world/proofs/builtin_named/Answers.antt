@@ -17,7 +17,7 @@ returns-clause-named c = IfSome-named c.args.name.now c.find_named.result (retur
 
 pub returns-clause-numbered : goal.returns-clause-numbered
 returns-clause-numbered c =
-    IfSome-found (λ r. (0 < r.number) × (r.number ≤ 27)) (λ r. bytes_eq r.name c.args.name.now)
+    IfSome-found (λ r. (0 < r.number) × (r.number ≤ 28)) (λ r. bytes_eq r.name c.args.name.now)
     c.find_named.result (returns-clause-row c) numbers_in_range
 
 pub returns-clause-super_first : goal.returns-clause-super_first

@@ -1,19 +1,22 @@
-use Rattle.std.proofs.Common.{◌≡◌, [], length, slice_get, Some, flat_map, ◌++◌, replicate, refl, sym, ap, subst, ◌∙◌}
+use Rattle.std.proofs.Common.{◌≡◌, [], ◌∷◌, length, slice_get, Some, flat_map, ◌++◌, replicate, refl, sym, ap, subst, ◌∙◌}
 use Rattle.std.proofs.lemmas.List.{take_all}
 use Rattle.std.proofs.lemmas.Option.{slice_get_read}
 use Rattle.link_rules.specs.Arrays.{arguments_array, arrays_always, arrays_of_unit}
 use Rattle.link_rules.proofs.Named.{one_number}
-use Rattle.array_uses.specs.Most.{IsMost}
+use Rattle.link_rules.specs.Classes.{classes_of}
+use Rattle.array_uses.specs.Most.{IsArrayIn, IsMost}
 use Rattle.array_uses.specs.Uses.{IsFileOf}
 use Rattle.array_uses.proofs.Growing.{none_most, more_items}
-use Rattle.array_uses.proofs.Right.{codes_right, arguments_in}
+use Rattle.array_uses.proofs.Right.{codes_right, arguments_in, units_array, units_in}
 use Rattle.array_uses.proofs.uses.most_dimensions.Goals as goal
 
 pub loop-file-init : goal.loop-file-init
 loop-file-init c =
     let us = c.args.supers.now in
-    c.add_array.ensures us arguments_array c.requires.order (one_number us c.requires.linked) (arguments_in us) []
-    (none_most us c.args.order.now c.in_ok-most.most.items (c.in_ok-most.ensures ∙ ap (λ n. replicate n 0) (ap length c.bases.ensures)))
+    let none = none_most us c.args.order.now c.in_ok-most.most.items (c.in_ok-most.ensures ∙ ap (λ n. replicate n 0) (ap length c.bases.ensures)) in
+    let chars : IsArrayIn (classes_of us) c.primitive_array.result units_array = subst (λ a. IsArrayIn (classes_of us) a units_array) (sym c.primitive_array.ensures) (units_in us) in
+    c.add_array-2.ensures us arguments_array c.requires.order (one_number us c.requires.linked) (arguments_in us) (units_array ∷ [])
+    (c.add_array.ensures us units_array c.requires.order (one_number us c.requires.linked) chars [] none)
 
 pub loop-file-preserved : goal.loop-file-preserved
 loop-file-preserved c =

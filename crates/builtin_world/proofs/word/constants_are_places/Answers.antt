@@ -17,3 +17,11 @@ returns-clause-target c = refl
 pub returns-clause-message : goal.returns-clause-message
 unfolding library
 returns-clause-message c = refl
+
+pub returns-clause-units : goal.returns-clause-units
+unfolding library
+returns-clause-units c = refl
+
+pub returns-clause-text : goal.returns-clause-text
+unfolding library
+returns-clause-text c = refl

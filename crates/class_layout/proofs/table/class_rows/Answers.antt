@@ -7,8 +7,8 @@ use Rattle.class_layout.proofs.table.class_rows.Goals as goal
 
 pub loop-class-init : goal.loop-class-init
 loop-class-init c =
-    let count : length c.in_ok-rows.rows.items ≡ 27 + length c.args.supers.now =
-    ap length c.in_ok-rows.ensures ∙ length-replicate (27 + length c.units.result.now) empty_row ∙ ap (λ us. 27 + length us) c.units.ensures in
+    let count : length c.in_ok-rows.rows.items ≡ 28 + length c.args.supers.now =
+    ap length c.in_ok-rows.ensures ∙ length-replicate (28 + length c.units.result.now) empty_row ∙ ap (λ us. 28 + length us) c.units.ensures in
     none_have_rows c.args.supers.now c.args.order.now c.in_ok-rows.rows.items count
 
 pub class_row-requires-clause-above : goal.class_row-requires-clause-above

@@ -9,7 +9,7 @@ use Rattle.class_orders.proofs.orders.all_orders.Goals as goal
 pub loop-class-init : goal.loop-class-init
 loop-class-init c =
     let us = c.args.supers.now in
-    let count : 27 + length c.units.result.now + 1 ≡ suc (length (classes_of c.args.supers.now)) = omega (arith, ap length c.units.ensures, class_count_is c.args.supers.now) in
+    let count : 28 + length c.units.result.now + 1 ≡ suc (length (classes_of c.args.supers.now)) = omega (arith, ap length c.units.ensures, class_count_is c.args.supers.now) in
     none_yet (classes_of us) c.deref-class-items.result.now _ c.in_ok-orders.orders.items count c.in_ok-orders.ensures
 
 pub put_class-requires : goal.put_class-requires

@@ -10,5 +10,5 @@ loop-i-preserved c =
 
 pub returns : goal.returns
 returns c =
-    let le : 27 ≤ c.loop-i.i = omega (arith, c.builtins-class-items.ensures.count) in
+    let le : 28 ≤ c.loop-i.i = omega (arith, c.builtins-class-items.ensures.count) in
     subst (AreNumbersOf (number_named c.loop-i.numbers)) (whole_library c.loop-i.i le) c.loop-i.invariant

@@ -33,7 +33,7 @@ loop-place-preserved c =
     let at = slice_get_read us (length us) k u refl c.loop-place-test.true c.index-units-place.is in
     let lt : k < length us = c.loop-place-test.true in
     let added = c.in_ok-add_file.ensures (classes_of (take k us)) c.loop-place.invariant.known (count_of_first us k (omega arith)) in
-    let new : class_number (take (27 + k) (classes_of us)) (class_of_unit u).name ≡ 0 = subst (λ cs. class_number cs (class_of_unit u).name ≡ 0) (sym (take_classes us k)) added.0 in
+    let new : class_number (take (28 + k) (classes_of us)) (class_of_unit u).name ≡ 0 = subst (λ cs. class_number cs (class_of_unit u).name ≡ 0) (sym (take_classes us k)) added.0 in
     record {
       known = subst (AreNumbersOf (number_named c.add_file.new.numbers)) (sym (classes_more us k u at)) added.1;
       apart = one_more (λ k u. twice_rules (classes_of us) k (class_of_unit u)) us k u at c.loop-place.invariant.apart new;

@@ -1,7 +1,7 @@
 use Rattle.std.proofs.Common.{◌∙◌}
-use Rattle.shared_words.specs.Store.{word_at}
-use Rattle.shared_words.proofs.ListLaws.{first_count}
-use Rattle.shared_words.proofs.SetLaws.{on_ok}
+use Rattle.type_lists.specs.Store.{word_at}
+use Rattle.type_lists.proofs.ListLaws.{first_count}
+use Rattle.type_lists.proofs.SetLaws.{on_ok}
 use Rattle.typing_frames.specs.Frames.{shown}
 use Rattle.handler_frames.proofs.RuleLaws.{passing_locals, inside_locals}
 use Rattle.handler_frames.proofs.ordered.takes_locals.Goals as goal

@@ -1,5 +1,5 @@
 use Rattle.std.proofs.Common.{◌≡◌, ◌∷◌, drop, sym, ap, ◌∙◌}
-use Rattle.frame_snapshot.specs.declared.stage.Stage.TheVariants.{Inside}
+use Rattle.frame_snapshot.specs.declared.stage.FrameStage.TheVariants.{Inside}
 use Rattle.frame_snapshot.specs.declared.todo.Then.TheVariants.{FindsRun}
 use Rattle.frame_snapshot.specs.declared.todo.Todo.TheVariants.{Wants}
 use Rattle.frame_snapshot.specs.FrameStack.{with_stage, with_word}

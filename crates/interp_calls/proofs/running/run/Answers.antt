@@ -1,6 +1,6 @@
 use Rattle.std.proofs.Common.{rules, ◌≡◌, ◌<◌, inl, inr, Some, ap, sym, ◌∙◌, arith}
 use Rattle.std.proofs.lemmas.Bool.{cases_lt}
-use Rattle.frame_snapshot.specs.declared.stage.Stage.TheVariants.{Begun}
+use Rattle.frame_snapshot.specs.declared.stage.FrameStage.TheVariants.{Begun}
 use Rattle.interp_local.specs.Runs.{IsLocalRun}
 use Rattle.interp_local.specs.Steps.{kind_of, local_now}
 use Rattle.java_rows.specs.Program.{steps_of}

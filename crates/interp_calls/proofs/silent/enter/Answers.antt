@@ -1,5 +1,5 @@
 use Rattle.std.proofs.Common.{refl, ap, ◌∙◌}
-use Rattle.frame_snapshot.specs.declared.stage.Stage.TheVariants.{Calls}
+use Rattle.frame_snapshot.specs.declared.stage.FrameStage.TheVariants.{Calls}
 use Rattle.java_rows.specs.Thread.{begun_first, first_frame}
 use Rattle.interp_calls.specs.declared.calling.MethodCall.{MethodCall}
 use Rattle.interp_calls.proofs.AgainLemmas.{entered}

@@ -12,9 +12,9 @@ loop-string-preserved c =
     let f : ℕ → FixedObject = λ n. fixed_object (string_at_start (program_names c.args.world.now) n) in
     let string = c.loop-string.string in
     let objects = c.args.objects.now in
-    let object : c.plain_object.result ≡ f string =
-    c.plain_object.ensures ∙ ap (λ r. fixed_object (Rattle.link_rules.specs.FixedObjects.object_at_start r 3 string [])) c.string_reference.ensures in
-    c.in_ok-push.ensures.ok ∙ ap (λ xs. xs ++ c.plain_object.result ∷ []) c.loop-string.invariant
-    ∙ append_assoc objects (map f (range_with_len 0 string)) (c.plain_object.result ∷ [])
+    let object : c.in_ok-literal_object.field-0 ≡ f string =
+    c.in_ok-literal_object.ensures ∙ ap (λ r. fixed_object (Rattle.link_rules.specs.FixedObjects.object_at_start r 3 string (0 ∷ []))) c.string_reference.ensures in
+    c.in_ok-push.ensures.ok ∙ ap (λ xs. xs ++ c.in_ok-literal_object.field-0 ∷ []) c.loop-string.invariant
+    ∙ append_assoc objects (map f (range_with_len 0 string)) (c.in_ok-literal_object.field-0 ∷ [])
     ∙ ap (λ o. objects ++ (map f (range_with_len 0 string) ++ o ∷ [])) object
     ∙ ap (λ xs. objects ++ xs) (sym (map-range_with_len_more f 0 string string (omega arith)))

@@ -4,7 +4,7 @@ use Rattle.ordinary_machine.specs.Start.{start_of}
 use Rattle.ordinary_runs.specs.ScheduledRun.{IsOutcome}
 use Rattle.java_rows.specs.Start.{opening_of}
 use Rattle.java_rows.specs.Thread.{first_state, java_code}
-use Rattle.interp_calls.specs.Local.{local_of}
+use Rattle.interp_calls.specs.Local.{state_over}
 use Rattle.java_run.specs.Run.{machine_at_start}
 use Rattle.java_run.proofs.executing.execute.Goals as goal
 
@@ -15,7 +15,7 @@ returns g c =
     let code = c.in_ok-code.code in
     let first = c.in_ok-code.ensures.state ∙ ap (λ u. first_state u c.args.main) c.requires in
     let is = c.in_ok-machine.ensures
-    ∙ ap (λ o. start_of o (local_of (g.P.Constants.units code.program.now) code.thread code.frames)) c.in_ok-opening.ensures.value
+    ∙ ap (λ o. start_of o (state_over (g.P.Constants.units code.program.now) code.thread code.frames code.texts code.text)) c.in_ok-opening.ensures.value
     ∙ ap (start_of (opening_of us)) first in
     let ran : IsOutcome java_code (machine_at_start us c.args.main) c.args.schedule.now c.args.limits.now false outcome =
     subst (λ m. IsOutcome java_code m c.args.schedule.now c.args.limits.now false outcome) is c.in_ok-outcome.ensures in

@@ -1,5 +1,5 @@
 use Rattle.std.proofs.Common.{◌∷◌, ◌++◌, [], append_assoc, sym, ap, subst, ◌∙◌}
-use Rattle.shared_words.proofs.SetLaws.{on_ok}
+use Rattle.type_lists.proofs.SetLaws.{on_ok}
 use Rattle.type_rules.specs.declared.types.VerificationType.TheVariants.{Second}
 use Rattle.map_frames.specs.Making.{IsStack}
 use Rattle.map_frames.proofs.stack.with_value.Goals as goal

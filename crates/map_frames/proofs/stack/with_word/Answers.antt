@@ -1,5 +1,5 @@
 use Rattle.std.proofs.Common.{arith}
-use Rattle.shared_words.proofs.SetLaws.{on_three}
+use Rattle.type_lists.proofs.SetLaws.{on_three}
 use Rattle.map_frames.proofs.ItemLaws.{stack_more}
 use Rattle.map_frames.proofs.stack.with_word.Goals as goal
 

@@ -1,7 +1,7 @@
 use Rattle.std.proofs.Common.{sym, ap, arith}
 use Rattle.std.proofs.lemmas.List.{set_past}
-use Rattle.shared_words.specs.Store.{word_at}
-use Rattle.shared_words.proofs.ListLaws.{first_count}
+use Rattle.type_lists.specs.Store.{word_at}
+use Rattle.type_lists.proofs.ListLaws.{first_count}
 use Rattle.typing_frames.specs.Frames.{shown}
 use Rattle.map_frames.specs.Making.{type_frame}
 use Rattle.map_frames.proofs.words.with_local.Goals as goal

@@ -12,8 +12,8 @@ use Rattle.member_rules.proofs.methods.is_final_above.Goals as goal
 pub has_final-requires : goal.has_final-requires
 has_final-requires c =
     let cs = classes_of c.args.lookup.now.units in
-    let is = c.superclass-superclass.ensures ∙ ap (λ us. superclass_of (classes_of us) (27 + 1 + c.args.place)) (c.supers.ensures ∙ c.orders.ensures) in
-    subst (λ n. n ≤ length cs) (sym is) (superclass_within cs (27 + 1 + c.args.place))
+    let is = c.superclass-superclass.ensures ∙ ap (λ us. superclass_of (classes_of us) (28 + 1 + c.args.place)) (c.supers.ensures ∙ c.orders.ensures) in
+    subst (λ n. n ≤ length cs) (sym is) (superclass_within cs (28 + 1 + c.args.place))
 
 pub returns : goal.returns
 returns c =
@@ -21,8 +21,8 @@ returns c =
     let cs = classes_of c.args.lookup.now.units in
     let u = c.args.unit.now in
     let m = c.args.method.now in
-    let number : 27 + 1 + c.args.place ≡ number_of_file c.args.place = omega arith in
-    let is = c.superclass-superclass.ensures ∙ ap (λ us. superclass_of (classes_of us) (27 + 1 + c.args.place)) (c.supers.ensures ∙ c.orders.ensures) ∙ ap (superclass_of cs) number in
+    let number : 28 + 1 + c.args.place ≡ number_of_file c.args.place = omega arith in
+    let is = c.superclass-superclass.ensures ∙ ap (λ us. superclass_of (classes_of us) (28 + 1 + c.args.place)) (c.supers.ensures ∙ c.orders.ensures) ∙ ap (superclass_of cs) number in
     let one = ap (λ (q : ProgramTexts). slice_get q.units c.args.place) c.texts.ensures ∙ c.requires.there in
     let two = ap (λ (q : ProgramTexts). slice_get q.units c.args.place) c.texts-2.ensures ∙ c.requires.there in
     let name = subst (λ (q : ProgramTexts). c.at-name.result ≡ entry_number q.texts (slice_get u.file.pool m.name)) c.texts.ensures (c.at-name.ensures.number u one) in

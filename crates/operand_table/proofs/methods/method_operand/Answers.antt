@@ -12,7 +12,7 @@ pub returns-in-Some : goal.returns-in-Some
 returns-in-Some c = λ us r are numbers named.
     let there = c.found_method.ensures r numbers in
     let d = found_is (found_method (classes_of c.args.sources.lookup.now.units) r) c.in-Some.found (sym there ∙ c.in-Some.is) in
-    let number : 27 + 1 + c.args.file ≡ number_of_file c.args.file = omega arith in
+    let number : 28 + 1 + c.args.file ≡ number_of_file c.args.file = omega arith in
     let called = c.special_id.ensures r d.0 numbers d.2
     ∙ ap (λ n. special_id (program_names c.args.sources.lookup.now.units) n r d.0) number
     ∙ ap (λ (x : Rattle.std.proofs.Common.List ClassUnit). special_id (program_names x) (number_of_file c.args.file) r d.0) are.lookup in

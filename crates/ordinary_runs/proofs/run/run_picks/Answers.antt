@@ -20,7 +20,7 @@ returns-in-Some g c =
     let ends = subst (λ how. GoesOnOrEnds code limits run how next) c.in-Some.is goes in
     let made = c.into_outcome.ensures in
     outcome_of code (machine_of state c.args.machine) c.args.schedule.now limits c.args.events run next c.in-Some.how c.into_outcome.result c.loop-run.invariant.follows ends.0 ends.1
-    made.how made.lines made.ends made.opened made.undone made.events
+    made.how made.lines made.ends made.opened made.undone made.events made.undos made.made
 
 pub loop-run-smaller : goal.loop-run-smaller
 loop-run-smaller g c =

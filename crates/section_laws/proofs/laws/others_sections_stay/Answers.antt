@@ -1,4 +1,4 @@
-use Rattle.section_laws.proofs.PinLemmas.{others_stay}
+use Rattle.section_laws.proofs.SectionLemmas.{others_stay}
 use Rattle.section_laws.proofs.laws.others_sections_stay.Goals as goal
 
 pub returns : goal.returns

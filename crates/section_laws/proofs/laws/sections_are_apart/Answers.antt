@@ -1,4 +1,4 @@
-use Rattle.section_laws.proofs.PinLemmas.{sections_apart}
+use Rattle.section_laws.proofs.SectionLemmas.{sections_apart}
 use Rattle.section_laws.proofs.laws.sections_are_apart.Goals as goal
 
 pub returns : goal.returns

@@ -1,4 +1,4 @@
-use Rattle.section_laws.proofs.PinLemmas.{sections_open_once}
+use Rattle.section_laws.proofs.SectionLemmas.{sections_open_once}
 use Rattle.section_laws.proofs.laws.sections_open_once.Goals as goal
 
 pub returns : goal.returns

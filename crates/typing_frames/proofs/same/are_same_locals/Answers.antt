@@ -1,6 +1,6 @@
 use Rattle.std.proofs.Common.{sym, ap, arith, below_more, ◌∙◌}
 use Rattle.type_rules.specs.Assignable.{is_same_type}
-use Rattle.shared_words.specs.Store.{word_at}
+use Rattle.type_lists.specs.Store.{word_at}
 use Rattle.typing_frames.proofs.SameLaws.{first_all, first_apart}
 use Rattle.typing_frames.proofs.same.are_same_locals.Goals as goal
 

@@ -1,6 +1,6 @@
 use Rattle.std.proofs.Common.{◌≡◌, ◌<◌, ℕ, true}
 use Rattle.type_rules.specs.Assignable.{is_same_type}
-use Rattle.shared_words.specs.Store.{word_at}
+use Rattle.type_lists.specs.Store.{word_at}
 use Rattle.typing_frames.proofs.same.are_same_locals.Given as goal
 
 abbrev pub invariant-loop-at : goal.invariant-loop-at

@@ -1,7 +1,7 @@
 use Rattle.std.proofs.Common.{◌≡◌, sym, ap, arith, below_more, ◌∙◌}
 use Rattle.type_rules.specs.Assignable.{is_same_type, are_same_types}
-use Rattle.shared_words.specs.Store.{word_at}
-use Rattle.shared_words.specs.Shown.{stack_words}
+use Rattle.type_lists.specs.Store.{word_at}
+use Rattle.type_lists.specs.Shown.{stack_words}
 use Rattle.typing_frames.proofs.SameLaws.{depths_apart, stack_all, stack_apart}
 use Rattle.typing_frames.proofs.same.are_same_stacks.Goals as goal
 

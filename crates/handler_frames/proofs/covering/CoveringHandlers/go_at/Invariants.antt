@@ -1,6 +1,6 @@
 use Rattle.std.proofs.Common.{◌≡◌, ◌<◌, ℕ, true, slice_index_or}
 use Rattle.type_rules.specs.Assignable.{is_assignable}
-use Rattle.shared_words.specs.Store.{word_at}
+use Rattle.type_lists.specs.Store.{word_at}
 use Rattle.handler_frames.specs.declared.span.Span.{Span}
 use Rattle.handler_frames.proofs.covering.CoveringHandlers.go_at.Given as goal
 

@@ -1,5 +1,5 @@
 use Rattle.std.proofs.Common.{◌≡◌, None, sym, ◌∙◌, subst, arith}
-use Rattle.shared_words.proofs.SetLaws.{on_ok}
+use Rattle.type_lists.proofs.SetLaws.{on_ok}
 use Rattle.type_rules.specs.TypeFaults.{handlers_fault}
 use Rattle.handler_frames.specs.Known.{KnowsHandlers, TakesFrame}
 use Rattle.handler_frames.proofs.KnownLaws.{begun_same, covered_taken, if_ok, knows_follow, knows_same}

@@ -1,6 +1,6 @@
 use Rattle.std.proofs.Common.{rules, ◌≡◌, ap, ◌∙◌}
 use Rattle.frame_snapshot.specs.FrameStack.{launch_frame, with_word}
-use Rattle.frame_snapshot.specs.declared.stage.Stage.TheVariants.{Begun}
+use Rattle.frame_snapshot.specs.declared.stage.FrameStage.TheVariants.{Begun}
 use Rattle.interp_calls.proofs.MainLemmas.{launched}
 use Rattle.interp_calls.proofs.java_code.JavaCode.main.Goals as goal
 

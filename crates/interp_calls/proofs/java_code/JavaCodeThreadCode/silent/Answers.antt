@@ -1,14 +1,10 @@
-use Rattle.std.proofs.Common.{sym, ap, ◌∙◌}
-use Rattle.java_rows.specs.Thread.{is_end}
-use Rattle.interp_plans.specs.Todos.{plan_of}
-use Rattle.interp_plans.specs.Uses.{frame_of}
-use Rattle.interp_calls.proofs.SilentLemmas.{leaves_is}
+use Rattle.interp_calls.proofs.StateLemmas.{on_err, same_inside, same_thread}
 use Rattle.interp_calls.proofs.java_code.JavaCodeThreadCode.silent.Goals as goal
 
-pub step-requires-clause-stays : goal.step-requires-clause-stays
-step-requires-clause-stays g c outcome is =
-    let us = g.P.Constants.units c.args.self.now.program.now in
-    let me = c.args.self.now.thread in
-    let s = c.args.self.now.frames in
-    let plan = plan_of us me (frame_of s.here) c.in-Some.todo in
-    sym (leaves_is us me s plan c.in-Some.ensures.some (ap (λ t. is_end (plan_of us me (frame_of s.here) t)) is)) ∙ c.requires.stays
+pub returns-in_err-self-in-Some-clause-err : goal.returns-in_err-self-in-Some-clause-err
+returns-in_err-self-in-Some-clause-err g c =
+    on_err c.from_residual.result (same_inside c.args.self.now c.silent_inside.new.frames c.silent_inside.new.texts _ _ c.in_err-self-in-Some.ensures.frames c.in_err-self-in-Some.ensures.texts)
+
+pub returns-in_err-silent_outside-in-None-clause-err : goal.returns-in_err-silent_outside-in-None-clause-err
+returns-in_err-silent_outside-in-None-clause-err g c =
+    on_err c.from_residual-in_err-silent_outside-in-None.result (same_thread c.args.self.now c.silent_outside.new.frames _ _ c.in_err-silent_outside-in-None.ensures.err)

@@ -1,7 +1,7 @@
 use Rattle.std.proofs.Common.{◌≡◌, ◌-◌, ap, sym, length, map, take, ◌∙◌}
 use Rattle.code_frames.specs.Locals.{changed}
 use Rattle.type_rules.specs.MapFrames.{item_type}
-use Rattle.shared_words.proofs.SetLaws.{on_ok}
+use Rattle.type_lists.proofs.SetLaws.{on_ok}
 use Rattle.map_frames.proofs.ItemLaws.{chopped}
 use Rattle.map_frames.proofs.items.LocalItems.change.Goals as goal
 

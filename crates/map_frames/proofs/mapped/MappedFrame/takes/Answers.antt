@@ -1,5 +1,5 @@
 use Rattle.std.proofs.Common.{arith, ◌∙◌}
-use Rattle.shared_words.proofs.SetLaws.{on_ok}
+use Rattle.type_lists.proofs.SetLaws.{on_ok}
 use Rattle.map_frames.proofs.TakesLaws.{passing_apart, deeper_apart, inside_tells}
 use Rattle.map_frames.proofs.mapped.MappedFrame.takes.Goals as goal
 

@@ -1,5 +1,5 @@
-use Rattle.shared_words.specs.Store.{word_at}
-use Rattle.shared_words.proofs.ListLaws.{stack_depth}
+use Rattle.type_lists.specs.Store.{word_at}
+use Rattle.type_lists.proofs.ListLaws.{stack_depth}
 use Rattle.step_frames.proofs.shown.ShownFrameFrameWords.height.Goals as goal
 
 pub returns : goal.returns

@@ -1,5 +1,5 @@
 use Rattle.std.proofs.Common.{ap, []}
-use Rattle.shared_words.specs.Store.{word_at}
+use Rattle.type_lists.specs.Store.{word_at}
 use Rattle.typing_frames.proofs.FrameLaws.{tops_shown, type_frame}
 use Rattle.typing_frames.proofs.stores.FrameStores.empty.Goals as goal
 

@@ -1,6 +1,6 @@
 use Rattle.std.proofs.Common.{sym, ◌∙◌}
-use Rattle.shared_words.specs.Store.{word_at}
-use Rattle.shared_words.proofs.ListLaws.{stack_depth}
+use Rattle.type_lists.specs.Store.{word_at}
+use Rattle.type_lists.proofs.ListLaws.{stack_depth}
 use Rattle.typing_frames.specs.Frames.{shown}
 use Rattle.typing_frames.proofs.CompareLaws.{depths_apart}
 use Rattle.typing_frames.proofs.stores.FrameStores.is_frame_assignable.Goals as goal

@@ -1,5 +1,5 @@
 use Rattle.std.proofs.Common.{sym, ◌∙◌, arith}
-use Rattle.shared_words.specs.Store.{word_at}
+use Rattle.type_lists.specs.Store.{word_at}
 use Rattle.typing_frames.proofs.FrameLaws.{stack_none, stack_there}
 use Rattle.typing_frames.proofs.stores.FrameStores.peek.Goals as goal
 

@@ -1,5 +1,5 @@
 use Rattle.std.proofs.Common.{ap, arith, ◌-◌}
-use Rattle.shared_words.specs.Store.{word_at}
+use Rattle.type_lists.specs.Store.{word_at}
 use Rattle.typing_frames.specs.Frames.{shown}
 use Rattle.typing_frames.proofs.FrameLaws.{popped, type_frame}
 use Rattle.type_rules.specs.declared.types.VerificationType.TheVariants.{Top}

@@ -1,0 +1,4 @@
+pub mod Table
+pub mod NativeLaws
+pub mod ThrowableLaws
+pub mod CharArrays

@@ -1,5 +1,0 @@
-pub mod OperandLaws
-pub mod ClassLaws
-pub mod FieldLaws
-pub mod LiteralLaws
-pub mod ChainLaws

@@ -1,6 +1,0 @@
-use Rattle.std.proofs.Common.{◌≡◌, map, take}
-use Rattle.java_program.specs.Quicks.{quicks_of_unit}
-use Rattle.java_program.proofs.quicks.make_program_quicks.Given as goal
-
-abbrev pub invariant-loop-unit : goal.invariant-loop-unit
-invariant-loop-unit l = l.quicks.items ≡ map quicks_of_unit (take l.unit-index l.units)

@@ -1,6 +1,0 @@
-use Rattle.std.proofs.Common.{◌≡◌, map, take}
-use Rattle.java_program.specs.Quicks.{quicks_of_code}
-use Rattle.java_program.proofs.quicks.unit_quicks.Given as goal
-
-abbrev pub invariant-loop-code : goal.invariant-loop-code
-invariant-loop-code l = l.quicks.items ≡ map quicks_of_code (take l.code-index l.code-items)

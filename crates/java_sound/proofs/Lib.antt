@@ -1,0 +1,4 @@
+pub mod SoundLemmas
+pub mod OrderlyLemmas
+pub mod WaitLemmas
+pub mod Whole

@@ -1,0 +1,43 @@
+-- The laws of accepted programs.
+use Rattle.std.proofs.Common.{◌<◌, ℕ, List, length}
+use Rattle.code_decode.specs.declared.code.ClassUnit.{ClassUnit}
+use Rattle.link_types.specs.declared.operands.MethodId.{MethodId}
+use Rattle.link_rules.specs.Classes.{classes_of}
+use Rattle.op_core.specs.Orderly.{IsOrderly}
+use Rattle.java_rows.specs.Thread.{java_code, first_state}
+use Rattle.soundness_senses.specs.Texts.{CallsTextMaker}
+use Rattle.soundness_senses.specs.Accepted.{Accepted, IsMain}
+use Rattle.soundness_runs.specs.ClassesFollow.{ClassesFollow}
+use Rattle.soundness_senses.specs.Kinds.{kinds}
+use Rattle.soundness_senses.specs.Runs.{runs}
+use Rattle.java_sound.specs.Sound.{HasRoom, LiveThreadsGoOn, BlockedThreadsWait, ExecutionsFit, ListsFit, StartsAreGrounded, StartsKeepStartWords}
+use Rattle.soundness_senses.proofs.KindsKnow.{kinds_know}
+use Rattle.soundness_runs.proofs.RunsKnow.{runs_know}
+use Rattle.soundness_rows.proofs.RowsTogether.{rows_fit}
+use Rattle.soundness_calls.proofs.FirstState.{first_fits}
+use Rattle.java_sound.proofs.WaitLemmas.{blocked_wait}
+use Rattle.java_sound.proofs.SoundLemmas as runs_of
+use Rattle.java_sound.proofs.OrderlyLemmas as kinds_of
+
+module _ (us : List ClassUnit) (accepted : Accepted us) (room : HasRoom us) where
+  pub lists : ClassesFollow us → ListsFit us
+  lists follow = runs_of.lists_fit us (runs_know us follow) accepted (rows_fit (runs us) us (runs_know us follow) accepted) room
+
+  pub grounded : ClassesFollow us → StartsAreGrounded us
+  grounded follow = runs_of.grounded us (runs_know us follow) accepted (rows_fit (runs us) us (runs_know us follow) accepted) room
+
+  pub start_words : ClassesFollow us → StartsKeepStartWords us
+  start_words follow = runs_of.start_words us (runs_know us follow) accepted (rows_fit (runs us) us (runs_know us follow) accepted) room
+
+  pub orderly : (main : MethodId) (classes : ℕ) → IsMain us main → (CallsTextMaker us → ⊥) → length (classes_of us) < classes → IsOrderly java_code (first_state us main) classes
+  orderly main classes is none below =
+      kinds_of.orderly us accepted (rows_fit (kinds us) us (kinds_know us) accepted) room none (first_state us main) classes (first_fits (kinds us) us (kinds_know us) accepted (λ me. rows_fit (kinds us) us (kinds_know us) accepted) main is tt) below
+
+  pub live_threads : ClassesFollow us → LiveThreadsGoOn us
+  live_threads follow = runs_of.go_on us (runs_know us follow) accepted (rows_fit (runs us) us (runs_know us follow) accepted) room
+
+  pub waits : ClassesFollow us → BlockedThreadsWait us
+  waits follow = blocked_wait us (runs_know us follow) accepted (rows_fit (runs us) us (runs_know us follow) accepted) room
+
+  pub executions : ClassesFollow us → ExecutionsFit us
+  executions follow = runs_of.executions_fit us (runs_know us follow) accepted (rows_fit (runs us) us (runs_know us follow) accepted) room

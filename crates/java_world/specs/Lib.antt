@@ -1,0 +1,2 @@
+pub mod Quicks
+pub mod Literals

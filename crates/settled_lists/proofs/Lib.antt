@@ -1,0 +1,4 @@
+pub mod ReplayLemmas
+pub mod SettledLemmas
+pub mod PartLemmas
+pub mod MonitorLemmas

@@ -1,0 +1,69 @@
+//! Laws of what the events that are left have made of words and monitors, where the levels are known that are to be undone.
+//!
+//! While a thread has a level open that is to be undone, a word of an object may have a value that no event which is left
+//! has written. What is settled is then found by replay: the words that the thread noted since that level are put back.
+//! Each law says how that goes on with one kind of step. It is the contract of a function with no parameters and an empty
+//! body, for the crates above to cite.
+#![tactic(auto)]
+
+ghost use Rattle.settled_lists.specs.Laws.{KeptWritesSettle, NotedWritesSettle, WordsPutBackSettle, OpenedLevelsPutBackTheSame, ClosedLevelsPutBackTheSame, UndoneLevelsPutBackNone, NotedWordsArePutBack, TakenMonitorsSettle, DeepenedMonitorsSettle, ReleasedMonitorsSettle, OpenedLevelsKeepDepths, ClosedLevelsKeepDepths};
+
+/// A write that is left settles its word.
+pub fn kept_writes_settle()
+    ensures { KeptWritesSettle }
+{}
+
+/// A write that is to be undone leaves what is settled as it is.
+pub fn noted_writes_settle()
+    ensures { NotedWritesSettle }
+{}
+
+/// So does putting a word back.
+pub fn words_put_back_settle()
+    ensures { WordsPutBackSettle }
+{}
+
+/// The same words are to be put back after a level was opened,
+pub fn opened_levels_put_back_the_same()
+    ensures { OpenedLevelsPutBackTheSame }
+{}
+
+/// and after levels were closed.
+pub fn closed_levels_put_back_the_same()
+    ensures { ClosedLevelsPutBackTheSame }
+{}
+
+/// None is left once all levels are undone that are to be.
+pub fn undone_levels_put_back_none()
+    ensures { UndoneLevelsPutBackNone }
+{}
+
+/// A word that is noted in a level that is to be undone is one of them.
+pub fn noted_words_are_put_back()
+    ensures { NotedWordsArePutBack }
+{}
+
+/// A free monitor may be taken,
+pub fn taken_monitors_settle()
+    ensures { TakenMonitorsSettle }
+{}
+
+/// one that is held may get another depth,
+pub fn deepened_monitors_settle()
+    ensures { DeepenedMonitorsSettle }
+{}
+
+/// and one may be released: what is settled of monitors goes on.
+pub fn released_monitors_settle()
+    ensures { ReleasedMonitorsSettle }
+{}
+
+/// How often a monitor will be held once all is undone that is to be stays as a level is opened,
+pub fn opened_levels_keep_depths()
+    ensures { OpenedLevelsKeepDepths }
+{}
+
+/// and as levels are closed.
+pub fn closed_levels_keep_depths()
+    ensures { ClosedLevelsKeepDepths }
+{}

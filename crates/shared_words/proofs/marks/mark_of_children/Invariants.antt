@@ -1,6 +1,0 @@
-use Rattle.std.proofs.Common.{◌<◌, ℕ, slice_index}
-use Rattle.shared_words.specs.Marks.{mark_at, HasBits}
-use Rattle.shared_words.proofs.marks.mark_of_children.Given as goal
-
-abbrev pub invariant-loop-digit : goal.invariant-loop-digit
-invariant-loop-digit l = (j : ℕ) → j < l.digit → HasBits l.mark (mark_at l.marks (slice_index l.children j))

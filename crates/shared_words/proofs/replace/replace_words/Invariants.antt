@@ -1,6 +1,0 @@
-use Rattle.std.proofs.Common.{◌≡◌, length}
-use Rattle.shared_words.proofs.Replaced.{ReplacingWords}
-use Rattle.shared_words.proofs.replace.replace_words.Given as goal
-
-abbrev pub invariant-loop-place : goal.invariant-loop-place
-invariant-loop-place l = (length l.fn.words ≡ 8) × ReplacingWords l.fn.words l.words l.old l.new l.place

@@ -1,4 +1,0 @@
-use Rattle.shared_words.proofs.set.+set_in.Given as goal
-
-abbrev pub decreases-set_in : goal.decreases-set_in
-decreases-set_in l = l.height

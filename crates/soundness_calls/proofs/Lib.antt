@@ -1,0 +1,14 @@
+pub mod CallsFit
+pub mod TextsFit
+pub mod ChosenFit
+pub mod NativesFit
+pub mod VirtualRowFits
+pub mod InterfaceRowFits
+pub mod StaticRowFits
+pub mod SpecialRowFits
+pub mod ConstructorRowFits
+pub mod TextRowsFit
+pub mod TasksFit
+pub mod LaunchFit
+pub mod NativesTable
+pub mod FirstState

@@ -1,0 +1,4 @@
+pub mod LocalRowsFit
+pub mod NumberRowsFit
+pub mod StackRowsFit
+pub mod FlowRowsFit

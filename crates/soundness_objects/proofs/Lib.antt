@@ -1,0 +1,12 @@
+pub mod ReturnRowsFit
+pub mod ReadValues
+pub mod FieldRowsFit
+pub mod MonitorRowsFit
+pub mod EntersFit
+pub mod NewRowFits
+pub mod ElementRowsFit
+pub mod ArrayRowsFit
+pub mod CastRowsFit
+pub mod InitializationFits
+pub mod StoreRowsFit
+pub mod StaticFieldRowsFit

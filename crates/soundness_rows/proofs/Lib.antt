@@ -1,0 +1,4 @@
+pub mod EachRowFits
+pub mod PartsBegin
+pub mod RowsBegin
+pub mod RowsTogether

@@ -1,0 +1,2 @@
+pub mod RunsKnow
+pub mod Seen

@@ -1,0 +1,9 @@
+pub mod Basics
+pub mod Plans
+pub mod Operands
+pub mod KindsKnow
+pub mod Flow
+pub mod RowBasics
+pub mod EndsFit
+pub mod More
+pub mod Settled

@@ -1,0 +1,43 @@
+-- What is known of references and words while threads go on.
+use Rattle.std.specs.Prelude.{◌≡◌, ◌⊎◌, ◌<◌, ◌^◌, ℕ}
+use Rattle.op_core.specs.declared.Op.{Op}
+use Rattle.op_core.specs.declared.Reply.{Reply}
+use Rattle.link_types.specs.declared.types.ObjectType.{ObjectType}
+
+-- a word of an object holds a number, or null and references to objects of a type
+pub data Content : Type 0 where
+  number : Content
+  reference : ObjectType → Content
+
+-- Something is known of references in each state of knowledge, and it only grows.
+pub record Sense (P : Type 0) : Type 1 where
+  pub extends : P → P → Type 0
+  -- words are known to be numbers of 32 bits
+  pub exact : Type 0
+  pub is_there : P → ℕ → Type 0
+  -- an object of the type, initialized or not
+  pub is_raw : P → ℕ → ObjectType → Type 0
+  -- an initialized object of the type
+  pub is_of : P → ℕ → ObjectType → Type 0
+  -- an object of exactly this class and length
+  pub is_exactly : P → ℕ → ℕ → ℕ → Type 0
+  -- an initialized object of this class, which is below Throwable
+  pub is_thrown : P → ℕ → ℕ → Type 0
+  -- the object has a word at a place, which holds this
+  pub has_word : P → ℕ → ℕ → Content → Type 0
+  -- an operation may be wanted, and a reply may come
+  pub may_want : P → Op → Type 0
+  pub may_come : P → Op → Reply → Type 0
+  -- a text may be longer than an array may be, so a thread may have no row that makes it
+  pub may_be_lost : P → Type 0
+
+module _ {P : Type 0} (know : Sense P) where
+  abbrev pub IsWord : ℕ → Type 0
+  IsWord v = know.exact → v < 2 ^ 32
+
+  abbrev pub IsReference : P → ℕ → ObjectType → Type 0
+  IsReference h v t = (v ≡ 0) ⊎ know.is_of h v t
+
+  abbrev pub WordFits : P → ℕ → Content → Type 0
+  WordFits h v number = IsWord v
+  WordFits h v (reference t) = IsReference h v t

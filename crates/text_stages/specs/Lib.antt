@@ -1,0 +1,4 @@
+pub mod Stages
+pub mod Laws
+pub mod Reading
+pub mod Making

@@ -1,0 +1,15 @@
+use Rattle.std.proofs.Common.{arith, refl, sym, ◌∙◌}
+use Rattle.type_lists.proofs.StoreLaws.{follows, remembers_on, is_kept, list_is, words_are}
+use Rattle.type_lists.proofs.store.WordStore.keep.Goals as goal
+
+pub returns-clause-follows : goal.returns-clause-follows
+returns-clause-follows c = follows c.args.self.now _ refl refl refl (omega (arith, c.len-self.ensures, c.args.self.now.kept_fixed, c.args.self.now.within)) (omega (arith, c.len-self.ensures, c.args.self.now.within)) (λ i h. refl)
+
+pub returns-clause-remembered : goal.returns-clause-remembered
+returns-clause-remembered c = λ h. remembers_on h c.args.self.now _ refl (omega (arith, c.len-self.ensures, c.args.self.now.within)) (λ i h. refl)
+
+pub returns-clause-kept : goal.returns-clause-kept
+returns-clause-kept c = λ words h. is_kept _ words (omega (arith, c.len-self.ensures, list_is c.args.self.now words h))
+
+pub returns-clause-words : goal.returns-clause-words
+returns-clause-words c = λ words h. words_are _ words ∙ sym (words_are c.args.self.now words)
