@@ -1,5 +1,7 @@
 //! What a thread wants, saves and goes back to.
 
+ghost use Rattle.std.specs.Prelude.{◌≡◌, ◌≢◌, [], IfOk, IsTrue};
+
 use crate::setting::program_of;
 use interp_calls::JavaCode;
 use java_world::JavaWorld;
@@ -33,7 +35,9 @@ fn begins<C: ThreadCode>(code: &mut C) -> bool {
 }
 
 // Saves at the entry of a monitor, if the thread is there.
-fn save<C: ThreadCode>(code: &mut C) -> Result<bool, NoMemory> {
+fn save<C: ThreadCode>(code: &mut C) -> Result<bool, NoMemory>
+    ensures { IfOk result (λ is_saved. IsTrue is_saved → C.saved code.new ≢ []) }
+{
     match code.next() {
         Next::Want(Op::Enter(_)) => {
             code.save()?;
@@ -44,7 +48,9 @@ fn save<C: ThreadCode>(code: &mut C) -> Result<bool, NoMemory> {
 }
 
 // The monitor is entered and exited, with this many silent steps in between.
-fn goes_on<C: ThreadCode>(code: &mut C) -> Option<u64> {
+fn goes_on<C: ThreadCode>(code: &mut C) -> Option<u64>
+    ensures { C.saved code.new ≡ C.saved code.old }
+{
     let Next::Want(Op::Enter(_)) = code.next() else {
         return None;
     };

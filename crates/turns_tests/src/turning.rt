@@ -49,13 +49,16 @@ fn can_go<C: ThreadCode>(ready: &ReadyThread<C>, words: &PlainWords) -> bool
     }
 }
 
-/// Gives a thread a turn.
+/// Gives a thread a turn. A turn that was refused memory left all as it was, so it is given once more.
 pub fn give<C: ThreadCode + Drop>(
     ready: &mut ReadyThread<C>,
     words: &mut PlainWords,
 ) -> Result<Turn<C, ()>, Fail> {
     if !ready.thread().can_be_asked() || !can_go(ready, words) {
         return Err(Fail::from("the next step can't be made"));
+    }
+    if let Ok(turned) = turn(ready, words) {
+        return Ok(turned);
     }
     match turn(ready, words) {
         Ok(turned) => Ok(turned),
