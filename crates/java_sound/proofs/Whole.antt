@@ -5,7 +5,6 @@ use Rattle.link_types.specs.declared.operands.MethodId.{MethodId}
 use Rattle.link_rules.specs.Classes.{classes_of}
 use Rattle.op_core.specs.Orderly.{IsOrderly}
 use Rattle.java_rows.specs.Thread.{java_code, first_state}
-use Rattle.soundness_senses.specs.Texts.{CallsTextMaker}
 use Rattle.soundness_senses.specs.Accepted.{Accepted, IsMain}
 use Rattle.soundness_runs.specs.ClassesFollow.{ClassesFollow}
 use Rattle.soundness_senses.specs.Kinds.{kinds}
@@ -29,9 +28,9 @@ module _ (us : List ClassUnit) (accepted : Accepted us) (room : HasRoom us) wher
   pub start_words : ClassesFollow us → StartsKeepStartWords us
   start_words follow = runs_of.start_words us (runs_know us follow) accepted (rows_fit (runs us) us (runs_know us follow) accepted) room
 
-  pub orderly : (main : MethodId) (classes : ℕ) → IsMain us main → (CallsTextMaker us → ⊥) → length (classes_of us) < classes → IsOrderly java_code (first_state us main) classes
-  orderly main classes is none below =
-      kinds_of.orderly us accepted (rows_fit (kinds us) us (kinds_know us) accepted) room none (first_state us main) classes (first_fits (kinds us) us (kinds_know us) accepted (λ me. rows_fit (kinds us) us (kinds_know us) accepted) main is tt) below
+  pub orderly : (main : MethodId) (classes : ℕ) → IsMain us main → length (classes_of us) < classes → IsOrderly java_code (first_state us main) classes
+  orderly main classes is below =
+      kinds_of.orderly us accepted (rows_fit (kinds us) us (kinds_know us) accepted) room (first_state us main) classes (first_fits (kinds us) us (kinds_know us) accepted (λ me. rows_fit (kinds us) us (kinds_know us) accepted) main is tt) below
 
   pub live_threads : ClassesFollow us → LiveThreadsGoOn us
   live_threads follow = runs_of.go_on us (runs_know us follow) accepted (rows_fit (runs us) us (runs_know us follow) accepted) room
