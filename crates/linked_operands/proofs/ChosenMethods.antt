@@ -304,24 +304,21 @@ module _ (us : List ClassUnit) where
           let (code, coded) = have_code of.unit.file of.unit.codes decoded.file decoded.codes id.method of.member of.listed concrete' here in
           file_code us id of.file of.unit m code of.class of.there named coded
 
+      no_native : (c j : ℕ) → 28 < c → native_of (record { class = c; method = j }) ≡ None
+      no_native zero j lt = refl
+      no_native (suc i) j lt = ap (λ o. option_and_then (λ (k : Rattle.builtin_world.specs.Library.Class). option_map (λ (x : Rattle.builtin_world.specs.Library.Method). x.native) (slice_get k.methods j)) o) (Rattle.std.proofs.lemmas.Option.slice_get_past library i (library_long i lt))
+
+      pub file_body : (id : MethodId) (m : NamedMember) → method_named (classes_of us) id ≡ Some m → 28 < id.class → has m.flags ABSTRACT ≡ false → body_of us id ≡ Some bodies.Code
+      file_body id m named above concrete =
+          ap (λ o. option_map (body_of_member id) o) named
+          ∙ (ap (λ b. Some (cond b bodies.Abstract (option_map_or (λ x. bodies.Native x) (native_of id) bodies.Code))) concrete ∙ ap (λ o. Some (option_map_or (λ x. bodies.Native x) o bodies.Code)) (no_native id.class id.method above))
+
       pub bodies_are : (id : MethodId) (m : NamedMember) → method_named (classes_of us) id ≡ Some m → has m.flags ABSTRACT ≡ false
           → ((n : Native) × (body_of us id ≡ Some (bodies.Native n))) ⊎ (CodeOf us id × (body_of us id ≡ Some bodies.Code))
       bodies_are id m named concrete = elim (cases_lt 28 id.class) [
         | inr low ↦ inl (built_in_body us id m named (omega (arith, low)) concrete)
-        | inl above ↦ inr (code_there id m named above concrete, file_body above)
+        | inl above ↦ inr (code_there id m named above concrete, file_body id m named above concrete)
       ]
-        where
-          no_native : 28 < id.class → native_of id ≡ None
-          no_native above = past id.class id.method above
-            where
-              past : (c j : ℕ) → 28 < c → native_of (record { class = c; method = j }) ≡ None
-              past zero j lt = refl
-              past (suc i) j lt = ap (λ o. option_and_then (λ (k : Rattle.builtin_world.specs.Library.Class). option_map (λ (x : Rattle.builtin_world.specs.Library.Method). x.native) (slice_get k.methods j)) o) (Rattle.std.proofs.lemmas.Option.slice_get_past library i (library_long i lt))
-
-          file_body : 28 < id.class → body_of us id ≡ Some bodies.Code
-          file_body above =
-              ap (λ o. option_map (body_of_member id) o) named
-              ∙ (ap (λ b. Some (cond b bodies.Abstract (option_map_or (λ x. bodies.Native x) (native_of id) bodies.Code))) concrete ∙ ap (λ o. Some (option_map_or (λ x. bodies.Native x) o bodies.Code)) (no_native above))
 
       pub initializers_are : (c : ℕ) (id : MethodId) → initializer (classes_of us) c ≡ Some id → (code : CodeOf us id) × ((env_of us id code).entry ≡ [])
       initializers_are c id e =
