@@ -19,7 +19,7 @@ use crate::row::UnitRow;
 use crate::stage::{Known, Part, Tail, TextStage};
 use crate::starting::first_stage;
 use crate::values::value_units;
-use builtin_world::number::{INDEX_OUT_OF_BOUNDS_EXCEPTION, STRING};
+use builtin_world::number::{INDEX_OUT_OF_BOUNDS_EXCEPTION, NEGATIVE_ARRAY_SIZE_EXCEPTION, STRING};
 use builtin_world::word::{BUILDER_TEXT, STRING_UNITS};
 use frame_snapshot::{Appended, TextJob};
 use instructions::PrimitiveType;
@@ -523,7 +523,7 @@ impl TextRun {
         Ok(TextReached::Stands)
     }
 
-    // The text that is made, where it isn't longer than an array may be.
+    // The text that is made.
     fn joined<P: JavaProgram>(
         &self,
         alloc: Global,
@@ -558,7 +558,7 @@ impl TextRun {
     {
         let row = self.joined(alloc, program, tail)?;
         if row.len() >= 1 << 31 {
-            return Ok(TextReached::Lost);
+            return Ok(TextReached::Breaks(NEGATIVE_ARRAY_SIZE_EXCEPTION));
         }
         let Some(class) = program.primitive_array(PrimitiveType::Char) else {
             return Ok(TextReached::Lost);

@@ -2,7 +2,7 @@
 -- word; of a literal that word is null, and its length is the number of its text.
 use Rattle.std.specs.Prelude.{ℕ, zero, suc, ◌==◌, ◌%◌, ◌^◌, Bool, nat_lt, Option, None, Some, List, [], ◌∷◌, ◌++◌, length, slice_get, bytes_eq, unwrap_or, if◌then◌else◌}
 use Rattle.std.specs.Option.{option_map_or}
-use Rattle.builtin_world.specs.declared.number.TheConstants.{STRING, NULL_POINTER_EXCEPTION, INDEX_OUT_OF_BOUNDS_EXCEPTION}
+use Rattle.builtin_world.specs.declared.number.TheConstants.{STRING, NULL_POINTER_EXCEPTION, INDEX_OUT_OF_BOUNDS_EXCEPTION, NEGATIVE_ARRAY_SIZE_EXCEPTION}
 use Rattle.builtin_world.specs.declared.word.TheConstants.{STRING_UNITS, BUILDER_TEXT}
 use Rattle.code_decode.specs.declared.code.ClassUnit.{ClassUnit}
 use Rattle.instructions.specs.declared.operation.PrimitiveType.TheVariants.{Char}
@@ -27,8 +27,9 @@ abbrev pub reads_text : List ClassUnit → ℕ → (List ℕ → Plan) → Plan
 reads_text us s k = reads s STRING_UNITS (λ array.
     if array == 0 then asks_class s (λ c n. k (literal_units us n)) else reads_array array k)
 
--- ---- a text is made: one silent step takes the room. One that is longer than an array may be has no row; the limit of
--- the heap is met long before.
+-- ---- a text is made: one silent step takes the room. A length of 2^31 or more would be negative as an int, so concat
+-- throws a NegativeArraySizeException; so does append here, since the OutOfMemoryError that Java throws has no class. The
+-- limit of the heap is met long before.
 
 abbrev pub is_short : List ℕ → Bool
 is_short units = nat_lt (length units) (2 ^ 31)
@@ -47,10 +48,10 @@ abbrev pub makes_array : ℕ → List ℕ → (ℕ → Plan) → Plan
 makes_array class units k = makes class (length units) (λ array.
     writes_units array units 0 (length units) (makes_string array k))
 
-abbrev pub makes_text : List ClassUnit → List ℕ → (ℕ → Plan) → Plan
-makes_text us units k = silently (if is_short units
+abbrev pub makes_text : List ClassUnit → Use → List ℕ → (ℕ → Plan) → Plan
+makes_text us u units k = silently (if is_short units
     then option_map_or (λ class. makes_array class units k) (primitive_array_number (program_names us) Char) stuck
-    else stuck)
+    else raises u NEGATIVE_ARRAY_SIZE_EXCEPTION)
 
 -- ---- String
 
@@ -81,7 +82,7 @@ compares us s other u =
 -- an argument without units gives the receiver
 abbrev pub joined : List ClassUnit → ℕ → Use → List ℕ → List ℕ → Plan
 joined us s u a [] = u.value (s ∷ [])
-joined us s u a (x ∷ b) = makes_text us (a ++ x ∷ b) (λ r. u.value (r ∷ []))
+joined us s u a (x ∷ b) = makes_text us u (a ++ x ∷ b) (λ r. u.value (r ∷ []))
 
 abbrev pub joins : List ClassUnit → ℕ → ℕ → Use → Plan
 joins us s other u =
@@ -96,7 +97,7 @@ reads_so_far us b k = reads b BUILDER_TEXT (λ s. if s == 0 then k [] else reads
 
 -- the builder gets a new text, and the call has this value
 abbrev pub keeps_text : List ClassUnit → ℕ → List ℕ → Use → List ℕ → Plan
-keeps_text us b units u value = makes_text us units (λ s. writes b BUILDER_TEXT s (u.value value))
+keeps_text us b units u value = makes_text us u units (λ s. writes b BUILDER_TEXT s (u.value value))
 
 abbrev pub copies_text : List ClassUnit → ℕ → ℕ → Use → Plan
 copies_text us b s u =
@@ -116,4 +117,4 @@ abbrev pub gets_builder_length : List ClassUnit → ℕ → Use → Plan
 gets_builder_length us b u = reads_so_far us b (λ units. u.value (length_word units ∷ []))
 
 abbrev pub tells_text : List ClassUnit → ℕ → Use → Plan
-tells_text us b u = reads_so_far us b (λ units. makes_text us units (λ s. u.value (s ∷ [])))
+tells_text us b u = reads_so_far us b (λ units. makes_text us u units (λ s. u.value (s ∷ [])))

@@ -17,15 +17,14 @@ use Rattle.java_rows.specs.Plan.{Plan, want, silently, calls, ready, over, stuck
 use Rattle.java_rows.specs.Program.{is_of_file}
 use Rattle.java_rows.specs.Thread.{Local, java_code, next_of, silent_of, reply_of, child_of}
 use Rattle.soundness_senses.specs.Fits.{Returns, Preceding, anything, a_wait, the_end, Follows, after_reply, IsAnywhere, IsTheEnd, IsBegun, PlanFits}
-use Rattle.soundness_senses.specs.Texts.{CallsTextMaker}
 use Rattle.soundness_senses.specs.Accepted.{Accepted}
 use Rattle.soundness_senses.specs.Kinds.{kinds, KindsWant, KindsLocal}
-use Rattle.java_sound.specs.Sound.{HasRoom}
+use Rattle.soundness_senses.specs.Knowledge.{CanBeMade}
 use Rattle.soundness_senses.proofs.KindsKnow.{kinds_know}
 use Rattle.soundness_senses.specs.Rows.{RowsFit}
 use Rattle.soundness_senses.proofs.Settled.{goes_on_after, silent_fits, reply_fits, wants_fit, child_fits}
 
-module _ (us : List ClassUnit) (accepted : Accepted us) (rows : RowsFit (kinds us) us) (room : HasRoom us) (none : CallsTextMaker us → ⊥) where
+module _ (us : List ClassUnit) (accepted : Accepted us) (rows : RowsFit (kinds us) us) (few : (c n : ℕ) → CanBeMade us c n → object_words (program_names us) c n ≤ 2 ^ 32) where
   -- what comes next, by what came before
   abbrev IsNextOf : Preceding → Next → Type 0
   IsNextOf anything next = (IsRewake next → ⊥) × (next ≢ Ended)
@@ -52,7 +51,7 @@ module _ (us : List ClassUnit) (accepted : Accepted us) (rows : RowsFit (kinds u
   next_fits b res (silently plan) begun fits = next_silent b fits.0
   next_fits b res (calls id args monitor k) begun fits = next_silent b fits.0
   next_fits b res over begun fits = next_over b fits
-  next_fits b res stuck begun fits = absurd (none fits.1)
+  next_fits b res stuck begun fits = absurd fits
   next_fits b res (ready ending) begun fits = absurd begun
 
   abbrev Stands : Local → Type 0
@@ -102,7 +101,7 @@ module _ (us : List ClassUnit) (accepted : Accepted us) (rows : RowsFit (kinds u
     ends = λ l can. let s = stand first fits l can in not_ended s.0 (next_of l.plan) (next_of_local s.0 l s.1) s.2;
     inits = λ l c can e. let s = stand first fits l can in file_below c (may l (Init c) s e);
     settles = λ l c ok can e. let s = stand first fits l can in file_below c (may l (InitDone c ok) s e);
-    small = λ l c n can e within. let s = stand first fits l can in omega (arith, subst (λ p. object_words (program_names p) c n ≤ 2 ^ 32) (sym s.1.program) (room.few c n (may l (New c n) s e)));
+    small = λ l c n can e within. let s = stand first fits l can in omega (arith, subst (λ p. object_words (program_names p) c n ≤ 2 ^ 32) (sym s.1.program) (few c n (may l (New c n) s e)));
     children = λ l r can. let s = stand first fits l can in ap (λ p. child_of p r) (s.1.program ∙ sym fits.program);
   }
     where

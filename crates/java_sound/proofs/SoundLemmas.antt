@@ -19,7 +19,7 @@ use Rattle.soundness_senses.specs.Fits.{anything, after_reply, a_wait, the_end, 
 use Rattle.soundness_senses.specs.Knowledge.{Knows}
 use Rattle.soundness_senses.specs.Accepted.{Accepted}
 use Rattle.kept_states.specs.Kept.{Objects, Extends, IsTrueReply, Keeps}
-use Rattle.soundness_senses.specs.Runs.{ObjectFits, HasObject, MayStand, IsThread, RunsWant, runs, RunsLocal, HasLongArray}
+use Rattle.soundness_senses.specs.Runs.{ObjectFits, HasObject, MayStand, IsThread, RunsWant, runs, RunsLocal}
 use Rattle.java_sound.specs.Sound.{HasRoom, LiveThreadsGoOn, StateFits, ListsFit, ExecutionsFit, StartsAreGrounded, StartsKeepStartWords}
 use Rattle.kept_states.proofs.KeptLemmas.{lists_keep, executions_keep}
 use Rattle.soundness_senses.proofs.More.{local_more}
@@ -82,11 +82,11 @@ module _ (us : List ClassUnit) (knows : Knows (runs us) us) (accepted : Accepted
   pub executions_fit : ExecutionsFit us
   executions_fit start s fit (es, leads) = executions_keep Local java_code (RunsLocal us) (MayStand us) (ObjectFits us) java_keeps start es s fit leads
 
-  -- a live thread has a row, or there is a long array
+  -- a live thread has a row
   pub go_on : LiveThreadsGoOn us
   go_on s t l fit live ended = by_preceding (fit.threads t l live)
     where
-      by_preceding : RunsLocal us s.objects l → HasLongArray us s.objects
+      by_preceding : RunsLocal us s.objects l → ⊥
       by_preceding (fixed, anything, fits, goes) =
           ended_fits (runs us) us knows accepted rows l.thread anything (record { objects = s.objects; fixed = fixed }) fits.res l.plan ended fits.begun fits.plan refl
       by_preceding (fixed, a_wait r, fits, goes) = absurd (waits l.plan ended fits.begun fits.plan)
@@ -97,7 +97,7 @@ module _ (us : List ClassUnit) (knows : Knows (runs us) us) (accepted : Accepted
           waits (calls id args monitor k) e begun plan_fits = cc
           waits (ready ending) e begun plan_fits = begun
           waits over e begun plan_fits = plan_fits
-          waits stuck e begun plan_fits = plan_fits.0
+          waits stuck e begun plan_fits = plan_fits
       by_preceding (fixed, the_end, fits, goes) = absurd (goes tt)
 
   -- ---- what a thread wants is there, in range, and no start word

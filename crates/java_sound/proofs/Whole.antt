@@ -1,14 +1,16 @@
 -- The laws of accepted programs.
-use Rattle.std.proofs.Common.{◌<◌, ℕ, List, length}
+use Rattle.std.proofs.Common.{◌<◌, ◌≤◌, ◌^◌, ℕ, List, length}
 use Rattle.code_decode.specs.declared.code.ClassUnit.{ClassUnit}
 use Rattle.link_types.specs.declared.operands.MethodId.{MethodId}
 use Rattle.link_rules.specs.Classes.{classes_of}
+use Rattle.link_rules.specs.Layout.{object_words}
+use Rattle.link_rules.specs.Names.{program_names}
 use Rattle.op_core.specs.Orderly.{IsOrderly}
 use Rattle.java_rows.specs.Thread.{java_code, first_state}
-use Rattle.soundness_senses.specs.Texts.{CallsTextMaker}
 use Rattle.soundness_senses.specs.Accepted.{Accepted, IsMain}
 use Rattle.soundness_runs.specs.ClassesFollow.{ClassesFollow}
 use Rattle.soundness_senses.specs.Kinds.{kinds}
+use Rattle.soundness_senses.specs.Knowledge.{CanBeMade}
 use Rattle.soundness_senses.specs.Runs.{runs}
 use Rattle.java_sound.specs.Sound.{HasRoom, LiveThreadsGoOn, BlockedThreadsWait, ExecutionsFit, ListsFit, StartsAreGrounded, StartsKeepStartWords}
 use Rattle.soundness_senses.proofs.KindsKnow.{kinds_know}
@@ -18,6 +20,12 @@ use Rattle.soundness_calls.proofs.FirstState.{first_fits}
 use Rattle.java_sound.proofs.WaitLemmas.{blocked_wait}
 use Rattle.java_sound.proofs.SoundLemmas as runs_of
 use Rattle.java_sound.proofs.OrderlyLemmas as kinds_of
+
+-- of all that is asked of room, that objects have few words is enough for the order of operations
+pub goes_in_order : (us : List ClassUnit) → Accepted us → ((c n : ℕ) → CanBeMade us c n → object_words (program_names us) c n ≤ 2 ^ 32)
+    → (main : MethodId) (classes : ℕ) → IsMain us main → length (classes_of us) < classes → IsOrderly java_code (first_state us main) classes
+goes_in_order us accepted few main classes is below =
+    kinds_of.orderly us accepted (rows_fit (kinds us) us (kinds_know us) accepted) few (first_state us main) classes (first_fits (kinds us) us (kinds_know us) accepted (λ me. rows_fit (kinds us) us (kinds_know us) accepted) main is tt) below
 
 module _ (us : List ClassUnit) (accepted : Accepted us) (room : HasRoom us) where
   pub lists : ClassesFollow us → ListsFit us
@@ -29,9 +37,8 @@ module _ (us : List ClassUnit) (accepted : Accepted us) (room : HasRoom us) wher
   pub start_words : ClassesFollow us → StartsKeepStartWords us
   start_words follow = runs_of.start_words us (runs_know us follow) accepted (rows_fit (runs us) us (runs_know us follow) accepted) room
 
-  pub orderly : (main : MethodId) (classes : ℕ) → IsMain us main → (CallsTextMaker us → ⊥) → length (classes_of us) < classes → IsOrderly java_code (first_state us main) classes
-  orderly main classes is none below =
-      kinds_of.orderly us accepted (rows_fit (kinds us) us (kinds_know us) accepted) room none (first_state us main) classes (first_fits (kinds us) us (kinds_know us) accepted (λ me. rows_fit (kinds us) us (kinds_know us) accepted) main is tt) below
+  pub orderly : (main : MethodId) (classes : ℕ) → IsMain us main → length (classes_of us) < classes → IsOrderly java_code (first_state us main) classes
+  orderly = goes_in_order us accepted room.few
 
   pub live_threads : ClassesFollow us → LiveThreadsGoOn us
   live_threads follow = runs_of.go_on us (runs_know us follow) accepted (rows_fit (runs us) us (runs_know us follow) accepted) room

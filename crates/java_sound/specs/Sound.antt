@@ -1,5 +1,5 @@
 -- Type soundness of accepted programs.
-use Rattle.std.specs.Prelude.{◌≡◌, ◌<◌, ◌≤◌, ◌^◌, ℕ, true, Some, List, length}
+use Rattle.std.specs.Prelude.{◌≡◌, ◌≢◌, ◌<◌, ◌≤◌, ◌^◌, ℕ, true, Some, List, length}
 use Rattle.op_core.specs.declared.Op.TheVariants.{Enter, Rewake, Start, Join, Init}
 use Rattle.op_core.specs.declared.Next.TheVariants.{Want, Ended}
 use Rattle.op_core.specs.Execution.{IsBlocked, IsReached}
@@ -18,7 +18,7 @@ use Rattle.op_core.specs.Orderly.{StartWordsAreKept}
 use Rattle.op_core.specs.OrdinaryState.{Object, OrdinaryState, live, free, IsOpenTo, IsNotifiedFor, HasEnded, IsOpenClass}
 use Rattle.java_rows.specs.Thread.{Local, java_code}
 use Rattle.kept_states.specs.Kept.{IsKeptState}
-use Rattle.soundness_senses.specs.Runs.{ObjectFits, MayStandFor, MayStand, RunsLocal, IsThread, HasLongArray}
+use Rattle.soundness_senses.specs.Runs.{ObjectFits, MayStandFor, MayStand, RunsLocal, IsThread}
 
 -- how large the objects and the numbers of classes of a linked program are; no row asks for it
 pub record HasRoom (us : List ClassUnit) : Type 0 where
@@ -44,10 +44,9 @@ StartsKeepStartWords us = (start : OrdinaryState Local) → StateFits us start �
 abbrev pub ExecutionsFit : List ClassUnit → Type 0
 ExecutionsFit us = (start s : OrdinaryState Local) → StateFits us start → IsReached java_code start s → StateFits us s
 
--- a live thread wants an operation or has a silent step; only where a char array has 2^30 elements or more may it have come
--- to a text that is too long to be made
+-- a live thread wants an operation or has a silent step
 abbrev pub LiveThreadsGoOn : List ClassUnit → Type 0
-LiveThreadsGoOn us = (s : OrdinaryState Local) (t : ℕ) (l : Local) → StateFits us s → s.threads t ≡ live l → java_code.next l ≡ Ended → HasLongArray us s.objects
+LiveThreadsGoOn us = (s : OrdinaryState Local) (t : ℕ) (l : Local) → StateFits us s → s.threads t ≡ live l → java_code.next l ≢ Ended
 
 -- why an operation has no step although what it names is there
 abbrev pub Waits : OrdinaryState Local → ℕ → Op → Type 0

@@ -7,7 +7,6 @@ ghost use Rattle.link_rules.specs.Classes.{classes_of};
 ghost use Rattle.link_types.specs.declared.operands.MethodId.{MethodId};
 ghost use Rattle.op_core.specs.Orderly.{IsOrderly};
 ghost use Rattle.soundness_senses.specs.Accepted.{Accepted, IsMain};
-ghost use Rattle.soundness_senses.specs.Texts.{CallsTextMaker};
 ghost use Rattle.soundness_runs.specs.ClassesFollow.{ClassesFollow};
 ghost use Rattle.java_sound.specs.Sound.{HasRoom, BlockedThreadsWait, ExecutionsFit, ListsFit, LiveThreadsGoOn, StartsAreGrounded, StartsKeepStartWords};
 
@@ -32,17 +31,14 @@ pub fn programs_keep_start_words()
     ensures { (us : List ClassUnit) → Accepted us → HasRoom us → ClassesFollow us → StartsKeepStartWords us }
 {}
 
-/// The code of a program whose calls execute no method that makes a text goes in order, whatever it is answered: it ends
-/// by the end of its thread alone, and the second half of a wait comes right after the first half and nowhere else.
-///
-/// The premise on texts is needed: where a reply lies about the length of an array, a text may come to 2^31 units, and
-/// making one of so many has no row.
+/// The code of a program goes in order, whatever it is answered: it ends by the end of its thread alone, and the second
+/// half of a wait comes right after the first half and nowhere else.
 pub fn programs_are_orderly()
-    ensures { (us : List ClassUnit) (main : MethodId) (classes : ℕ) → Accepted us → HasRoom us → IsMain us main → (CallsTextMaker us → ⊥) → length (classes_of us) < classes → IsOrderly java_code (first_state us main) classes }
+    ensures { (us : List ClassUnit) (main : MethodId) (classes : ℕ) → Accepted us → HasRoom us → IsMain us main → length (classes_of us) < classes → IsOrderly java_code (first_state us main) classes }
 {}
 
 /// In a state that fits, a live thread never comes to a place where an operand, a local, room or an entry is missing: it
-/// wants an operation or has a silent step, unless there is a char array of 2^30 elements or more.
+/// wants an operation or has a silent step.
 pub fn live_threads_go_on()
     ensures { (us : List ClassUnit) → Accepted us → HasRoom us → ClassesFollow us → LiveThreadsGoOn us }
 {}

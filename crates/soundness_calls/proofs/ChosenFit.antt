@@ -33,7 +33,6 @@ use Rattle.java_rows.specs.Program.{argument_words, body_of, method_has}
 use Rattle.soundness_senses.specs.Senses.{Sense}
 use Rattle.soundness_senses.specs.Fits.{Unset, Returns, HaveTypes, ValuesFit, ResultFits, CodeOf, OperandFits, TaskFits, PlanFits, anything, EndsFit, UseFits, env_of, returns_of}
 use Rattle.soundness_senses.specs.Operands.{FitsIn, Begins}
-use Rattle.soundness_senses.specs.Texts.{IsCalled}
 use Rattle.soundness_senses.specs.Knowledge.{Knows}
 use Rattle.soundness_senses.specs.Accepted.{Accepted, IsChosen}
 use Rattle.soundness_senses.proofs.Basics.{append_typed, types_more, reference_more}
@@ -191,18 +190,18 @@ module _ {P : Type 0} (know : Sense P) (us : List ClassUnit) (knows : Knows know
 
   -- what methods of the built-in classes do is shown one by one
   abbrev pub NativesFit : Type 0
-  NativesFit = (h : P) (res : Option Returns) (id : MethodId) (n : Native) (r : ℕ) (args : List ℕ) (u : Use) (tells : Returns) → IsCalled us id → body_of us id ≡ Some (bodies.Native n) → know.is_of h me (Class THREAD) → know.is_of h r (Class id.class)
+  NativesFit = (h : P) (res : Option Returns) (id : MethodId) (n : Native) (r : ℕ) (args : List ℕ) (u : Use) (tells : Returns) → body_of us id ≡ Some (bodies.Native n) → know.is_of h me (Class THREAD) → know.is_of h r (Class id.class)
       → ValuesFit know h (parameters_of_method (program_names us) id) args → method_has us id STATIC ≡ false → tells.value ≡ result_of_method (program_names us) id → tells.made ≡ None → UseFits know us h res tells u → PlanFits know us res anything (native us me n (r ∷ args) u) h
 
   module _ (natives : NativesFit) where
     -- a chosen method is called
-    pub chosen_fits : (h : P) (res : Option Returns) (id found : MethodId) (r : ℕ) (args : List ℕ) (u : Use) → IsCalled us found → IsChosen us id found → know.is_of h me (Class THREAD) → know.is_of h r (Class found.class)
+    pub chosen_fits : (h : P) (res : Option Returns) (id found : MethodId) (r : ℕ) (args : List ℕ) (u : Use) → IsChosen us id found → know.is_of h me (Class THREAD) → know.is_of h r (Class found.class)
         → ValuesFit know h (parameters_of_method (program_names us) id) args → ((tells : Returns) → tells.value ≡ result_of_method (program_names us) id → UseFits know us h res tells u)
         → PlanFits know us res anything (invokes us me found (r ∷ args) u) h
-    chosen_fits h res id found r args u called chosen mine of fits on =
+    chosen_fits h res id found r args u chosen mine of fits on =
         let own : ValuesFit know h (parameters_of_method (program_names us) found) args = subst (λ ts. ValuesFit know h ts args) (sym chosen.parameters) fits in
         invokes_fit know us knows accepted me h res found (r ∷ args) u (accepted.bodies found chosen.member chosen.named chosen.concrete)
-        (λ n is. natives h res found n r args u (record { value = result_of_method (program_names us) found; made = None }) called is mine of own (ap (λ (o : Option NamedMember). option_map_or (λ (m : NamedMember). has m.flags STATIC) o false) chosen.named ∙ chosen.instance) refl refl (on (record { value = result_of_method (program_names us) found; made = None }) chosen.result))
+        (λ n is. natives h res found n r args u (record { value = result_of_method (program_names us) found; made = None }) is mine of own (ap (λ (o : Option NamedMember). option_map_or (λ (m : NamedMember). has m.flags STATIC) o false) chosen.named ∙ chosen.instance) refl refl (on (record { value = result_of_method (program_names us) found; made = None }) chosen.result))
         (λ c.
         let same : chosen.member ≡ c.member = same_Some chosen.member c.member (sym chosen.named ∙ c.named) in
         let instance : has c.member.flags STATIC ≡ false = subst (λ (m : NamedMember). has m.flags STATIC ≡ false) same chosen.instance in

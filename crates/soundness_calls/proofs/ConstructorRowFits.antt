@@ -35,7 +35,6 @@ use Rattle.java_rows.specs.Program.{argument_words, body_of}
 use Rattle.soundness_senses.specs.Senses.{Sense}
 use Rattle.soundness_senses.specs.Fits.{Unset, Returns, Holds, HaveTypes, ValuesFit, ResultFits, IsMade, CodeOf, PlanFits, anything, UseFits, env_of, returns_of}
 use Rattle.soundness_senses.specs.Operands.{FitsIn, Begins, Operands, at_offset}
-use Rattle.soundness_senses.specs.Texts.{IsCalled, by_name}
 use Rattle.soundness_senses.specs.Knowledge.{Knows}
 use Rattle.soundness_senses.specs.Natives.{IsNativeConstructor}
 use Rattle.soundness_senses.specs.Accepted.{Accepted}
@@ -105,7 +104,7 @@ module _ {P : Type 0} (know : Sense P) (us : List ClassUnit) (knows : Knows know
 
   -- what constructors of the built-in classes do is shown one by one
   abbrev pub NativeConstructorsFit : Type 0
-  NativeConstructorsFit = (h : P) (res : Option Returns) (id : MethodId) (n : Native) (r : ℕ) (args : List ℕ) (u : Use) (tells : Returns) → IsCalled us id → body_of us id ≡ Some (bodies.Native n) → know.is_of h me (Class THREAD) → know.is_raw h r (Class id.class)
+  NativeConstructorsFit = (h : P) (res : Option Returns) (id : MethodId) (n : Native) (r : ℕ) (args : List ℕ) (u : Use) (tells : Returns) → body_of us id ≡ Some (bodies.Native n) → know.is_of h me (Class THREAD) → know.is_raw h r (Class id.class)
       → ValuesFit know h (parameters_of_method (program_names us) id) args → tells ≡ record { value = result_of_method (program_names us) id; made = Some (r, id.class) } → IsNativeConstructor n → UseFits know us h res tells u → PlanFits know us res anything (native us me n (r ∷ args) u) h
 
   constructor_entry : (h : P) (id : MethodId) (c : CodeOf us id) (r : ℕ) (args : List ℕ) → is_constructor c.member ≡ true → has c.member.flags STATIC ≡ false → know.is_raw h r (Class id.class)
@@ -136,10 +135,10 @@ module _ {P : Type 0} (know : Sense P) (us : List ClassUnit) (knows : Knows know
       here = b.stands.frames f.step
 
       named : m.named ≡ Class m.method.class
-      named = of_class ∙ ap (λ x. Class x) (sym (accepted.constructors f.method.class index class m e constructs of_class).0)
+      named = of_class ∙ ap (λ x. Class x) (sym (accepted.constructors f.method.class index class m e fits constructs of_class).0)
 
       special_is : m.special ≡ Some m.method
-      special_is = (accepted.constructors f.method.class index class m e constructs of_class).1
+      special_is = (accepted.constructors f.method.class index class m e fits constructs of_class).1
 
       -- the frame after the call
       after_is : (n : ℕ) → words_wanted (call_wants env call.Special (operands.Method m)) ≡ suc n
@@ -199,7 +198,7 @@ module _ {P : Type 0} (know : Sense P) (us : List ClassUnit) (knows : Knows know
           let raw = raw_at r (slice_index_or here.stack n Top) holds right in
           let (member, is, concrete, static) = accepted.constructor_methods f.method.class m fits special_is in
           invokes_fit know us knows accepted me h (Some (returns_of know us h f b.stands)) m.method (r ∷ args) (use_in f rest) (accepted.bodies m.method member is concrete)
-          (λ k native. natives h (Some (returns_of know us h f b.stands)) m.method k r args (use_in f rest) (record { value = result_of_method (program_names us) m.method; made = Some (r, m.method.class) }) (by_name f.method.class index m e) native mine raw args_fit refl (accepted.native_constructors f.method.class index m k e constructs native)
+          (λ k native. natives h (Some (returns_of know us h f b.stands)) m.method k r args (use_in f rest) (record { value = result_of_method (program_names us) m.method; made = Some (r, m.method.class) }) native mine raw args_fit refl (accepted.native_constructors f.method.class index m k e constructs native)
           (on r n rest words holds right left (record { value = result_of_method (program_names us) m.method; made = Some (r, m.method.class) }) refl))
           (λ c.
           let same : member ≡ c.member = same_Some member c.member (sym is ∙ c.named) in

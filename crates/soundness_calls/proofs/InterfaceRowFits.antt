@@ -28,7 +28,6 @@ use Rattle.java_rows.specs.Program.{argument_words, method_has, method_of, selec
 use Rattle.soundness_senses.specs.Senses.{Sense, IsReference}
 use Rattle.soundness_senses.specs.Fits.{Returns, HaveTypes, ValuesFit, PlanFits, anything, UseFits, env_of, returns_of}
 use Rattle.soundness_senses.specs.Operands.{Begins, Operands, at_offset}
-use Rattle.soundness_senses.specs.Texts.{by_class as is_by_class}
 use Rattle.soundness_senses.specs.Knowledge.{Knows}
 use Rattle.soundness_senses.specs.Accepted.{Accepted}
 use Rattle.soundness_senses.proofs.Basics.{types_more}
@@ -88,7 +87,7 @@ module _ {P : Type 0} (know : Sense P) (us : List ClassUnit) (knows : Knows know
               → PlanFits know us (Some (returns_of know us h f b.stands)) anything (invokes_selected us me (r ∷ args) (use_in f rest) o) h'
           by_selected h' c k more of is None same = none h' more
           by_selected h' c k more of is (Some found) same =
-              chosen_fits know us knows accepted me natives h' (Some (returns_of know us h f b.stands)) m.method found r args (use_in f rest) (is_by_class f.method.class index m c found e same) (accepted.selects f.method.class index m c found e instance same) (knows.of_more h h' me (Class THREAD) more mine)
+              chosen_fits know us knows accepted me natives h' (Some (returns_of know us h f b.stands)) m.method found r args (use_in f rest) (accepted.selects f.method.class index m c found e instance same) (knows.of_more h h' me (Class THREAD) more mine)
               (knows.selected h' r c k m.named m.method found of is (λ private. knows.up h' r m.named (Class m.method.class) of (accepted.owners f.method.class index m e (inl private))) same)
               (fits_more know us knows accepted me h h' more params args args_fit) (on h' n rest more words left room)
 

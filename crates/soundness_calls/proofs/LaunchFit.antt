@@ -10,7 +10,6 @@ use Rattle.java_rows.specs.Program.{select, thread_run}
 use Rattle.java_rows.specs.Thread.{launch}
 use Rattle.soundness_senses.specs.Senses.{Sense}
 use Rattle.soundness_senses.specs.Fits.{Returns, ValuesFit, PlanFits, anything, UseFits}
-use Rattle.soundness_senses.specs.Texts.{by_thread}
 use Rattle.soundness_senses.specs.Knowledge.{Knows}
 use Rattle.soundness_senses.specs.Accepted.{Accepted}
 use Rattle.soundness_senses.proofs.Plans.{ends_fit, asks_class_fit}
@@ -38,6 +37,6 @@ module _ {P : Type 0} (know : Sense P) (us : List ClassUnit) (knows : Knows know
       by_selected h' c n mine is None same =
           raises_fit know us knows accepted me h' None launch INCOMPATIBLE_CLASS_CHANGE_ERROR refl (λ h'' r d more thrown. ends_fit know us knows None h'' (Some d))
       by_selected h' c n mine is (Some found) same =
-          chosen_fits know us knows accepted me natives h' None thread_run found me [] launch (by_thread c found same) (accepted.runs c found same) mine
+          chosen_fits know us knows accepted me natives h' None thread_run found me [] launch (accepted.runs c found same) mine
           (knows.selected h' me c n (Class THREAD) thread_run found mine is (λ p. mine) same)
           (subst (λ ts. ValuesFit know h' ts []) (sym accepted.run_takes) tt) (λ tells e. launch_fits h' tells)

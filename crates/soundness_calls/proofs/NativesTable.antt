@@ -16,7 +16,7 @@ use Rattle.java_rows.specs.Natives.{native, not_owner, prints, prints_string, st
 use Rattle.java_rows.specs.Plan.{finds, Use, want, writes, reads, raises, asks_class}
 use Rattle.soundness_senses.specs.Senses.{Sense, IsWord, IsReference, number, reference}
 use Rattle.soundness_senses.specs.Fits.{Returns, ResultFits, ValuesFit, IsMade, PlanFits, anything, EndsFit, UseFits}
-use Rattle.soundness_senses.specs.Texts.{char_array, IsTextMaker, CallsTextMaker}
+use Rattle.soundness_senses.specs.Texts.{char_array}
 use Rattle.soundness_senses.specs.Knowledge.{Knows}
 use Rattle.soundness_senses.specs.Accepted.{Accepted}
 use Rattle.soundness_senses.specs.Natives.{FitsNative, IsNativeOf, IsNativeConstructor, native_takes, native_gives, native_static}
@@ -92,78 +92,78 @@ module _ {P : Type 0} (know : Sense P) (us : List ClassUnit) (knows : Knows know
       is_there : (c r : ℕ) → know.is_of h r (Class c) → know.is_there h r
       is_there c r of = knows.there_of h r (Class c) (knows.raw_of h r (Class c) of)
 
-      by_native : (n : Native) (c r : ℕ) (args : List ℕ) → native_static n ≡ false → IsNativeOf us n c → know.is_of h r (Class c) → ValuesFit know h (native_takes n) args → tells.value ≡ native_gives n → (IsTextMaker n → CallsTextMaker us) → PlanFits know us res anything (native us me n (r ∷ args) u) h
-      by_native ObjectInit c r [] f is of fits void calls = (tt, done void h (knows.itself h))
-      by_native ObjectWait c r [] f is of fits void calls = wait_fits know us knows accepted me h res u tells void plain on r (is_there c r of)
-      by_native ObjectNotify c r [] f is of fits void calls =
+      by_native : (n : Native) (c r : ℕ) (args : List ℕ) → native_static n ≡ false → IsNativeOf us n c → know.is_of h r (Class c) → ValuesFit know h (native_takes n) args → tells.value ≡ native_gives n → PlanFits know us res anything (native us me n (r ∷ args) u) h
+      by_native ObjectInit c r [] f is of fits void = (tt, done void h (knows.itself h))
+      by_native ObjectWait c r [] f is of fits void = wait_fits know us knows accepted me h res u tells void plain on r (is_there c r of)
+      by_native ObjectNotify c r [] f is of fits void =
           notifies_fit know us knows res h r (u.value []) (u.value []) (not_owner u) (is_there c r of) (done void) (done void) (refused ILLEGAL_MONITOR_STATE_EXCEPTION refl)
-      by_native ObjectNotifyAll c r [] f is of fits void calls = notify_all_fits know us knows accepted me h res u tells void plain on r (is_there c r of)
-      by_native ObjectEquals c r (other ∷ []) f is of fits same calls = (tt, gives (Some values.Boolean) same h ((if r == other then 1 else 0) ∷ []) (knows.itself h) (λ exact. flag_fits (r == other)))
-      by_native PrintlnEmpty c r [] f is of fits void calls = println_fits know us knows accepted me h res u tells void plain on lines.Empty
-      by_native PrintlnInt c r (n ∷ []) f is of fits void calls = println_fits know us knows accepted me h res u tells void plain on (lines.Int (cast_signed w32 n))
-      by_native PrintlnLong c r (low ∷ high ∷ []) f is of fits void calls = println_fits know us knows accepted me h res u tells void plain on (lines.Long (cast_signed w64 (long_of low high)))
-      by_native PrintlnChar c r (x ∷ []) f is of fits void calls = println_fits know us knows accepted me h res u tells void plain on (lines.Char (char_of x))
-      by_native PrintlnBoolean c r (b ∷ []) f is of fits void calls = println_fits know us knows accepted me h res u tells void plain on (lines.Bool (b % 2 == 1))
-      by_native PrintlnString c r (s ∷ []) f is of fits void calls = string_fits void s fits.0
-      by_native ThreadInit c r [] f is of fits void calls =
+      by_native ObjectNotifyAll c r [] f is of fits void = notify_all_fits know us knows accepted me h res u tells void plain on r (is_there c r of)
+      by_native ObjectEquals c r (other ∷ []) f is of fits same = (tt, gives (Some values.Boolean) same h ((if r == other then 1 else 0) ∷ []) (knows.itself h) (λ exact. flag_fits (r == other)))
+      by_native PrintlnEmpty c r [] f is of fits void = println_fits know us knows accepted me h res u tells void plain on lines.Empty
+      by_native PrintlnInt c r (n ∷ []) f is of fits void = println_fits know us knows accepted me h res u tells void plain on (lines.Int (cast_signed w32 n))
+      by_native PrintlnLong c r (low ∷ high ∷ []) f is of fits void = println_fits know us knows accepted me h res u tells void plain on (lines.Long (cast_signed w64 (long_of low high)))
+      by_native PrintlnChar c r (x ∷ []) f is of fits void = println_fits know us knows accepted me h res u tells void plain on (lines.Char (char_of x))
+      by_native PrintlnBoolean c r (b ∷ []) f is of fits void = println_fits know us knows accepted me h res u tells void plain on (lines.Bool (b % 2 == 1))
+      by_native PrintlnString c r (s ∷ []) f is of fits void = string_fits void s fits.0
+      by_native ThreadInit c r [] f is of fits void =
           inherits_fit know us knows accepted me h res r (u.value []) mine (knows.raw_of h r (Class THREAD) (is_thread c r is of)) (done void)
-      by_native ThreadInitTarget c r (target ∷ []) f is of fits void calls =
+      by_native ThreadInitTarget c r (target ∷ []) f is of fits void =
           inherits_fit know us knows accepted me h res r (writes r THREAD_TARGET target (u.value [])) mine (knows.raw_of h r (Class THREAD) (is_thread c r is of))
           (λ h' more. writes_fit know us knows res h' r THREAD_TARGET target (reference (Class RUNNABLE)) (u.value []) (knows.target h' r (knows.raw_of h' r (Class THREAD) (knows.of_more h h' r (Class THREAD) more (is_thread c r is of))))
           (Rattle.soundness_senses.proofs.Basics.reference_more know us knows h h' target (Class RUNNABLE) more fits.0) (λ h'' more'. done void h'' (knows.both h h' h'' more more')))
-      by_native ThreadStart c r [] f is of fits void calls = starts_it void r (is_thread c r is of)
-      by_native ThreadRun c r [] f is of fits void calls = target_fits void r (is_thread c r is of)
-      by_native ThreadJoin c r [] f is of fits void calls = joins_fit know us knows res h r (u.value []) (knows.joins h r (is_thread c r is of)) (done void)
-      by_native ThreadSetPriority c r (p ∷ []) f is of fits void calls = priority_fits void r p fits.0 (is_thread c r is of)
-      by_native ThreadGetPriority c r [] f is of fits same calls =
+      by_native ThreadStart c r [] f is of fits void = starts_it void r (is_thread c r is of)
+      by_native ThreadRun c r [] f is of fits void = target_fits void r (is_thread c r is of)
+      by_native ThreadJoin c r [] f is of fits void = joins_fit know us knows res h r (u.value []) (knows.joins h r (is_thread c r is of)) (done void)
+      by_native ThreadSetPriority c r (p ∷ []) f is of fits void = priority_fits void r p fits.0 (is_thread c r is of)
+      by_native ThreadGetPriority c r [] f is of fits same =
           reads_fit know us knows res h r THREAD_PRIORITY number (λ p. u.value (p ∷ [])) (knows.priority h r (knows.raw_of h r (Class THREAD) (is_thread c r is of))) (λ h' p more word. gives (Some values.Int) same h' (p ∷ []) more word)
-      by_native ThrowableInit c r [] f is of fits void calls = (tt, done void h (knows.itself h))
-      by_native ThrowableInitMessage c r (message ∷ []) f is of fits void calls =
+      by_native ThrowableInit c r [] f is of fits void = (tt, done void h (knows.itself h))
+      by_native ThrowableInitMessage c r (message ∷ []) f is of fits void =
           writes_fit know us knows res h r THROWABLE_MESSAGE message (reference (Class STRING)) (u.value []) (knows.message h r (knows.raw_of h r (Class THROWABLE) (knows.up h r (Class c) (Class THROWABLE) of is.1))) fits.0 (done void)
-      by_native ThrowableGetMessage c r [] f is of fits same calls =
+      by_native ThrowableGetMessage c r [] f is of fits same =
           reads_fit know us knows res h r THROWABLE_MESSAGE (reference (Class STRING)) (λ message. u.value (message ∷ [])) (knows.message h r (knows.raw_of h r (Class THROWABLE) (knows.up h r (Class c) (Class THROWABLE) of is.1)))
           (λ h' message more is. gives (Some (values.Object (Class STRING))) same h' (message ∷ []) more is)
-      by_native StringLength c r [] f is of fits same calls = text_length_fits know us knows accepted me h res u tells on plain same r (is_class c r STRING is of)
-      by_native StringCharAt c r (i ∷ []) f is of fits same calls = text_char_fits know us knows accepted me h res u tells on plain same r i (is_class c r STRING is of)
-      by_native StringEquals c r (other ∷ []) f is of fits same calls = text_equals_fits know us knows accepted me h res u tells on plain same r other (is_class c r STRING is of) fits.0
-      by_native StringConcat c r (other ∷ []) f is of fits same calls = text_joins_fits know us knows accepted me h res u tells on plain (calls tt) same r other (is_class c r STRING is of) fits.0
-      by_native BuilderInit c r [] f is of fits void calls = (tt, done void h (knows.itself h))
-      by_native BuilderInitText c r (s ∷ []) f is of fits void calls =
-          copies_text_fits know us knows accepted me res (calls tt) h r s u (knows.raw_of h r (Class STRING_BUILDER) (is_class c r STRING_BUILDER is of)) fits.0 (refused NULL_POINTER_EXCEPTION refl h (knows.itself h)) (done void)
-      by_native AppendInt c r (n ∷ []) f is of fits same calls = appends_fit know us knows accepted me h res u tells on plain (calls tt) same r (an_int n) (is_class c r STRING_BUILDER is of) tt
-      by_native AppendLong c r (low ∷ high ∷ []) f is of fits same calls = appends_fit know us knows accepted me h res u tells on plain (calls tt) same r (a_long low high) (is_class c r STRING_BUILDER is of) tt
-      by_native AppendChar c r (x ∷ []) f is of fits same calls = appends_fit know us knows accepted me h res u tells on plain (calls tt) same r (a_char x) (is_class c r STRING_BUILDER is of) tt
-      by_native AppendBoolean c r (x ∷ []) f is of fits same calls = appends_fit know us knows accepted me h res u tells on plain (calls tt) same r (a_boolean x) (is_class c r STRING_BUILDER is of) tt
-      by_native AppendString c r (s ∷ []) f is of fits same calls = appends_fit know us knows accepted me h res u tells on plain (calls tt) same r (a_string s) (is_class c r STRING_BUILDER is of) fits.0
-      by_native BuilderLength c r [] f is of fits same calls = builder_length_fits know us knows accepted me h res u tells on plain same r (is_class c r STRING_BUILDER is of)
-      by_native BuilderToString c r [] f is of fits same calls = tells_text_fits know us knows accepted me h res u tells on plain (calls tt) same r (is_class c r STRING_BUILDER is of)
-      by_native ThreadCurrentThread c r args f is of fits same calls = cc
-      by_native ThreadYield c r args f is of fits same calls = cc
-      by_native ObjectEquals c r (v ∷ w ∷ args) f is of fits same calls = absurd fits.1
-      by_native PrintlnInt c r (v ∷ w ∷ args) f is of fits same calls = absurd fits.1
-      by_native PrintlnChar c r (v ∷ w ∷ args) f is of fits same calls = absurd fits.1
-      by_native PrintlnBoolean c r (v ∷ w ∷ args) f is of fits same calls = absurd fits.1
-      by_native PrintlnString c r (v ∷ w ∷ args) f is of fits same calls = absurd fits.1
-      by_native ThreadInitTarget c r (v ∷ w ∷ args) f is of fits same calls = absurd fits.1
-      by_native ThreadSetPriority c r (v ∷ w ∷ args) f is of fits same calls = absurd fits.1
-      by_native ThrowableInitMessage c r (v ∷ w ∷ args) f is of fits same calls = absurd fits.1
-      by_native StringCharAt c r (v ∷ w ∷ args) f is of fits same calls = absurd fits.1
-      by_native StringEquals c r (v ∷ w ∷ args) f is of fits same calls = absurd fits.1
-      by_native StringConcat c r (v ∷ w ∷ args) f is of fits same calls = absurd fits.1
-      by_native BuilderInitText c r (v ∷ w ∷ args) f is of fits same calls = absurd fits.1
-      by_native AppendInt c r (v ∷ w ∷ args) f is of fits same calls = absurd fits.1
-      by_native AppendChar c r (v ∷ w ∷ args) f is of fits same calls = absurd fits.1
-      by_native AppendBoolean c r (v ∷ w ∷ args) f is of fits same calls = absurd fits.1
-      by_native AppendString c r (v ∷ w ∷ args) f is of fits same calls = absurd fits.1
-      by_native AppendLong c r (low ∷ high ∷ v ∷ args) f is of fits same calls = absurd fits.2
-      by_native PrintlnLong c r (low ∷ high ∷ v ∷ args) f is of fits same calls = absurd fits.2
-      by_native Rattle.builtin_world.specs.declared.Native.TheVariants.RunnableRun c r args f is of fits same calls = absurd is
-      by_native n c r args f is of fits same calls = absurd fits
+      by_native StringLength c r [] f is of fits same = text_length_fits know us knows accepted me h res u tells on plain same r (is_class c r STRING is of)
+      by_native StringCharAt c r (i ∷ []) f is of fits same = text_char_fits know us knows accepted me h res u tells on plain same r i (is_class c r STRING is of)
+      by_native StringEquals c r (other ∷ []) f is of fits same = text_equals_fits know us knows accepted me h res u tells on plain same r other (is_class c r STRING is of) fits.0
+      by_native StringConcat c r (other ∷ []) f is of fits same = text_joins_fits know us knows accepted me h res u tells on plain same r other (is_class c r STRING is of) fits.0
+      by_native BuilderInit c r [] f is of fits void = (tt, done void h (knows.itself h))
+      by_native BuilderInitText c r (s ∷ []) f is of fits void =
+          copies_text_fits know us knows accepted me res h r s u (knows.raw_of h r (Class STRING_BUILDER) (is_class c r STRING_BUILDER is of)) fits.0 refused (done void)
+      by_native AppendInt c r (n ∷ []) f is of fits same = appends_fit know us knows accepted me h res u tells on plain same r (an_int n) (is_class c r STRING_BUILDER is of) tt
+      by_native AppendLong c r (low ∷ high ∷ []) f is of fits same = appends_fit know us knows accepted me h res u tells on plain same r (a_long low high) (is_class c r STRING_BUILDER is of) tt
+      by_native AppendChar c r (x ∷ []) f is of fits same = appends_fit know us knows accepted me h res u tells on plain same r (a_char x) (is_class c r STRING_BUILDER is of) tt
+      by_native AppendBoolean c r (x ∷ []) f is of fits same = appends_fit know us knows accepted me h res u tells on plain same r (a_boolean x) (is_class c r STRING_BUILDER is of) tt
+      by_native AppendString c r (s ∷ []) f is of fits same = appends_fit know us knows accepted me h res u tells on plain same r (a_string s) (is_class c r STRING_BUILDER is of) fits.0
+      by_native BuilderLength c r [] f is of fits same = builder_length_fits know us knows accepted me h res u tells on plain same r (is_class c r STRING_BUILDER is of)
+      by_native BuilderToString c r [] f is of fits same = tells_text_fits know us knows accepted me h res u tells on plain same r (is_class c r STRING_BUILDER is of)
+      by_native ThreadCurrentThread c r args f is of fits same = cc
+      by_native ThreadYield c r args f is of fits same = cc
+      by_native ObjectEquals c r (v ∷ w ∷ args) f is of fits same = absurd fits.1
+      by_native PrintlnInt c r (v ∷ w ∷ args) f is of fits same = absurd fits.1
+      by_native PrintlnChar c r (v ∷ w ∷ args) f is of fits same = absurd fits.1
+      by_native PrintlnBoolean c r (v ∷ w ∷ args) f is of fits same = absurd fits.1
+      by_native PrintlnString c r (v ∷ w ∷ args) f is of fits same = absurd fits.1
+      by_native ThreadInitTarget c r (v ∷ w ∷ args) f is of fits same = absurd fits.1
+      by_native ThreadSetPriority c r (v ∷ w ∷ args) f is of fits same = absurd fits.1
+      by_native ThrowableInitMessage c r (v ∷ w ∷ args) f is of fits same = absurd fits.1
+      by_native StringCharAt c r (v ∷ w ∷ args) f is of fits same = absurd fits.1
+      by_native StringEquals c r (v ∷ w ∷ args) f is of fits same = absurd fits.1
+      by_native StringConcat c r (v ∷ w ∷ args) f is of fits same = absurd fits.1
+      by_native BuilderInitText c r (v ∷ w ∷ args) f is of fits same = absurd fits.1
+      by_native AppendInt c r (v ∷ w ∷ args) f is of fits same = absurd fits.1
+      by_native AppendChar c r (v ∷ w ∷ args) f is of fits same = absurd fits.1
+      by_native AppendBoolean c r (v ∷ w ∷ args) f is of fits same = absurd fits.1
+      by_native AppendString c r (v ∷ w ∷ args) f is of fits same = absurd fits.1
+      by_native AppendLong c r (low ∷ high ∷ v ∷ args) f is of fits same = absurd fits.2
+      by_native PrintlnLong c r (low ∷ high ∷ v ∷ args) f is of fits same = absurd fits.2
+      by_native Rattle.builtin_world.specs.declared.Native.TheVariants.RunnableRun c r args f is of fits same = absurd is
+      by_native n c r args f is of fits same = absurd fits
 
   pub natives_fit : NativesFit know us knows accepted me
-  natives_fit h res id n r args u tells called is mine of fits instance same plain on =
+  natives_fit h res id n r args u tells is mine of fits instance same plain on =
       let facts : FitsNative us n id = accepted.natives id n is in
-      by_native h res u tells on plain mine n id.class r args (sym facts.static ∙ instance) facts.of of (subst (λ ts. ValuesFit know h ts args) facts.takes fits) (same ∙ facts.gives) (λ makes. record { method = id; native = n; called = called; body = is; makes = makes })
+      by_native h res u tells on plain mine n id.class r args (sym facts.static ∙ instance) facts.of of (subst (λ ts. ValuesFit know h ts args) facts.takes fits) (same ∙ facts.gives)
 
   -- ---- static methods
 
@@ -185,8 +185,8 @@ module _ {P : Type 0} (know : Sense P) (us : List ClassUnit) (knows : Knows know
   -- ---- constructors
 
   by_constructor : (h : P) (res : Option Returns) (n : Native) (c r : ℕ) (args : List ℕ) (u : Use) (tells : Returns) → IsNativeConstructor n → IsNativeOf us n c → know.is_of h me (Class THREAD) → know.is_raw h r (Class c) → ValuesFit know h (native_takes n) args
-      → (IsTextMaker n → CallsTextMaker us) → tells.value ≡ None → tells.made ≡ Some (r, c) → EndsFit know us h res tells u → PlanFits know us res anything (native us me n (r ∷ args) u) h
-  by_constructor h res n c r args u tells builds is mine raw fits calls void made on = by_case n args builds is fits calls
+      → tells.value ≡ None → tells.made ≡ Some (r, c) → EndsFit know us h res tells u → PlanFits know us res anything (native us me n (r ∷ args) u) h
+  by_constructor h res n c r args u tells builds is mine raw fits void made on = by_case n args builds is fits
     where
       ends : (h' : P) → know.extends h h' → know.is_of h' r (Class c) → PlanFits know us res anything (u.value []) h'
       ends h' more of = on.value h' [] more (subst (λ (x : Option ValueType). ResultFits know h' x []) (sym void) tt) (subst (λ (m : Option (ℕ × ℕ)). IsMade know h' m) (sym made) of)
@@ -200,38 +200,38 @@ module _ {P : Type 0} (know : Sense P) (us : List ClassUnit) (knows : Knows know
       of_builder : (h' : P) → know.extends h h' → c ≡ STRING_BUILDER → know.is_of h' r (Class c)
       of_builder h' more e = subst (λ x. know.is_of h' r (Class x)) (sym e) (builder_set know us knows accepted me h' r (raw_at h' STRING_BUILDER more e))
 
-      by_case : (n : Native) (args : List ℕ) → IsNativeConstructor n → IsNativeOf us n c → ValuesFit know h (native_takes n) args → (IsTextMaker n → CallsTextMaker us) → PlanFits know us res anything (native us me n (r ∷ args) u) h
-      by_case ObjectInit [] builds is fits calls = (tt, ends h (knows.itself h) (subst (λ x. know.is_of h r (Class x)) (sym is) (knows.made_object h r OBJECT (inl refl) (raw_at h OBJECT (knows.itself h) is))))
-      by_case ThreadInit [] builds is fits calls = inherits_fit know us knows accepted me h res r (u.value []) mine (raw_at h THREAD (knows.itself h) is) (λ h' more. ends h' more (of_thread h' more is))
-      by_case ThreadInitTarget (target ∷ []) builds is fits calls =
+      by_case : (n : Native) (args : List ℕ) → IsNativeConstructor n → IsNativeOf us n c → ValuesFit know h (native_takes n) args → PlanFits know us res anything (native us me n (r ∷ args) u) h
+      by_case ObjectInit [] builds is fits = (tt, ends h (knows.itself h) (subst (λ x. know.is_of h r (Class x)) (sym is) (knows.made_object h r OBJECT (inl refl) (raw_at h OBJECT (knows.itself h) is))))
+      by_case ThreadInit [] builds is fits = inherits_fit know us knows accepted me h res r (u.value []) mine (raw_at h THREAD (knows.itself h) is) (λ h' more. ends h' more (of_thread h' more is))
+      by_case ThreadInitTarget (target ∷ []) builds is fits =
           inherits_fit know us knows accepted me h res r (writes r THREAD_TARGET target (u.value [])) mine (raw_at h THREAD (knows.itself h) is)
           (λ h' more. writes_fit know us knows res h' r THREAD_TARGET target (reference (Class RUNNABLE)) (u.value []) (knows.target h' r (raw_at h' THREAD more is))
           (Rattle.soundness_senses.proofs.Basics.reference_more know us knows h h' target (Class RUNNABLE) more fits.0) (λ h'' more'. ends h'' (knows.both h h' h'' more more') (of_thread h'' (knows.both h h' h'' more more') is)))
-      by_case ThrowableInit [] builds is fits calls = (tt, ends h (knows.itself h) (knows.made_throwable h r c is.0 raw))
-      by_case ThrowableInitMessage (message ∷ []) builds is fits calls =
+      by_case ThrowableInit [] builds is fits = (tt, ends h (knows.itself h) (knows.made_throwable h r c is.0 raw))
+      by_case ThrowableInitMessage (message ∷ []) builds is fits =
           writes_fit know us knows res h r THROWABLE_MESSAGE message (reference (Class STRING)) (u.value [])
           (knows.message h r (knows.raw_of h r (Class THROWABLE) (knows.up h r (Class c) (Class THROWABLE) (knows.made_throwable h r c is.0 raw) is.1))) fits.0
           (λ h' more. ends h' more (knows.of_more h h' r (Class c) more (knows.made_throwable h r c is.0 raw)))
-      by_case BuilderInit [] builds is fits calls = (tt, ends h (knows.itself h) (of_builder h (knows.itself h) is))
-      by_case BuilderInitText (s ∷ []) builds is fits calls =
-          copies_text_fits know us knows accepted me res (calls tt) h r s u (raw_at h STRING_BUILDER (knows.itself h) is) fits.0
-          (raises_fit know us knows accepted me h res u NULL_POINTER_EXCEPTION refl on.thrown) (λ h' more. ends h' more (of_builder h' more is))
-      by_case BuilderInit (v ∷ args) builds is fits calls = absurd fits
-      by_case BuilderInitText (v ∷ w ∷ args) builds is fits calls = absurd fits.1
-      by_case BuilderInitText [] builds is fits calls = absurd fits
-      by_case ObjectInit (v ∷ args) builds is fits calls = absurd fits
-      by_case ThreadInit (v ∷ args) builds is fits calls = absurd fits
-      by_case ThrowableInit (v ∷ args) builds is fits calls = absurd fits
-      by_case ThreadInitTarget (v ∷ w ∷ args) builds is fits calls = absurd fits.1
-      by_case ThreadInitTarget [] builds is fits calls = absurd fits
-      by_case ThrowableInitMessage (v ∷ w ∷ args) builds is fits calls = absurd fits.1
-      by_case ThrowableInitMessage [] builds is fits calls = absurd fits
-      by_case n args builds is fits calls = absurd builds
+      by_case BuilderInit [] builds is fits = (tt, ends h (knows.itself h) (of_builder h (knows.itself h) is))
+      by_case BuilderInitText (s ∷ []) builds is fits =
+          copies_text_fits know us knows accepted me res h r s u (raw_at h STRING_BUILDER (knows.itself h) is) fits.0
+          (λ d is h' more. raises_fit know us knows accepted me h' res u d is (λ h'' q e more'. on.thrown h'' q e (knows.both h h' h'' more more'))) (λ h' more. ends h' more (of_builder h' more is))
+      by_case BuilderInit (v ∷ args) builds is fits = absurd fits
+      by_case BuilderInitText (v ∷ w ∷ args) builds is fits = absurd fits.1
+      by_case BuilderInitText [] builds is fits = absurd fits
+      by_case ObjectInit (v ∷ args) builds is fits = absurd fits
+      by_case ThreadInit (v ∷ args) builds is fits = absurd fits
+      by_case ThrowableInit (v ∷ args) builds is fits = absurd fits
+      by_case ThreadInitTarget (v ∷ w ∷ args) builds is fits = absurd fits.1
+      by_case ThreadInitTarget [] builds is fits = absurd fits
+      by_case ThrowableInitMessage (v ∷ w ∷ args) builds is fits = absurd fits.1
+      by_case ThrowableInitMessage [] builds is fits = absurd fits
+      by_case n args builds is fits = absurd builds
 
   pub native_constructors_fit : NativeConstructorsFit know us knows accepted me
-  native_constructors_fit h res id n r args u tells called is mine raw fits same builds on =
+  native_constructors_fit h res id n r args u tells is mine raw fits same builds on =
       let facts : FitsNative us n id = accepted.natives id n is in
-      by_constructor h res n id.class r args u tells builds facts.of mine raw (subst (λ ts. ValuesFit know h ts args) facts.takes fits) (λ makes. record { method = id; native = n; called = called; body = is; makes = makes }) (ap (λ (x : Returns). x.value) same ∙ facts.gives ∙ void n builds) (ap (λ (x : Returns). x.made) same) on.ends
+      by_constructor h res n id.class r args u tells builds facts.of mine raw (subst (λ ts. ValuesFit know h ts args) facts.takes fits) (ap (λ (x : Returns). x.value) same ∙ facts.gives ∙ void n builds) (ap (λ (x : Returns). x.made) same) on.ends
     where
       void : (n : Native) → IsNativeConstructor n → native_gives n ≡ None
       void ObjectInit builds = refl

@@ -22,7 +22,6 @@ use Rattle.java_rows.specs.Program.{argument_words}
 use Rattle.soundness_senses.specs.Senses.{Sense}
 use Rattle.soundness_senses.specs.Fits.{HaveTypes, ValuesFit, env_of, returns_of}
 use Rattle.soundness_senses.specs.Operands.{Begins, Operands, at_offset}
-use Rattle.soundness_senses.specs.Texts.{by_special}
 use Rattle.soundness_senses.specs.Knowledge.{Knows}
 use Rattle.soundness_senses.specs.Accepted.{Accepted, IsChosen}
 use Rattle.soundness_senses.proofs.Operands.{words_are}
@@ -71,7 +70,7 @@ module _ {P : Type 0} (know : Sense P) (us : List ClassUnit) (knows : Knows know
       calls_found r n args rest found is chosen above words r_fits args_fit left room =
           unless_null_fits know us knows accepted me h f b.stands r (invokes us me found (r ∷ args) (use_in f rest))
           (λ other. let both = there_here r other r_fits in
-          chosen_fits know us knows accepted me natives h (Some (returns_of know us h f b.stands)) m.method found r args (use_in f rest) (by_special f.method.class index m found e is) chosen mine
+          chosen_fits know us knows accepted me natives h (Some (returns_of know us h f b.stands)) m.method found r args (use_in f rest) chosen mine
           (elim above [ inl own ↦ knows.up h r (Class f.method.class) (Class found.class) both.1 own | inr named ↦ knows.up h r m.named (Class found.class) both.0 named ]) args_fit
           (λ tells same. use_fits know us knows accepted me h f special b (result_of_method (program_names us) m.method) n rest tells same refl (after_is n words) left room))
 

@@ -3,7 +3,8 @@ use Rattle.std.proofs.Common.{◌≡◌, ◌⊎◌, inl, inr, ◌<◌, ◌+◌, 
 use Rattle.std.specs.Prelude.{codes, bytes_eq}
 use Rattle.std.specs.Option.{unwrap_or}
 use Rattle.std.proofs.lemmas.Bool.{eqb-true, eqb-false}
-use Rattle.builtin_world.specs.declared.number.TheConstants.{OBJECT, STRING, STRING_BUILDER, INDEX_OUT_OF_BOUNDS_EXCEPTION, NULL_POINTER_EXCEPTION}
+use Rattle.builtin_world.specs.declared.number.TheConstants.{OBJECT, STRING, STRING_BUILDER, INDEX_OUT_OF_BOUNDS_EXCEPTION, NEGATIVE_ARRAY_SIZE_EXCEPTION, NULL_POINTER_EXCEPTION}
+use Rattle.builtin_world.specs.Laws.{is_throwable}
 use Rattle.builtin_world.specs.declared.word.TheConstants.{BUILDER_TEXT}
 use Rattle.code_decode.specs.declared.code.ClassUnit.{ClassUnit}
 use Rattle.link_types.specs.declared.types.ObjectType.TheVariants.{Class}
@@ -14,70 +15,62 @@ use Rattle.java_rows.specs.Texts.{reads_text, makes_text, length_word, gets_leng
 use Rattle.java_rows.specs.Units.{Appended, an_int, a_long, a_char, a_boolean, a_string, units_without_reading}
 use Rattle.soundness_senses.specs.Senses.{Sense, IsReference, reference}
 use Rattle.soundness_senses.specs.Fits.{Returns, PlanFits, anything, UseFits}
-use Rattle.soundness_senses.specs.Texts.{AreWords, IsShortText, CallsTextMaker}
+use Rattle.soundness_senses.specs.Texts.{AreWords}
 use Rattle.soundness_senses.specs.Knowledge.{Knows}
 use Rattle.soundness_senses.specs.Accepted.{Accepted}
 use Rattle.soundness_senses.proofs.Basics.{reference_more}
 use Rattle.soundness_calls.proofs.NativesFit.{gives_fit, refused_fit, flag_fits}
 use Rattle.soundness_objects.proofs.ReadValues.{there}
 use Rattle.soundness_senses.proofs.Plans.{asks_class_fit, writes_fit}
-use Rattle.soundness_calls.proofs.TextsFit.{append_words, unit_word, IsRead, read_more, short_read, string_known, reads_text_fits, reads_so_far_fits, makes_text_fits, joined_short}
+use Rattle.soundness_calls.proofs.TextsFit.{append_words, unit_word, string_known, reads_text_fits, reads_so_far_fits, makes_text_fits}
 use Rattle.link_types.specs.declared.types.ValueType.TheVariants as values
 
 module _ {P : Type 0} (know : Sense P) (us : List ClassUnit) (knows : Knows know us) (accepted : Accepted us) (me : ℕ) where
-  abbrev Text : P → List ℕ → Type 0
-  Text h units = IsRead know us knows accepted me h units
-
   -- ---- what is appended
 
   abbrev pub AppendedFits : P → Appended → Type 0
   AppendedFits h (a_string s) = IsReference know h s (Class STRING)
   AppendedFits h _ = Unit {0}
 
-  null_text : IsShortText (codes "null")
-  null_text = record { short = omega arith; words = (omega arith, (omega arith, (omega arith, (omega arith, tt)))) }
+  null_text : AreWords (codes "null")
+  null_text = (omega arith, (omega arith, (omega arith, (omega arith, tt))))
 
-  flag_text : (b : Bool) → IsShortText (if b then codes "true" else codes "false")
-  flag_text true = record { short = omega arith; words = (omega arith, (omega arith, (omega arith, (omega arith, tt)))) }
-  flag_text false = record { short = omega arith; words = (omega arith, (omega arith, (omega arith, (omega arith, (omega arith, tt))))) }
+  flag_text : (b : Bool) → AreWords (if b then codes "true" else codes "false")
+  flag_text true = (omega arith, (omega arith, (omega arith, (omega arith, tt))))
+  flag_text false = (omega arith, (omega arith, (omega arith, (omega arith, (omega arith, tt)))))
 
   module _ (res : Option Returns) where
-    reads_appended_fits : (h : P) (x : Appended) (k : List ℕ → Plan) → AppendedFits h x → ((h' : P) (units : List ℕ) → know.extends h h' → Text h' units → PlanFits know us res anything (k units) h')
+    reads_appended_fits : (h : P) (x : Appended) (k : List ℕ → Plan) → AppendedFits h x → ((h' : P) (units : List ℕ) → know.extends h h' → AreWords units → PlanFits know us res anything (k units) h')
         → PlanFits know us res anything (reads_appended us x k) h
-    reads_appended_fits h (an_int n) k fits on = on h (units_without_reading (an_int n)) (knows.itself h) (short_read know us knows accepted me h (units_without_reading (an_int n)) (accepted.numbers.int_units n))
+    reads_appended_fits h (an_int n) k fits on = on h (units_without_reading (an_int n)) (knows.itself h) (accepted.numbers.int_units n)
     reads_appended_fits h (a_long low high) k fits on =
-        on h (units_without_reading (a_long low high)) (knows.itself h) (short_read know us knows accepted me h (units_without_reading (a_long low high)) (accepted.numbers.long_units low high))
-    reads_appended_fits h (a_char c) k fits on = on h (char_of c ∷ []) (knows.itself h) (short_read know us knows accepted me h (char_of c ∷ []) (record { short = omega arith; words = (omega arith, tt) }))
-    reads_appended_fits h (a_boolean b) k fits on = on h (units_without_reading (a_boolean b)) (knows.itself h) (short_read know us knows accepted me h (units_without_reading (a_boolean b)) (flag_text (b % 2 == 1)))
+        on h (units_without_reading (a_long low high)) (knows.itself h) (accepted.numbers.long_units low high)
+    reads_appended_fits h (a_char c) k fits on = on h (char_of c ∷ []) (knows.itself h) (omega arith, tt)
+    reads_appended_fits h (a_boolean b) k fits on = on h (units_without_reading (a_boolean b)) (knows.itself h) (flag_text (b % 2 == 1))
     reads_appended_fits h (a_string s) k fits on = by_test (s == 0) refl
       where
         by_test : (b : Bool) → (s == 0) ≡ b → PlanFits know us res anything (if b then k (codes "null") else reads_text us s k) h
-        by_test true e = on h (codes "null") (knows.itself h) (short_read know us knows accepted me h (codes "null") null_text)
+        by_test true e = on h (codes "null") (knows.itself h) null_text
         by_test false e = reads_text_fits know us knows accepted me res h s k (there know us knows accepted me h s (Class STRING) (eqb-false s 0 e) fits) on
 
     -- ---- a builder keeps a new text
 
-    keeps_text_fits : (h : P) (b : ℕ) (units value : List ℕ) (u : Use) → AreWords units → (length units < 2 ^ 31) ⊎ know.may_be_lost h → know.is_raw h b (Class STRING_BUILDER)
+    keeps_text_fits : (h : P) (b : ℕ) (units value : List ℕ) (u : Use) → AreWords units → PlanFits know us res anything (raises u NEGATIVE_ARRAY_SIZE_EXCEPTION) h → know.is_raw h b (Class STRING_BUILDER)
         → ((h' : P) → know.extends h h' → PlanFits know us res anything (u.value value) h') → PlanFits know us res anything (keeps_text us b units u value) h
-    keeps_text_fits h b units value u words short raw on =
-        makes_text_fits know us knows accepted me res h units (λ s. writes b BUILDER_TEXT s (u.value value)) words short
+    keeps_text_fits h b units value u words refused raw on =
+        makes_text_fits know us knows accepted me res h u units (λ s. writes b BUILDER_TEXT s (u.value value)) words refused
         (λ h' s more is. writes_fit know us knows res h' b BUILDER_TEXT s (reference (Class STRING)) (u.value value) (knows.text h' b (knows.raw_more h h' b (Class STRING_BUILDER) more raw)) (inr is)
         (λ h'' more'. on h'' (knows.both h h' h'' more more')))
 
-    module _ (calls : CallsTextMaker us) where
-      -- a text alone isn't too long
-      alone_short : (h : P) (units : List ℕ) → Text h units → (length units < 2 ^ 31) ⊎ know.may_be_lost h
-      alone_short h units read = elim read.short [ inl few ↦ inl (omega (arith, few)) | inr long ↦ inr (knows.long h long.0 long.1 long.2 calls long.3 long.4 long.5) ]
-
-      pub copies_text_fits : (h : P) (b s : ℕ) (u : Use) → know.is_raw h b (Class STRING_BUILDER) → IsReference know h s (Class STRING) → PlanFits know us res anything (raises u NULL_POINTER_EXCEPTION) h
-          → ((h' : P) → know.extends h h' → PlanFits know us res anything (u.value []) h') → PlanFits know us res anything (copies_text us b s u) h
-      copies_text_fits h b s u raw fits null on = by_test (s == 0) refl
-        where
-          by_test : (x : Bool) → (s == 0) ≡ x → PlanFits know us res anything (if x then raises u NULL_POINTER_EXCEPTION else reads_text us s (λ units. keeps_text us b units u [])) h
-          by_test true e = null
-          by_test false e =
-              reads_text_fits know us knows accepted me res h s (λ units. keeps_text us b units u []) (there know us knows accepted me h s (Class STRING) (eqb-false s 0 e) fits)
-              (λ h' units more read. keeps_text_fits h' b units [] u read.words (alone_short h' units read) (knows.raw_more h h' b (Class STRING_BUILDER) more raw) (λ h'' more'. on h'' (knows.both h h' h'' more more')))
+    pub copies_text_fits : (h : P) (b s : ℕ) (u : Use) → know.is_raw h b (Class STRING_BUILDER) → IsReference know h s (Class STRING) → ((c : ℕ) → is_throwable c ≡ true → (h' : P) → know.extends h h' → PlanFits know us res anything (raises u c) h')
+        → ((h' : P) → know.extends h h' → PlanFits know us res anything (u.value []) h') → PlanFits know us res anything (copies_text us b s u) h
+    copies_text_fits h b s u raw fits refused on = by_test (s == 0) refl
+      where
+        by_test : (x : Bool) → (s == 0) ≡ x → PlanFits know us res anything (if x then raises u NULL_POINTER_EXCEPTION else reads_text us s (λ units. keeps_text us b units u [])) h
+        by_test true e = refused NULL_POINTER_EXCEPTION refl h (knows.itself h)
+        by_test false e =
+            reads_text_fits know us knows accepted me res h s (λ units. keeps_text us b units u []) (there know us knows accepted me h s (Class STRING) (eqb-false s 0 e) fits)
+            (λ h' units more words. keeps_text_fits h' b units [] u words (refused NEGATIVE_ARRAY_SIZE_EXCEPTION refl h' more) (knows.raw_more h h' b (Class STRING_BUILDER) more raw) (λ h'' more'. on h'' (knows.both h h' h'' more more')))
 
   module _ (h : P) (res : Option Returns) (u : Use) (tells : Returns) (on : UseFits know us h res tells u) (plain : tells.made ≡ None) where
     gives : (t : Option ValueType) → tells.value ≡ t → (h' : P) (words : List ℕ) → know.extends h h' → Rattle.soundness_senses.specs.Fits.ResultFits know h' t words → PlanFits know us res anything (u.value words) h'
@@ -87,14 +80,14 @@ module _ {P : Type 0} (know : Sense P) (us : List ClassUnit) (knows : Knows know
 
     pub text_length_fits : tells.value ≡ Some values.Int → (s : ℕ) → know.is_of h s (Class STRING) → PlanFits know us res anything (gets_length us s u) h
     text_length_fits same s of =
-        reads_text_fits know us knows accepted me res h s (λ units. u.value (length_word units ∷ [])) of (λ h' units more read. gives (Some values.Int) same h' (length_word units ∷ []) more (λ exact. omega arith))
+        reads_text_fits know us knows accepted me res h s (λ units. u.value (length_word units ∷ [])) of (λ h' units more words. gives (Some values.Int) same h' (length_word units ∷ []) more (λ exact. omega arith))
 
     pub text_char_fits : tells.value ≡ Some values.Char → (s i : ℕ) → know.is_of h s (Class STRING) → PlanFits know us res anything (gets_char us s i u) h
-    text_char_fits same s i of = reads_text_fits know us knows accepted me res h s (char_or_raises u i) of (λ h' units more read. by_index h' units more read (is_index i (length units)))
+    text_char_fits same s i of = reads_text_fits know us knows accepted me res h s (char_or_raises u i) of (λ h' units more words. by_index h' units more words (is_index i (length units)))
       where
-        by_index : (h' : P) (units : List ℕ) → know.extends h h' → Text h' units → (b : Bool) → PlanFits know us res anything (if b then u.value (unwrap_or (slice_get units i) 0 ∷ []) else raises u INDEX_OUT_OF_BOUNDS_EXCEPTION) h'
-        by_index h' units more read true = gives (Some values.Char) same h' (unwrap_or (slice_get units i) 0 ∷ []) more (λ exact. unit_word units i read.words)
-        by_index h' units more read false = refused_fit know us knows accepted me h res u tells on plain INDEX_OUT_OF_BOUNDS_EXCEPTION refl h' more
+        by_index : (h' : P) (units : List ℕ) → know.extends h h' → AreWords units → (b : Bool) → PlanFits know us res anything (if b then u.value (unwrap_or (slice_get units i) 0 ∷ []) else raises u INDEX_OUT_OF_BOUNDS_EXCEPTION) h'
+        by_index h' units more words true = gives (Some values.Char) same h' (unwrap_or (slice_get units i) 0 ∷ []) more (λ exact. unit_word units i words)
+        by_index h' units more words false = refused_fit know us knows accepted me h res u tells on plain INDEX_OUT_OF_BOUNDS_EXCEPTION refl h' more
 
     pub text_equals_fits : tells.value ≡ Some values.Boolean → (s other : ℕ) → know.is_of h s (Class STRING) → IsReference know h other (Class OBJECT) → PlanFits know us res anything (compares us s other u) h
     text_equals_fits same s other of fits = by_test (other == 0) refl
@@ -118,44 +111,45 @@ module _ {P : Type 0} (know : Sense P) (us : List ClassUnit) (knows : Knows know
 
     pub builder_length_fits : tells.value ≡ Some values.Int → (b : ℕ) → know.is_of h b (Class STRING_BUILDER) → PlanFits know us res anything (gets_builder_length us b u) h
     builder_length_fits same b of =
-        reads_so_far_fits know us knows accepted me res h b (λ units. u.value (length_word units ∷ [])) of (λ h' units more read. gives (Some values.Int) same h' (length_word units ∷ []) more (λ exact. omega arith))
+        reads_so_far_fits know us knows accepted me res h b (λ units. u.value (length_word units ∷ [])) of (λ h' units more words. gives (Some values.Int) same h' (length_word units ∷ []) more (λ exact. omega arith))
 
-    module _ (calls : CallsTextMaker us) where
-      pub text_joins_fits : tells.value ≡ Some (values.Object (Class STRING)) → (s other : ℕ) → know.is_of h s (Class STRING) → IsReference know h other (Class STRING) → PlanFits know us res anything (joins us s other u) h
-      text_joins_fits same s other of fits = by_test (other == 0) refl
-        where
-          by_units : (h' : P) (a b : List ℕ) → know.extends h h' → Text h' a → Text h' b → PlanFits know us res anything (joined us s u a b) h'
-          by_units h' a [] more first second = gives (Some (values.Object (Class STRING))) same h' (s ∷ []) more (inr (knows.of_more h h' s (Class STRING) more of))
-          by_units h' a (x ∷ b) more first second =
-              makes_text_fits know us knows accepted me res h' (a ++ x ∷ b) (λ r. u.value (r ∷ [])) (append_words a (x ∷ b) first.words second.words) (joined_short know us knows accepted me res h' a (x ∷ b) calls first second)
-              (λ h'' r more' is. gives (Some (values.Object (Class STRING))) same h'' (r ∷ []) (knows.both h h' h'' more more') (inr is))
+    too_long : (h' : P) → know.extends h h' → PlanFits know us res anything (raises u NEGATIVE_ARRAY_SIZE_EXCEPTION) h'
+    too_long = refused_fit know us knows accepted me h res u tells on plain NEGATIVE_ARRAY_SIZE_EXCEPTION refl
 
-          by_test : (x : Bool) → (other == 0) ≡ x → PlanFits know us res anything (if x then raises u NULL_POINTER_EXCEPTION else reads_text us s (λ a. reads_text us other (joined us s u a))) h
-          by_test true e = refused_fit know us knows accepted me h res u tells on plain NULL_POINTER_EXCEPTION refl h (knows.itself h)
-          by_test false e =
-              let of_other : know.is_of h other (Class STRING) = there know us knows accepted me h other (Class STRING) (eqb-false other 0 e) fits in
-              reads_text_fits know us knows accepted me res h s (λ a. reads_text us other (joined us s u a)) of (λ h' a more first.
-              reads_text_fits know us knows accepted me res h' other (joined us s u a) (knows.of_more h h' other (Class STRING) more of_other) (λ h'' b more' second.
-              by_units h'' a b (knows.both h h' h'' more more') (read_more know us knows accepted me h' h'' a more' first) second))
+    pub text_joins_fits : tells.value ≡ Some (values.Object (Class STRING)) → (s other : ℕ) → know.is_of h s (Class STRING) → IsReference know h other (Class STRING) → PlanFits know us res anything (joins us s other u) h
+    text_joins_fits same s other of fits = by_test (other == 0) refl
+      where
+        by_units : (h' : P) (a b : List ℕ) → know.extends h h' → AreWords a → AreWords b → PlanFits know us res anything (joined us s u a b) h'
+        by_units h' a [] more first second = gives (Some (values.Object (Class STRING))) same h' (s ∷ []) more (inr (knows.of_more h h' s (Class STRING) more of))
+        by_units h' a (x ∷ b) more first second =
+            makes_text_fits know us knows accepted me res h' u (a ++ x ∷ b) (λ r. u.value (r ∷ [])) (append_words a (x ∷ b) first second) (too_long h' more)
+            (λ h'' r more' is. gives (Some (values.Object (Class STRING))) same h'' (r ∷ []) (knows.both h h' h'' more more') (inr is))
 
-      -- ---- StringBuilder
+        by_test : (x : Bool) → (other == 0) ≡ x → PlanFits know us res anything (if x then raises u NULL_POINTER_EXCEPTION else reads_text us s (λ a. reads_text us other (joined us s u a))) h
+        by_test true e = refused_fit know us knows accepted me h res u tells on plain NULL_POINTER_EXCEPTION refl h (knows.itself h)
+        by_test false e =
+            let of_other : know.is_of h other (Class STRING) = there know us knows accepted me h other (Class STRING) (eqb-false other 0 e) fits in
+            reads_text_fits know us knows accepted me res h s (λ a. reads_text us other (joined us s u a)) of (λ h' a more first.
+            reads_text_fits know us knows accepted me res h' other (joined us s u a) (knows.of_more h h' other (Class STRING) more of_other) (λ h'' b more' second.
+            by_units h'' a b (knows.both h h' h'' more more') first second))
 
-      pub appends_fit : tells.value ≡ Some (values.Object (Class STRING_BUILDER)) → (b : ℕ) (x : Appended) → know.is_of h b (Class STRING_BUILDER) → AppendedFits h x → PlanFits know us res anything (appends us b x u) h
-      appends_fit same b x of fits =
-          reads_so_far_fits know us knows accepted me res h b (λ a. reads_appended us x (λ c. keeps_text us b (a ++ c) u (b ∷ []))) of (λ h' a more first.
-          reads_appended_fits res h' x (λ c. keeps_text us b (a ++ c) u (b ∷ [])) (appended_more h' x more fits) (λ h'' c more' second.
-          let all : know.extends h h'' = knows.both h h' h'' more more' in
-          let first' : Text h'' a = read_more know us knows accepted me h' h'' a more' first in
-          keeps_text_fits res h'' b (a ++ c) (b ∷ []) u (append_words a c first.words second.words) (joined_short know us knows accepted me res h'' a c calls first' second) (knows.raw_of h'' b (Class STRING_BUILDER) (knows.of_more h h'' b (Class STRING_BUILDER) all of))
-          (λ h''' more''. let all' : know.extends h h''' = knows.both h h'' h''' all more'' in
-          gives (Some (values.Object (Class STRING_BUILDER))) same h''' (b ∷ []) all' (inr (knows.of_more h h''' b (Class STRING_BUILDER) all' of)))))
-        where
-          appended_more : (h' : P) (x : Appended) → know.extends h h' → AppendedFits h x → AppendedFits h' x
-          appended_more h' (a_string s) more fits = reference_more know us knows h h' s (Class STRING) more fits
-          appended_more h' x more fits = tt
+    -- ---- StringBuilder
 
-      pub tells_text_fits : tells.value ≡ Some (values.Object (Class STRING)) → (b : ℕ) → know.is_of h b (Class STRING_BUILDER) → PlanFits know us res anything (tells_text us b u) h
-      tells_text_fits same b of =
-          reads_so_far_fits know us knows accepted me res h b (λ units. makes_text us units (λ s. u.value (s ∷ []))) of (λ h' units more read.
-          makes_text_fits know us knows accepted me res h' units (λ s. u.value (s ∷ [])) read.words (alone_short res calls h' units read) (λ h'' s more' is.
-          gives (Some (values.Object (Class STRING))) same h'' (s ∷ []) (knows.both h h' h'' more more') (inr is)))
+    pub appends_fit : tells.value ≡ Some (values.Object (Class STRING_BUILDER)) → (b : ℕ) (x : Appended) → know.is_of h b (Class STRING_BUILDER) → AppendedFits h x → PlanFits know us res anything (appends us b x u) h
+    appends_fit same b x of fits =
+        reads_so_far_fits know us knows accepted me res h b (λ a. reads_appended us x (λ c. keeps_text us b (a ++ c) u (b ∷ []))) of (λ h' a more first.
+        reads_appended_fits res h' x (λ c. keeps_text us b (a ++ c) u (b ∷ [])) (appended_more h' x more fits) (λ h'' c more' second.
+        let all : know.extends h h'' = knows.both h h' h'' more more' in
+        keeps_text_fits res h'' b (a ++ c) (b ∷ []) u (append_words a c first second) (too_long h'' all) (knows.raw_of h'' b (Class STRING_BUILDER) (knows.of_more h h'' b (Class STRING_BUILDER) all of))
+        (λ h''' more''. let all' : know.extends h h''' = knows.both h h'' h''' all more'' in
+        gives (Some (values.Object (Class STRING_BUILDER))) same h''' (b ∷ []) all' (inr (knows.of_more h h''' b (Class STRING_BUILDER) all' of)))))
+      where
+        appended_more : (h' : P) (x : Appended) → know.extends h h' → AppendedFits h x → AppendedFits h' x
+        appended_more h' (a_string s) more fits = reference_more know us knows h h' s (Class STRING) more fits
+        appended_more h' x more fits = tt
+
+    pub tells_text_fits : tells.value ≡ Some (values.Object (Class STRING)) → (b : ℕ) → know.is_of h b (Class STRING_BUILDER) → PlanFits know us res anything (tells_text us b u) h
+    tells_text_fits same b of =
+        reads_so_far_fits know us knows accepted me res h b (λ units. makes_text us u units (λ s. u.value (s ∷ []))) of (λ h' units more words.
+        makes_text_fits know us knows accepted me res h' u units (λ s. u.value (s ∷ [])) words (too_long h' more) (λ h'' s more' is.
+        gives (Some (values.Object (Class STRING))) same h'' (s ∷ []) (knows.both h h' h'' more more') (inr is)))

@@ -4,7 +4,7 @@ use Rattle.std.specs.Option.{option_map, option_map_or, unwrap_or}
 use Rattle.std.proofs.lemmas.Bool.{eqb-false, ltb-true, ltb-false, le-leb}
 use Rattle.std.proofs.lemmas.List.{length-append}
 use Rattle.builtin_world.specs.Library.{library}
-use Rattle.builtin_world.specs.declared.number.TheConstants.{OBJECT, STRING, STRING_BUILDER}
+use Rattle.builtin_world.specs.declared.number.TheConstants.{OBJECT, STRING, STRING_BUILDER, NEGATIVE_ARRAY_SIZE_EXCEPTION}
 use Rattle.builtin_world.specs.declared.word.TheConstants.{STRING_UNITS, BUILDER_TEXT}
 use Rattle.code_decode.specs.declared.code.ClassUnit.{ClassUnit}
 use Rattle.link_types.specs.declared.types.ObjectType.TheVariants.{Class}
@@ -13,12 +13,12 @@ use Rattle.link_rules.specs.Names.{program_names, type_named, type_numbered, is_
 use Rattle.link_rules.specs.Readers.{primitive_array_number}
 use Rattle.link_rules.proofs.Numbers.{class_count_is}
 use Rattle.java_rows.specs.Numbers.{char_of}
-use Rattle.java_rows.specs.Plan.{Plan, silently, stuck, asks_class, writes}
+use Rattle.java_rows.specs.Plan.{Plan, Use, silently, stuck, raises, asks_class, writes}
 use Rattle.java_rows.specs.Texts.{reads_units, reads_array, reads_text, is_short, writes_units, makes_string, makes_array, makes_text, reads_so_far}
 use Rattle.java_rows.specs.Units.{literal_units}
 use Rattle.soundness_senses.specs.Senses.{Sense, IsReference, number, reference}
 use Rattle.soundness_senses.specs.Fits.{Returns, PlanFits, anything}
-use Rattle.soundness_senses.specs.Texts.{char_array, AreWords, IsShortText, CallsTextMaker}
+use Rattle.soundness_senses.specs.Texts.{char_array, AreWords}
 use Rattle.soundness_senses.specs.Knowledge.{Knows}
 use Rattle.soundness_senses.specs.Accepted.{Accepted}
 use Rattle.soundness_objects.proofs.ReadValues.{there}
@@ -52,24 +52,6 @@ string_type us =
     ap (λ b. unwrap_or (option_map (type_named (program_names us)) (if b then None else slice_get (program_names us).arrays (3 - suc (length (classes_of us))))) (Class STRING)) (le-leb 3 (length (classes_of us)) (omega arith))
 
 module _ {P : Type 0} (know : Sense P) (us : List ClassUnit) (knows : Knows know us) (accepted : Accepted us) (me : ℕ) where
-  -- a char array that is long is known
-  abbrev pub ReadsLong : P → Type 0
-  ReadsLong h = (r c n : ℕ) × know.is_of h r char_array × know.is_exactly h r c n × (2 ^ 30 ≤ n)
-
-  -- what is known of a text that was read: its units are words, and it is short or was read of a long array
-  pub record IsRead (h : P) (units : List ℕ) : Type 0 where
-    pub words : AreWords units
-    pub short : (length units < 2 ^ 30) ⊎ ReadsLong h
-
-  long_more : (h h' : P) → know.extends h h' → ReadsLong h → ReadsLong h'
-  long_more h h' more (r, c, n, of, exactly, long) = (r, c, n, knows.of_more h h' r char_array more of, knows.exactly_more h h' r c n more exactly, long)
-
-  pub read_more : (h h' : P) (units : List ℕ) → know.extends h h' → IsRead h units → IsRead h' units
-  read_more h h' units more is = record { words = is.words; short = elim is.short [ inl few ↦ inl few | inr long ↦ inr (long_more h h' more long) ] }
-
-  pub short_read : (h : P) (units : List ℕ) → IsShortText units → IsRead h units
-  short_read h units is = record { words = is.words; short = inl is.short }
-
   -- a new String and a new StringBuilder are initialized where they are made
   pub string_set : (h : P) (r : ℕ) → know.is_raw h r (Class STRING) → know.is_of h r (Class STRING)
   string_set h r raw = knows.set h r STRING OBJECT raw (knows.made_object h r STRING (inr (string_super us)) raw)
@@ -85,14 +67,9 @@ module _ {P : Type 0} (know : Sense P) (us : List ClassUnit) (knows : Knows know
     -- ---- a text is read
 
     reads_units_fit : (h : P) (array c n left i : ℕ) (before : List ℕ) (k : List ℕ → Plan) → know.is_of h array char_array → know.is_exactly h array c n → i + left ≡ n → length before ≡ i → AreWords before
-        → ((h' : P) (units : List ℕ) → know.extends h h' → IsRead h' units → PlanFits know us res anything (k units) h')
+        → ((h' : P) (units : List ℕ) → know.extends h h' → AreWords units → PlanFits know us res anything (k units) h')
         → PlanFits know us res anything (reads_units array i left before k) h
-    reads_units_fit h array c n zero i before k of exactly sum long words on =
-        on h before (knows.itself h) (record { words = words; short = by_length (nat_lt (length before) (2 ^ 30)) refl })
-      where
-        by_length : (b : Bool) → nat_lt (length before) (2 ^ 30) ≡ b → (length before < 2 ^ 30) ⊎ ReadsLong h
-        by_length true e = inl (ltb-true (length before) (2 ^ 30) e)
-        by_length false e = inr (array, c, n, of, exactly, (let many : 2 ^ 30 ≤ length before = ltb-false (length before) (2 ^ 30) e in omega (arith, sum, long, many)))
+    reads_units_fit h array c n zero i before k of exactly sum long words on = on h before (knows.itself h) words
     reads_units_fit h array c n (suc left) i before k of exactly sum long words on =
         reads_fit know us knows res h array i number (λ v. reads_units array (suc i) left (before ++ char_of v ∷ []) k) ((knows.elements h array c n i kinds.Char char_array tt of refl exactly (omega (arith, sum))).0)
         (λ h' v more word. reads_units_fit h' array c n left (suc i) (before ++ char_of v ∷ []) k (knows.of_more h h' array char_array more of) (knows.exactly_more h h' array c n more exactly) (omega (arith, sum))
@@ -100,7 +77,7 @@ module _ {P : Type 0} (know : Sense P) (us : List ClassUnit) (knows : Knows know
         (λ h'' units more' read. on h'' units (knows.both h h' h'' more more') read))
 
     pub reads_text_fits : (h : P) (s : ℕ) (k : List ℕ → Plan) → know.is_of h s (Class STRING)
-        → ((h' : P) (units : List ℕ) → know.extends h h' → IsRead h' units → PlanFits know us res anything (k units) h')
+        → ((h' : P) (units : List ℕ) → know.extends h h' → AreWords units → PlanFits know us res anything (k units) h')
         → PlanFits know us res anything (reads_text us s k) h
     reads_text_fits h s k of on =
         reads_fit know us knows res h s STRING_UNITS (reference char_array) (λ array. if array == 0 then asks_class s (λ c n. k (literal_units us n)) else reads_array array k) (knows.units h s (knows.raw_of h s (Class STRING) of))
@@ -110,7 +87,7 @@ module _ {P : Type 0} (know : Sense P) (us : List ClassUnit) (knows : Knows know
             → PlanFits know us res anything (if b then asks_class s (λ c n. k (literal_units us n)) else reads_array array k) h'
         by_test h' array more fits true e =
             asks_class_fit know us knows res h' s (λ c n. k (literal_units us n)) (knows.looks h' s (knows.there_of h' s (Class STRING) (knows.raw_of h' s (Class STRING) (knows.of_more h h' s (Class STRING) more of))))
-            (λ h'' c n more' exactly. on h'' (literal_units us n) (knows.both h h' h'' more more') (short_read h'' (literal_units us n) (accepted.literals n)))
+            (λ h'' c n more' exactly. on h'' (literal_units us n) (knows.both h h' h'' more more') (accepted.literals n))
         by_test h' array more fits false e =
             let of_array : know.is_of h' array char_array = there know us knows accepted me h' array char_array (eqb-false array 0 e) fits in
             asks_class_fit know us knows res h' array (λ c n. silently (reads_units array 0 n [] k)) (knows.looks h' array (knows.there_of h' array char_array (knows.raw_of h' array char_array of_array)))
@@ -122,14 +99,14 @@ module _ {P : Type 0} (know : Sense P) (us : List ClassUnit) (knows : Knows know
 
     -- the text of a builder so far
     pub reads_so_far_fits : (h : P) (b : ℕ) (k : List ℕ → Plan) → know.is_of h b (Class STRING_BUILDER)
-        → ((h' : P) (units : List ℕ) → know.extends h h' → IsRead h' units → PlanFits know us res anything (k units) h')
+        → ((h' : P) (units : List ℕ) → know.extends h h' → AreWords units → PlanFits know us res anything (k units) h')
         → PlanFits know us res anything (reads_so_far us b k) h
     reads_so_far_fits h b k of on =
         reads_fit know us knows res h b BUILDER_TEXT (reference (Class STRING)) (λ s. if s == 0 then k [] else reads_text us s k) (knows.text h b (knows.raw_of h b (Class STRING_BUILDER) of))
         (λ h' s more fits. by_test h' s more fits (s == 0) refl)
       where
         by_test : (h' : P) (s : ℕ) → know.extends h h' → IsReference know h' s (Class STRING) → (x : Bool) → (s == 0) ≡ x → PlanFits know us res anything (if x then k [] else reads_text us s k) h'
-        by_test h' s more fits true e = on h' [] more (record { words = tt; short = inl (omega arith) })
+        by_test h' s more fits true e = on h' [] more tt
         by_test h' s more fits false e =
             reads_text_fits h' s k (there know us knows accepted me h' s (Class STRING) (eqb-false s 0 e) fits) (λ h'' units more' read. on h'' units (knows.both h h' h'' more more') read)
 
@@ -153,10 +130,10 @@ module _ {P : Type 0} (know : Sense P) (us : List ClassUnit) (knows : Knows know
         can : Rattle.soundness_senses.specs.Knowledge.CanBeMade us STRING 0
         can = record { class = accepted.built_in STRING (omega arith) (omega arith); length = omega arith }
 
-    -- it is made where it isn't too long
-    pub makes_text_fits : (h : P) (units : List ℕ) (k : ℕ → Plan) → AreWords units → (length units < 2 ^ 31) ⊎ know.may_be_lost h → ((h' : P) (s : ℕ) → know.extends h h' → know.is_of h' s (Class STRING) → PlanFits know us res anything (k s) h')
-        → PlanFits know us res anything (makes_text us units k) h
-    makes_text_fits h units k words short on = (tt, by_length (is_short units) refl)
+    -- it is made, or one that is too long is refused
+    pub makes_text_fits : (h : P) (u : Use) (units : List ℕ) (k : ℕ → Plan) → AreWords units → PlanFits know us res anything (raises u NEGATIVE_ARRAY_SIZE_EXCEPTION) h
+        → ((h' : P) (s : ℕ) → know.extends h h' → know.is_of h' s (Class STRING) → PlanFits know us res anything (k s) h') → PlanFits know us res anything (makes_text us u units k) h
+    makes_text_fits h u units k words refused on = (tt, by_length (is_short units) refl)
       where
         made : (c : ℕ) → length (classes_of us) < c → is_class_number (program_names us) c ≡ true → type_numbered (program_names us) c ≡ char_array → length units < 2 ^ 31 → PlanFits know us res anything (makes_array c units k) h
         made c array class type few =
@@ -165,23 +142,8 @@ module _ {P : Type 0} (know : Sense P) (us : List ClassUnit) (knows : Knows know
             writes_units_fit h' r c (length units) (length units) 0 units (makes_string r k) of (knows.made_exactly h' c (length units) r come) (omega arith) words
             (λ h'' more'. makes_string_fits h'' r k (knows.of_more h' h'' r char_array more' of) (λ h''' s more'' is. on h''' s (knows.both h h'' h''' (knows.both h h' h'' more more') more'') is)))
 
-        lost : is_short units ≡ false → know.may_be_lost h
-        lost e = elim short [ inl few ↦ absurd (let many : 2 ^ 31 ≤ length units = ltb-false (length units) (2 ^ 31) e in omega (arith, few, many)) | inr gone ↦ gone ]
-
-        by_length : (b : Bool) → is_short units ≡ b → PlanFits know us res anything (if b then option_map_or (λ class. makes_array class units k) (primitive_array_number (program_names us) primitives.Char) stuck else stuck) h
+        by_length : (b : Bool) → is_short units ≡ b → PlanFits know us res anything (if b then option_map_or (λ class. makes_array class units k) (primitive_array_number (program_names us) primitives.Char) stuck else raises u NEGATIVE_ARRAY_SIZE_EXCEPTION) h
         by_length true e =
             let (c, numbered, array, class, type) = accepted.char_arrays in
             subst (λ (o : Option ℕ). PlanFits know us res anything (option_map_or (λ class. makes_array class units k) o stuck) h) (sym numbered) (made c array class type (ltb-true (length units) (2 ^ 31) e))
-        by_length false e = (tt, lost e)
-
-    -- the joining of two texts isn't too long, where both are short
-    pub joined_short : (h : P) (a b : List ℕ) → CallsTextMaker us → IsRead h a → IsRead h b → (length (a ++ b) < 2 ^ 31) ⊎ know.may_be_lost h
-    joined_short h a b calls first second = both first.short second.short
-      where
-        lost : ReadsLong h → know.may_be_lost h
-        lost (r, c, n, of, exactly, long) = knows.long h r c n calls of exactly long
-
-        both : (length a < 2 ^ 30) ⊎ ReadsLong h → (length b < 2 ^ 30) ⊎ ReadsLong h → (length (a ++ b) < 2 ^ 31) ⊎ know.may_be_lost h
-        both (inl few) (inl less) = inl (omega (arith, few, less, length-append a b))
-        both (inr long) second = inr (lost long)
-        both first (inr long) = inr (lost long)
+        by_length false e = refused

@@ -29,7 +29,6 @@ use Rattle.java_rows.specs.Program.{argument_words, calls_without_class, method_
 use Rattle.soundness_senses.specs.Senses.{Sense, IsReference}
 use Rattle.soundness_senses.specs.Fits.{Returns, HaveTypes, ValuesFit, PlanFits, anything, UseFits, env_of, returns_of}
 use Rattle.soundness_senses.specs.Operands.{Begins, Operands, at_offset}
-use Rattle.soundness_senses.specs.Texts.{by_name, by_class as is_by_class}
 use Rattle.soundness_senses.specs.Knowledge.{Knows}
 use Rattle.soundness_senses.specs.Accepted.{Accepted}
 use Rattle.soundness_senses.proofs.Basics.{types_more}
@@ -87,13 +86,13 @@ module _ {P : Type 0} (know : Sense P) (us : List ClassUnit) (knows : Knows know
               raises_fit know us knows accepted me h' (Some (returns_of know us h f b.stands)) (use_in f rest) INCOMPATIBLE_CLASS_CHANGE_ERROR refl
               (λ h'' q d more' thrown. (tt, (bare_stands know us knows accepted me h'' f (stands_more know us knows accepted h h'' (knows.both h h' h'' more more') f b.stands), refl, thrown)))
           by_selected h' c k more of is (Some found) same =
-              chosen_fits know us knows accepted me natives h' (Some (returns_of know us h f b.stands)) m.method found r args (use_in f rest) (is_by_class f.method.class index m c found e same) (accepted.selects f.method.class index m c found e instance same) (knows.of_more h h' me (Class THREAD) more mine)
+              chosen_fits know us knows accepted me natives h' (Some (returns_of know us h f b.stands)) m.method found r args (use_in f rest) (accepted.selects f.method.class index m c found e instance same) (knows.of_more h h' me (Class THREAD) more mine)
               (knows.selected h' r c k m.named m.method found of is (λ private. up h' of (inl private)) same) (fits_more know us knows accepted me h h' more params args args_fit) (on h' n rest more words left room)
 
           by_kind : know.is_of h r m.named → (x : Bool) → calls_without_class us m.method ≡ x
               → Fit know us knows accepted me h f invokevirtual b (if x then invokes us me m.method (r ∷ args) (use_in f rest) else asks_class r (λ c n. invokes_selected us me (r ∷ args) (use_in f rest) (select us c m.method)))
           by_kind of true same =
-              chosen_fits know us knows accepted me natives h (Some (returns_of know us h f b.stands)) m.method m.method r args (use_in f rest) (by_name f.method.class index m e) (accepted.finals f.method.class index m e instance same) mine (up h of (inr same)) args_fit (on h n rest (knows.itself h) words left room)
+              chosen_fits know us knows accepted me natives h (Some (returns_of know us h f b.stands)) m.method m.method r args (use_in f rest) (accepted.finals f.method.class index m e instance same) mine (up h of (inr same)) args_fit (on h n rest (knows.itself h) words left room)
           by_kind of false same =
               asks_class_fit know us knows (Some (returns_of know us h f b.stands)) h r (λ c n. invokes_selected us me (r ∷ args) (use_in f rest) (select us c m.method)) (knows.looks h r (knows.there_of h r m.named (knows.raw_of h r m.named of)))
               (λ h' c k more is. by_selected h' c k more (knows.of_more h h' r m.named more of) is (select us c m.method) refl)

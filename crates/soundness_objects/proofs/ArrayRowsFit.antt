@@ -115,7 +115,7 @@ module _ {P : Type 0} (know : Sense P) (us : List ClassUnit) (knows : Knows know
         by_size c class array type false lt = fails_fit know us knows accepted me h f b.stands NEGATIVE_ARRAY_SIZE_EXCEPTION refl
 
         by_number : (x : Option ℕ) → o.array ≡ x → IsSome x → Fit know us knows accepted me h f anewarray b (makes_array f x (n ∷ rest))
-        by_number (Some c) same is = let (array, class, type) = accepted.arrays_of f.method.class index o c e same in by_size c class array type (nat_lt n (2 ^ 31)) refl
+        by_number (Some c) same is = let (array, class, type) = accepted.arrays_of f.method b.stands.of f.step at next index o c b.at e same in by_size c class array type (nat_lt n (2 ^ 31)) refl
         by_number None same is = cc
     by_array h f b o e fits n rest left = absurd fits
 

@@ -12,7 +12,6 @@ use Rattle.java_rows.specs.Program.{select_for, select, runnable_run, is_subclas
 use Rattle.java_rows.specs.Thread.{launch}
 use Rattle.soundness_senses.specs.Senses.{Sense}
 use Rattle.soundness_senses.specs.Fits.{Returns, ResultFits, ValuesFit, StandsIn, BetweenCalls, OperandFits, PlanFits, anything, UseFits, returns_of}
-use Rattle.soundness_senses.specs.Texts.{by_target}
 use Rattle.soundness_senses.specs.Knowledge.{Knows}
 use Rattle.soundness_senses.specs.Accepted.{Accepted}
 use Rattle.soundness_calls.proofs.CallsFit.{raises_fit}
@@ -43,7 +42,7 @@ module _ {P : Type 0} (know : Sense P) (us : List ClassUnit) (knows : Knows know
       by_selected : (h' : P) (c n : ℕ) → know.extends h h' → know.is_exactly h' v c n → is_subclass us c RUNNABLE ≡ true → (o : Option MethodId) → select us c runnable_run ≡ o → PlanFits know us res anything (invokes_selected us me (v ∷ []) u o) h'
       by_selected h' c n more is below None same = missing h' more
       by_selected h' c n more is below (Some found) same =
-          chosen_fits know us knows accepted me (natives_fit know us knows accepted me) h' res runnable_run found v [] u (by_target c found (ap (λ b. if b then select us c runnable_run else None) below ∙ same))
+          chosen_fits know us knows accepted me (natives_fit know us knows accepted me) h' res runnable_run found v [] u
           (accepted.target_runs c found (ap (λ b. if b then select us c runnable_run else None) below ∙ same)) (knows.of_more h h' me (Class THREAD) more mine)
           (knows.selected h' v c n (Class RUNNABLE) runnable_run found (knows.of_more h h' v (Class RUNNABLE) more of) is (λ p. knows.of_more h h' v (Class RUNNABLE) more of) same)
           (subst (λ ts. ValuesFit know h' ts []) (sym accepted.target_takes) tt) (λ tells e. on h' tells more (e ∙ accepted.target_void))

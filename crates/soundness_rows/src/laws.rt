@@ -9,14 +9,13 @@ ghost use Rattle.soundness_senses.specs.Rows.{RowsFit};
 ghost use Rattle.soundness_senses.specs.Runs.{runs};
 
 /// Where the operands, the locals and the constructor's object of a frame have the types of its instruction, the row of
-/// that instruction never comes to a place without a row, whatever fitting replies come, unless the program calls a
-/// method that makes a text: that one has no row for a text of 2^31 units or more.
+/// that instruction never comes to a place without a row, whatever fitting replies come.
 pub fn kinds_rows_fit()
     ensures { (us : List ClassUnit) → Accepted us → RowsFit (kinds us) us }
 {}
 
-/// So it is where replies are true of the objects that there are. What a row wants is there then, what it writes may
-/// stand where it is written, and a place without a row comes only where there is a char array of 2^30 elements or more.
+/// So it is where replies are true of the objects that there are. What a row wants is there then, and what it writes may
+/// stand where it is written.
 pub fn runs_rows_fit()
     ensures { (us : List ClassUnit) → Knows (runs us) us → Accepted us → RowsFit (runs us) us }
 {}

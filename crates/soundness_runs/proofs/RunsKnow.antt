@@ -100,7 +100,6 @@ module _ (us : List ClassUnit) (follow : ClassesFollow us) where
     thrown_more = λ h h' r c more is. record { object = is.object; there = more r is.object is.there; fits = is.fits; class = is.class; can = is.can };
     word_more = λ h h' r i k more is. word_more h.objects h'.objects r i k more is;
     want_more = λ h h' op more is. want_more h.objects h'.objects op more is;
-    lost_more = λ h h' more lost. record { reference = lost.reference; array = object_more h.objects h'.objects lost.reference char_array more lost.array; long = lost.long };
     fits = λ h op reply come. true_fits h.objects op reply come;
     small = λ h r is exact. is.fits.small;
     up = λ h r s t is e. record { object = is.object; there = is.there; fits = is.fits; stands = follow.up is.object.class s t is.fits.class e is.stands };
@@ -166,8 +165,6 @@ module _ (us : List ClassUnit) (follow : ClassesFollow us) where
     out = λ h. fixed_there h _ (Class PRINT_STREAM) follow.out;
     arguments = λ h. fixed_there h _ _ follow.arguments;
     main_thread = λ h. fixed_there h _ (Class THREAD) follow.main_thread;
-    long = λ h r c n calls of exactly long.
-        record { reference = r; array = of; long = omega (arith, long, ap (λ (o : Object). o.length) (same_object h.objects r c n char_array of exactly), exactly.length) };
     elements = λ h r c n i kind s is of test exactly within.
         let same = same_object h.objects r c n s of exactly in
         each_word h.objects r _ of.object _ h of.there of.fits (follow.elements r i of.object kind s is of.fits of.stands test (omega (arith, within, ap (λ (o : Object). o.length) same, exactly.length)));

@@ -29,7 +29,6 @@ module _ (us : List ClassUnit) where
     thrown_more = λ h h' r c more is. tt;
     word_more = λ h h' r i k more is. tt;
     want_more = λ h h' op more is. is;
-    lost_more = λ h h' more lost. lost;
     fits = λ h op reply come. come;
     small = λ h r is exact. absurd exact;
     up = λ h r s t is e. tt;
@@ -80,7 +79,6 @@ module _ (us : List ClassUnit) where
     arguments = λ h. tt;
     main_thread = λ h. tt;
     out = λ h. tt;
-    long = λ h r c n calls of exactly long. calls;
     elements = λ h r c n i kind s is of test exactly within. all_words r (element_place kind i) (element_contents kind);
     references = λ h r c n i s of test exactly within. (Class OBJECT, tt, record { up = λ h' v x more same is. tt; stored = λ h' v d m more is exactly takes. tt });
   }

@@ -54,7 +54,7 @@ module _ {P : Type 0} (know : Sense P) (us : List ClassUnit) (knows : Knows know
   plan_more res b (calls id args monitor k) (any, call, next) = (any, call_more id args monitor call, λ h'' end more' fits. next h'' end (knows.both h h' h'' more more') fits)
   plan_more res b (ready ending) (any, fits) = (any, ending_more res ending fits)
   plan_more res b over fits = fits
-  plan_more res b stuck (any, lost) = (any, knows.lost_more h h' more lost)
+  plan_more res b stuck fits = absurd fits
 
   pub below_more : (res : Option Returns) (below : List (FrameEnd → Plan)) → BelowFits know us h res below → BelowFits know us h' res below
   below_more res [] rest = rest

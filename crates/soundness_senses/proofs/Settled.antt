@@ -120,7 +120,7 @@ module _ {P : Type 0} (know : Sense P) (us : List ClassUnit) (knows : Knows know
     settled_fits b h res below (silently plan) mine fits rest = local_at b h res (silently plan) below tt mine fits rest
     settled_fits b h res below (calls id args monitor k) mine fits rest = local_at b h res (calls id args monitor k) below tt mine fits rest
     settled_fits b h res below over mine fits rest = local_at b h res over below tt mine fits rest
-    settled_fits b h res below stuck mine fits rest = local_at b h res stuck below tt mine fits rest
+    settled_fits b h res below stuck mine fits rest = absurd fits
     settled_fits b h res below (ready (goes f)) mine (any, (frame, same)) rest =
         subst (λ x. LocalFits know us x h (at us me (begun us me f) below)) (sym (no_more b any))
         (local_at anything h (Some (returns_of know us h f frame.stands)) (begun us me f) below (frame_begins f) mine (begun_fits h f frame mine) (subst (λ r. BelowFits know us h r below) (sym same) rest))
@@ -178,13 +178,13 @@ module _ {P : Type 0} (know : Sense P) (us : List ClassUnit) (knows : Knows know
     wants_fit b h res (want q k) op e fits = let same : q ≡ op = cc in (subst (λ x. Rattle.soundness_senses.specs.Fits.Follows b x) same fits.0, subst (λ x. know.may_want h x) same fits.1)
     wants_fit b h res plan op e fits = cc
 
-    -- a plan without a next operation comes after the thread's end alone, or where a text may be too long
-    pub ended_fits : (b : Preceding) (h : P) (res : Option Returns) (plan : Plan) → next_of plan ≡ Ended → IsBegun plan → PlanFits know us res b plan h → b ≡ anything → know.may_be_lost h
+    -- a plan without a next operation comes after the thread's end alone
+    pub ended_fits : (b : Preceding) (h : P) (res : Option Returns) (plan : Plan) → next_of plan ≡ Ended → IsBegun plan → PlanFits know us res b plan h → b ≡ anything → ⊥
     ended_fits b h res (want op k) e begun fits any = cc
     ended_fits b h res (silently plan) e begun fits any = cc
     ended_fits b h res (calls id args monitor k) e begun fits any = cc
     ended_fits b h res over e begun fits any = let bad : IsTheEnd anything = subst IsTheEnd any fits in absurd bad
-    ended_fits b h res stuck e begun fits any = fits.1
+    ended_fits b h res stuck e begun fits any = absurd fits
     ended_fits b h res (ready ending) e begun fits any = absurd begun
 
     pub child_fits : (h : P) → know.is_of h me (Class THREAD) → LocalFits know us anything h (Rattle.java_rows.specs.Thread.child_of us me)

@@ -32,7 +32,7 @@ use Rattle.type_rules.specs.TypeSafe.{IsTypeSafe}
 use Rattle.type_laws.specs.Inside.{StaysInside}
 use Rattle.java_rows.specs.Units.{literal_units}
 use Rattle.soundness_senses.specs.Fits.{CodeOf, env_of}
-use Rattle.soundness_senses.specs.Texts.{char_array, IsShortText}
+use Rattle.soundness_senses.specs.Texts.{char_array, AreWords}
 use Rattle.instructions.specs.declared.what.What.TheVariants as whats
 use Rattle.instructions.specs.declared.operation.PrimitiveType.TheVariants as primitives
 use Rattle.link_types.specs.declared.operands.Operand.TheVariants as operands
@@ -102,12 +102,13 @@ pub record Accepted (us : List ClassUnit) : Type 0 where
   -- what newarray and anewarray make is an array class of the program, of the type that verification gives it
   pub primitive_arrays : (id : MethodId) (c : CodeOf us id) (k at next : ℕ) (kind : PrimitiveType) → slice_get c.code.steps k ≡ Some (record { at = at; what = whats.NewArray kind; next = next })
       → (n : ℕ) × (primitive_array_number (program_names us) kind ≡ Some n) × (length (classes_of us) < n) × (is_class_number (program_names us) n ≡ true) × (type_numbered (program_names us) n ≡ Array 1 (primitive_element kind))
-  pub arrays_of : (this index : ℕ) (o : ClassOperand) (n : ℕ) → operand us this index ≡ operands.Class o → o.array ≡ Some n
+  pub arrays_of : (id : MethodId) (c : CodeOf us id) (k at next index : ℕ) (o : ClassOperand) (n : ℕ) → slice_get c.code.steps k ≡ Some (record { at = at; what = whats.Class uses.NewArray index; next = next })
+      → operand us id.class index ≡ operands.Class o → o.array ≡ Some n
       → (length (classes_of us) < n) × (is_class_number (program_names us) n ≡ true) × (type_numbered (program_names us) n ≡ array_type_of o.kind)
   -- the arrays with the units of Strings
   pub char_arrays : (n : ℕ) × (primitive_array_number (program_names us) primitives.Char ≡ Some n) × (length (classes_of us) < n) × (is_class_number (program_names us) n ≡ true) × (type_numbered (program_names us) n ≡ char_array)
-  -- the text of a literal is short
-  pub literals : (n : ℕ) → IsShortText (literal_units us n)
+  -- the units of a literal are words
+  pub literals : (n : ℕ) → AreWords (literal_units us n)
   -- a class that initializes itself does so by a method with code, which takes nothing
   pub initializers : (c : ℕ) (id : MethodId) → initializer (classes_of us) c ≡ Some id → (code : CodeOf us id) × ((env_of us id code).entry ≡ [])
   pub class_uses : (id : MethodId) (c : CodeOf us id) (k at next index : ℕ) (purpose : ClassUse) → slice_get c.code.steps k ≡ Some (record { at = at; what = whats.Class purpose index; next = next })
@@ -119,7 +120,8 @@ pub record Accepted (us : List ClassUnit) : Type 0 where
   -- what a `new` makes is a class
   pub made_classes : (id : MethodId) (c : CodeOf us id) (at : ℕ) → (d : ℕ) × ((env_of us id c).made_at at ≡ Class d)
   -- the constructor that is called is one of the class that is named
-  pub constructors : (this index c : ℕ) (m : MethodOperand) → operand us this index ≡ operands.Method m → m.constructs ≡ true → m.named ≡ Class c → (m.method.class ≡ c) × (m.special ≡ Some m.method)
+  pub constructors : (this index c : ℕ) (m : MethodOperand) → operand us this index ≡ operands.Method m → FitsCall (classes_of us) this call_kinds.Special m → m.constructs ≡ true → m.named ≡ Class c
+      → (m.method.class ≡ c) × (m.special ≡ Some m.method)
   pub constructs : (this index : ℕ) (m : MethodOperand) (c : CodeOf us m.method) → operand us this index ≡ operands.Method m → m.constructs ≡ true → has c.member.flags STATIC ≡ false → (env_of us m.method c).constructs ≡ true
   pub constructor_methods : (this : ℕ) (m : MethodOperand) → FitsCall (classes_of us) this call_kinds.Special m → m.special ≡ Some m.method
       → (member : NamedMember) × (method_named (classes_of us) m.method ≡ Some member) × (has member.flags ABSTRACT ≡ false) × (has member.flags STATIC ≡ false)

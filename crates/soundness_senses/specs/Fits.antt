@@ -200,7 +200,7 @@ module _ {P : Type 0} (know : Sense P) (us : List ClassUnit) where
       × ((h' : P) (end : FrameEnd) → know.extends h h' → EndFits know h' (Some (returns_of h call.frame call.fits.stands)) end → PlanFits res anything (k end) h')
   PlanFits res b (ready ending) h = IsAnywhere b × EndingFits h res ending
   PlanFits res b over h = IsTheEnd b
-  PlanFits res b stuck h = IsAnywhere b × know.may_be_lost h
+  PlanFits res b stuck h = ⊥
 
   -- what follows in the frames that wait, when the one above them ends
   abbrev pub BelowFits : P → Option Returns → List (FrameEnd → Plan) → Type 0

@@ -9,7 +9,6 @@ use Rattle.java_rows.specs.Thread.{Local}
 use Rattle.soundness_senses.specs.Senses.{Sense}
 use Rattle.soundness_senses.specs.Fits.{Preceding, LocalFits}
 use Rattle.soundness_senses.specs.Knowledge.{CanBeMade}
-use Rattle.soundness_senses.specs.Texts.{CallsTextMaker}
 
 abbrev pub KindsWant : List ClassUnit → Op → Type 0
 KindsWant us (New c n) = CanBeMade us c n
@@ -29,7 +28,6 @@ kinds us = record {
   has_word = λ h r i k. Unit {0};
   may_want = λ h op. KindsWant us op;
   may_come = λ h op reply. Fits op reply;
-  may_be_lost = λ h. CallsTextMaker us;
 }
 
 abbrev pub KindsLocal : List ClassUnit → Preceding → Local → Type 0

@@ -27,7 +27,7 @@ use Rattle.type_rules.specs.FrameAfter.{element_of}
 use Rattle.type_rules.specs.Wants.{element_types, is_array_of_one, is_array_of_references}
 use Rattle.java_rows.specs.Program.{is_subclass, is_of_file, method_has, select, takes_element}
 use Rattle.soundness_senses.specs.Senses.{Content, number, reference, Sense, WordFits}
-use Rattle.soundness_senses.specs.Texts.{char_array, CallsTextMaker}
+use Rattle.soundness_senses.specs.Texts.{char_array}
 use Rattle.link_types.specs.declared.operands.Operand.TheVariants as operands
 use Rattle.link_types.specs.declared.types.ElementType.TheVariants as element_types_
 use Rattle.link_types.specs.declared.types.ValueType.TheVariants as values
@@ -94,7 +94,6 @@ pub record Knows {P : Type 0} (know : Sense P) (us : List ClassUnit) : Type 0 wh
   pub thrown_more : (h h' : P) (r c : ℕ) → know.extends h h' → know.is_thrown h r c → know.is_thrown h' r c
   pub word_more : (h h' : P) (r i : ℕ) (k : Content) → know.extends h h' → know.has_word h r i k → know.has_word h' r i k
   pub want_more : (h h' : P) (op : Op) → know.extends h h' → know.may_want h op → know.may_want h' op
-  pub lost_more : (h h' : P) → know.extends h h' → know.may_be_lost h → know.may_be_lost h'
   pub fits : (h : P) (op : Op) (reply : Reply) → know.may_come h op reply → Fits op reply
   pub small : (h : P) (r : ℕ) → know.is_there h r → know.exact → r < 2 ^ 32
   -- types
@@ -153,8 +152,6 @@ pub record Knows {P : Type 0} (know : Sense P) (us : List ClassUnit) : Type 0 wh
   pub arguments : (h : P) → know.is_of h (arguments_object (program_names us)) (Array 1 (element_types_.Class STRING))
   pub main_thread : (h : P) → know.is_of h (main_thread_object (program_names us)) (Class THREAD)
   pub out : (h : P) → know.is_of h (system_out_object (program_names us)) (Class PRINT_STREAM)
-  -- a text that isn't short is read of a long array
-  pub long : (h : P) (r c n : ℕ) → CallsTextMaker us → know.is_of h r char_array → know.is_exactly h r c n → 2 ^ 30 ≤ n → know.may_be_lost h
   -- elements of arrays
   pub elements : (h : P) (r c n i : ℕ) (kind : ElementKind) (s : ObjectType) → IsNumeric kind → know.is_of h r s → is_array_of_one (element_types kind) s ≡ true → know.is_exactly h r c n → i < n
       → HasWords know h r (element_place kind i) (element_contents kind)

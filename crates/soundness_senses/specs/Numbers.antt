@@ -6,7 +6,7 @@ use Rattle.link_types.specs.declared.types.ValueType.{ValueType}
 use Rattle.java_rows.specs.Numbers.{result_of, kept, byte_of, short_of, negative_of, int_shifted, long_shifted, widened}
 use Rattle.instructions.specs.declared.operation.Shift.{Shift}
 use Rattle.java_rows.specs.Units.{units_of_int, units_of_long}
-use Rattle.soundness_senses.specs.Texts.{IsShortText}
+use Rattle.soundness_senses.specs.Texts.{AreWords}
 
 -- results of operations on words are words
 pub record NumbersFit : Type 0 where
@@ -21,6 +21,6 @@ pub record NumbersFit : Type 0 where
   pub increments : (a : ℕ) (by : ℤ) → a < 2 ^ 32 → cast_unsigned w32 (int_wrapping_add w32 (cast_signed w32 a) by) < 2 ^ 32
   pub bytes : (v : ℕ) → byte_of v < 2 ^ 32
   pub shorts : (v : ℕ) → short_of v < 2 ^ 32
-  -- what is appended of an int or a long is a short text
-  pub int_units : (v : ℕ) → IsShortText (units_of_int v)
-  pub long_units : (low high : ℕ) → IsShortText (units_of_long low high)
+  -- the units of an int or a long are words
+  pub int_units : (v : ℕ) → AreWords (units_of_int v)
+  pub long_units : (low high : ℕ) → AreWords (units_of_long low high)

@@ -113,12 +113,6 @@ pub record IsThrownAt (us : List ClassUnit) (h : Objects) (r c : ℕ) : Type 0 w
   pub class : object.class ≡ c
   pub can : is_subclass us c THROWABLE ≡ true
 
--- a char array that is so long that a text of it and another one may be longer than an array may be
-pub record HasLongArray (us : List ClassUnit) (h : Objects) : Type 0 where
-  pub reference : ℕ
-  pub array : HasObject us h reference char_array
-  pub long : 2 ^ 30 ≤ array.object.length
-
 abbrev pub RunsWant : List ClassUnit → Objects → Op → Type 0
 RunsWant us h (ClassOf r) = HasAny us h r
 RunsWant us h (Read r i) = (k : Content) × HasWordFor us h r i k
@@ -157,7 +151,6 @@ runs us = record {
   has_word = λ h r i k. HasWordFor us h.objects r i k;
   may_want = λ h op. RunsWant us h.objects op;
   may_come = λ h op reply. IsTrueReply (ObjectFits us) (MayStand us) h.objects op reply;
-  may_be_lost = λ h. HasLongArray us h.objects;
 }
 
 -- ---- local states of live threads

@@ -28,8 +28,6 @@ pub record Sense (P : Type 0) : Type 1 where
   -- an operation may be wanted, and a reply may come
   pub may_want : P → Op → Type 0
   pub may_come : P → Op → Reply → Type 0
-  -- a text may be longer than an array may be, so a thread may have no row that makes it
-  pub may_be_lost : P → Type 0
 
 module _ {P : Type 0} (know : Sense P) where
   abbrev pub IsWord : ℕ → Type 0

@@ -4,7 +4,7 @@ use Rattle.std.specs.Prelude.{Option, None, Some, slice_get, unwrap_or, if◌the
 use Rattle.std.specs.Option.{option_map_or}
 use Rattle.builtin_world.specs.declared.Native.{Native}
 use Rattle.builtin_world.specs.declared.Native.TheVariants.{StringLength, StringCharAt, StringEquals, StringConcat, BuilderInit, BuilderInitText, AppendInt, AppendLong, AppendChar, AppendBoolean, AppendString, BuilderLength, BuilderToString}
-use Rattle.builtin_world.specs.declared.number.TheConstants.{STRING, NULL_POINTER_EXCEPTION, INDEX_OUT_OF_BOUNDS_EXCEPTION}
+use Rattle.builtin_world.specs.declared.number.TheConstants.{STRING, NULL_POINTER_EXCEPTION, INDEX_OUT_OF_BOUNDS_EXCEPTION, NEGATIVE_ARRAY_SIZE_EXCEPTION}
 use Rattle.builtin_world.specs.declared.word.TheConstants.{STRING_UNITS, BUILDER_TEXT}
 use Rattle.code_decode.specs.declared.code.ClassUnit.{ClassUnit}
 use Rattle.instructions.specs.declared.operation.PrimitiveType.TheVariants.{Char}
@@ -202,7 +202,7 @@ made_leads us u job a b units (Some class) = refl
 
 pub silent_steps_lead : SilentStepsLead
 silent_steps_lead us u job (takes_room p array n) a b m = units_lead us u job p array 0 n a []
-silent_steps_lead us u job (makes_room tail) a b m = chosen us u job (option_map_or (λ class. makes_array class (with_tail tail a b) (after_made u job)) (primitive_array_number (program_names us) Char) stuck) stuck (option_map_or (λ class. stands_at (asks_array class) a b (with_tail tail a b)) (primitive_array_number (program_names us) Char) lost) lost (is_short (with_tail tail a b)) (made_leads us u job a b (with_tail tail a b) (primitive_array_number (program_names us) Char)) refl
+silent_steps_lead us u job (makes_room tail) a b m = chosen us u job (option_map_or (λ class. makes_array class (with_tail tail a b) (after_made u job)) (primitive_array_number (program_names us) Char) stuck) (raises u NEGATIVE_ARRAY_SIZE_EXCEPTION) (option_map_or (λ class. stands_at (asks_array class) a b (with_tail tail a b)) (primitive_array_number (program_names us) Char) lost) (breaks_by NEGATIVE_ARRAY_SIZE_EXCEPTION) (is_short (with_tail tail a b)) (made_leads us u job a b (with_tail tail a b) (primitive_array_number (program_names us) Char)) refl
 silent_steps_lead us u job (asks_word p s) a b m = refl
 silent_steps_lead us u job (asks_number p s) a b m = refl
 silent_steps_lead us u job (asks_size p array) a b m = refl

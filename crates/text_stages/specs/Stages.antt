@@ -3,7 +3,7 @@ use Rattle.std.specs.Prelude.{◌≡◌, ℕ, zero, suc, ◌==◌, Option, None,
 use Rattle.std.specs.Option.{option_map_or}
 use Rattle.builtin_world.specs.declared.Native.{Native}
 use Rattle.builtin_world.specs.declared.Native.TheVariants.{StringLength, StringCharAt, StringEquals, StringConcat, BuilderInit, BuilderInitText, AppendInt, AppendLong, AppendChar, AppendBoolean, AppendString, BuilderLength, BuilderToString}
-use Rattle.builtin_world.specs.declared.number.TheConstants.{STRING, NULL_POINTER_EXCEPTION, INDEX_OUT_OF_BOUNDS_EXCEPTION}
+use Rattle.builtin_world.specs.declared.number.TheConstants.{STRING, NULL_POINTER_EXCEPTION, INDEX_OUT_OF_BOUNDS_EXCEPTION, NEGATIVE_ARRAY_SIZE_EXCEPTION}
 use Rattle.builtin_world.specs.declared.word.TheConstants.{STRING_UNITS, BUILDER_TEXT}
 use Rattle.code_decode.specs.declared.code.ClassUnit.{ClassUnit}
 use Rattle.instructions.specs.declared.operation.PrimitiveType.TheVariants.{Char}
@@ -86,7 +86,7 @@ after_first us u (joins_both s other) = λ a. reads_text us other (joined us s u
 after_first us u (copies b s) = λ a. keeps_text us b a u []
 after_first us u (extends b x) = λ a. reads_appended us x (λ c. keeps_text us b (a ++ c) u (b ∷ []))
 after_first us u (measures b) = λ a. u.value (length_word a ∷ [])
-after_first us u (tells b) = λ a. makes_text us a (λ s. u.value (s ∷ []))
+after_first us u (tells b) = λ a. makes_text us u a (λ s. u.value (s ∷ []))
 
 abbrev pub after_second : List ClassUnit → Use → TextJob → List ℕ → List ℕ → Plan
 after_second us u (matches s other) a = same_text u a
@@ -145,7 +145,7 @@ stage_plan us u job (asks_size p array) a b m = reads_array array (after_part us
 stage_plan us u job (takes_room p array n) a b m = silently (reads_units array 0 n [] (after_part us u job p a))
 stage_plan us u job (asks_unit p array i n) a b m =
     reads_units array i (suc n) (so_far p a b) (after_part us u job p a)
-stage_plan us u job (makes_room tail) a b m = makes_text us (with_tail tail a b) (after_made u job)
+stage_plan us u job (makes_room tail) a b m = makes_text us u (with_tail tail a b) (after_made u job)
 stage_plan us u job (asks_array class) a b m = makes_array class m (after_made u job)
 stage_plan us u job (asks_write array i n) a b m =
     writes_units array m i (suc n) (makes_string array (after_made u job))
@@ -256,7 +256,7 @@ abbrev pub text_silent : List ClassUnit → TextJob → TextStage → List ℕ �
 text_silent us job (takes_room p array n) a b m = units_next job p array 0 n a []
 text_silent us job (makes_room tail) a b m = if is_short (with_tail tail a b)
     then option_map_or (λ class. stands_at (asks_array class) a b (with_tail tail a b)) (primitive_array_number (program_names us) Char) lost
-    else lost
+    else breaks_by NEGATIVE_ARRAY_SIZE_EXCEPTION
 text_silent us job _ a b m = lost
 
 -- ---- how a method begins

@@ -1,0 +1,21 @@
+//! What holds of the programs that are accepted.
+
+ghost use Rattle.std.specs.Prelude.{ℕ, List, ◌<◌, length};
+ghost use Rattle.java_rows.specs.Thread.{java_code, first_state};
+ghost use Rattle.link_rules.specs.Classes.{classes_of};
+ghost use Rattle.op_core.specs.Orderly.{IsOrderly};
+ghost use Rattle.program_accept.specs.Accepted.{IsProgram};
+ghost use Rattle.accepted_programs.specs.Programs.{IsSoundProgram};
+
+use program_accept::Program;
+
+/// A program that `accept` gives is decoded, keeps the rules of linking in an order of its classes, its methods are type
+/// safe, and it begins with a method of its own. So its code goes in order, whatever it is answered: a thread ends by its
+/// end alone, and never comes to a place where an operand, a local, room or an entry of the constant pool is missing.
+pub fn accepted_programs_go_in_order(program: &Program)
+    ensures sound { (files : List (List ℕ)) (name : List ℕ) → IsProgram files name program.now → IsSoundProgram program.now }
+    ensures orderly { (files : List (List ℕ)) (name : List ℕ) (classes : ℕ) → IsProgram files name program.now → length (classes_of program.now.units) < classes →
+        IsOrderly java_code (first_state program.now.units program.now.main) classes }
+{
+    program.world().is_linked();
+}

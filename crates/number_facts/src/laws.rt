@@ -1,0 +1,8 @@
+//! Numbers that instructions compute.
+
+ghost use Rattle.soundness_senses.specs.Numbers.{NumbersFit};
+
+/// What arithmetic, shifts and conversions give of words are words, of longs longs; and the digits of a number are words.
+pub fn numbers_fit()
+    ensures { NumbersFit }
+{}

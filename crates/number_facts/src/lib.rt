@@ -1,0 +1,8 @@
+//! What holds of the numbers that instructions compute. Laws alone.
+//!
+//! It is a part of `Accepted` of `soundness_senses`.
+#![tactic(auto)]
+
+mod laws;
+
+pub use laws::numbers_fit;
