@@ -1,12 +1,12 @@
 -- What a program's execution answers.
-use Rattle.std.specs.Prelude.{◌≡◌, ℕ, false, List, [], ◌∷◌, ◌++◌, map, filter_map, codes}
+use Rattle.std.specs.Prelude.{◌≡◌, ℕ, true, Some, List, [], ◌∷◌, ◌++◌, map, filter_map, codes}
 use Rattle.code_decode.specs.declared.code.ClassUnit.{ClassUnit}
 use Rattle.op_core.specs.declared.Event.{Event}
 use Rattle.op_core.specs.declared.How.{How}
 use Rattle.op_core.specs.declared.How.TheVariants as how
 use Rattle.op_core.specs.declared.Limits.{Limits}
 use Rattle.op_core.specs.declared.Outcome.{Outcome}
-use Rattle.op_core.specs.Execution.{printed, EndsStuck}
+use Rattle.op_core.specs.Execution.{EndsStuck}
 use Rattle.schedules.specs.declared.order.Schedule.{Schedule}
 use Rattle.ordinary_machine.specs.Advance.{HasHalted}
 use Rattle.ordinary_machine.specs.Machine.{Machine}
@@ -47,18 +47,18 @@ answer_of us outcome = record {
 abbrev pub machine_at_start : List ClassUnit → MethodId → Machine Local
 machine_at_start us main = start_of (opening_of us) (first_state us main)
 
--- Where the run of a machine ended stuck and no thread is at its code's end without having ended, some events are an execution
--- that ends stuck and print the lines.
+-- Where the run of a machine ended stuck and no thread is at its code's end without having ended, its events are an execution
+-- that ends stuck.
 abbrev pub IsStuckRun : Machine Local → Outcome → Machine Local → Type 0
 IsStuckRun start outcome last = outcome.how ≡ how.Stuck → ((t : ℕ) → HasHalted java_code last t → ⊥)
-    → (events : List Event) × EndsStuck java_code start.now events × (outcome.lines ≡ start.now.lines ++ printed events)
+    → (events : List Event) × (outcome.events ≡ Some events) × EndsStuck java_code start.now events
 
--- The answer is that of a run of the program of these classes, which begins with a method: a run that follows a schedule under
--- limits. Some events are an execution of the program from its start that prints the lines and leaves the threads ended as the
--- answer says.
+-- The answer is that of the run of the program of these classes, which begins with a method: the run that follows a schedule
+-- under limits. The events that its turns made, which its outcome has, are an execution of the program from its start that
+-- prints the lines and leaves the threads ended as the answer says.
 pub record IsRunOf (us : List ClassUnit) (main : MethodId) (schedule : Schedule) (limits : Limits) (answer : Answer) : Type 0 where
   pub outcome : Outcome
-  pub ran : IsOutcome java_code (machine_at_start us main) schedule limits false outcome
-  pub executed : IsExecuted java_code (machine_at_start us main) false outcome
+  pub ran : IsOutcome java_code (machine_at_start us main) schedule limits true outcome
+  pub executed : IsExecuted java_code (machine_at_start us main) true outcome
   pub stuck : IsStuckRun (machine_at_start us main) outcome ran.last.state.machine
   pub answered : answer ≡ answer_of us outcome

@@ -9,7 +9,7 @@ use java_machine::{World, opening};
 use link_types::MethodId;
 use op_core::{Limits, NoMemory};
 use ordinary_machine::Ordinary;
-use ordinary_runs::laws::{runs_are_executions, stuck_runs_are_stuck};
+use ordinary_runs::laws::{runs_are_executions, runs_have_events, stuck_runs_are_stuck};
 use ordinary_runs::run_picks;
 use program_answers::Answer;
 use schedules::Schedule;
@@ -35,6 +35,7 @@ pub fn execute<P: JavaProgram>(
     let code = JavaCode::main(alloc, program, main)?;
     let machine = Ordinary::start(alloc, &opening, code)?;
     let outcome = run_picks(alloc, machine, schedule, limits, false)?;
+    runs_have_events::<JavaCode<'_, P>>();
     runs_are_executions::<JavaCode<'_, P>>();
     stuck_runs_are_stuck::<JavaCode<'_, P>>();
     answer_of(alloc, world, &outcome)

@@ -69,7 +69,7 @@ all_kept : (keeps : Bool) (events last : Option (List Event)) (made : List Event
 all_kept true events last made kept is = is ∙ kept
 all_kept false events last made kept is = is ∙ kept
 
-one_call : {S : Type 0} (code : Code S) (limits : Limits) (run next : Run (Progress S)) (t : ℕ) (end : TurnEnd) → IsTurn (machine_turns code limits) run t end next
+pub one_call : {S : Type 0} (code : Code S) (limits : Limits) (run next : Run (Progress S)) (t : ℕ) (end : TurnEnd) → IsTurn (machine_turns code limits) run t end next
     → MakesTurn code limits run.state t end next.state
 one_call code limits run next t end turn = elim turn.given [
   | inl out ↦ absurd (turn.unspent Turns out.spent)
@@ -150,4 +150,4 @@ stuck code m schedule limits keeps outcome ran none is never =
       none_advances = held.none_enabled;
       none_halts = never;
     } in
-    (events_of made.calls, standstills_stuck code m last made.calls none made.runs still, ran.lines ∙ (executed code m last made.calls none made.runs).lines)
+    (events_of made.calls, all_kept keeps outcome.events ran.last.state.events (events_of made.calls) made.kept ran.events, standstills_stuck code m last made.calls none made.runs still, ran.lines ∙ (executed code m last made.calls none made.runs).lines)

@@ -6,5 +6,6 @@ pub mod EndLemmas
 pub mod EnabledLemmas
 pub mod MadeLemmas
 pub mod LawLemmas
+pub mod KeptLemmas
 pub mod RunLemmas
 pub mod LowestLemmas

@@ -1,5 +1,5 @@
 -- What is proved of all scheduled runs, for all thread codes.
-use Rattle.std.specs.Prelude.{◌≡◌, ℕ, Bool, Some, None, List, ◌++◌, if◌then◌else◌}
+use Rattle.std.specs.Prelude.{◌≡◌, ℕ, Bool, true, false, Some, None, List, [], ◌++◌, if◌then◌else◌}
 use Rattle.op_core.specs.declared.Event.{Event}
 use Rattle.op_core.specs.declared.Limits.{Limits}
 use Rattle.op_core.specs.declared.How.TheVariants.{Stuck}
@@ -18,6 +18,15 @@ abbrev pub RunsHaveOneOutcome : {S : Type 0} → Code S → Type 0
 RunsHaveOneOutcome {S} code = (m : Machine S) (schedule : Schedule) (limits : Limits) (keeps : Bool) (outcome other : Outcome)
     → IsOutcome code m schedule limits keeps outcome → IsOutcome code m schedule limits keeps other → other ≡ outcome
 
+-- the outcome of a run, with the events that its turns made
+abbrev pub with_events : Outcome → List Event → Outcome
+with_events outcome events = record outcome { events = Some events; undos = Some [] }
+
+-- A run of which no events were kept is one of which they were: the same comes of it, and the events that its turns made.
+abbrev pub RunsHaveEvents : {S : Type 0} → Code S → Type 0
+RunsHaveEvents {S} code = (m : Machine S) (schedule : Schedule) (limits : Limits) (outcome : Outcome) → IsOutcome code m schedule limits false outcome
+    → (events : List Event) × IsOutcome code m schedule limits true (with_events outcome events)
+
 -- Some events are an execution from the machine's state: those of the outcome, where they were kept. The machine's lines
 -- and those that they print are the outcome's, and in their last state the threads have ended, and the texts that the program
 -- made are, as the outcome says.
@@ -35,8 +44,9 @@ RunsAreExecutions {S} code = (m : Machine S) (schedule : Schedule) (limits : Lim
     → m.silents ≡ (λ _. 0) → IsOutcome code m schedule limits keeps outcome → IsExecuted code m keeps outcome
 
 -- Where a run is stuck and no thread is at its code's end without having ended, some events are an execution that ends
--- stuck, and print the outcome's lines.
+-- stuck, and print the outcome's lines: those of the outcome, where they were kept.
 abbrev pub StuckRunsAreStuck : {S : Type 0} → Code S → Type 0
 StuckRunsAreStuck {S} code = (m : Machine S) (schedule : Schedule) (limits : Limits) (keeps : Bool) (outcome : Outcome) (ran : IsOutcome code m schedule limits keeps outcome)
     → m.silents ≡ (λ _. 0) → outcome.how ≡ Stuck → ((t : ℕ) → HasHalted code ran.last.state.machine t → ⊥)
-    → (events : List Event) × EndsStuck code m.now events × (outcome.lines ≡ m.now.lines ++ printed events)
+    → (events : List Event) × (outcome.events ≡ (if keeps then Some events else None))
+    × EndsStuck code m.now events × (outcome.lines ≡ m.now.lines ++ printed events)

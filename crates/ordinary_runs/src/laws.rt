@@ -1,13 +1,18 @@
 //! Laws of scheduled runs for all thread codes, each as the contract of a function with no parameters and an empty
 //! body, for the crates above to cite.
 
-ghost use Rattle.ordinary_runs.specs.Laws.{RunsHaveOneOutcome, RunsAreExecutions, StuckRunsAreStuck};
+ghost use Rattle.ordinary_runs.specs.Laws.{RunsHaveOneOutcome, RunsHaveEvents, RunsAreExecutions, StuckRunsAreStuck};
 
 use op_core::ThreadCode;
 
 /// A machine that follows a schedule under limits has one outcome.
 pub fn runs_have_one_outcome<C: ThreadCode>()
     ensures { RunsHaveOneOutcome C.code }
+{}
+
+/// A run of which no events were kept is the same with the events that its turns made.
+pub fn runs_have_events<C: ThreadCode>()
+    ensures { RunsHaveEvents C.code }
 {}
 
 /// The outcome of a run is that of an execution.

@@ -1,7 +1,8 @@
-use Rattle.std.proofs.Common.{◌≡◌, false, refl, subst, ap, ◌∙◌}
+use Rattle.std.proofs.Common.{◌≡◌, true, false, refl, subst, ap, ◌∙◌}
 use Rattle.std.proofs.lemmas.Result.{IfOk-weaker}
 use Rattle.ordinary_machine.specs.Start.{start_of}
 use Rattle.ordinary_runs.specs.ScheduledRun.{IsOutcome}
+use Rattle.ordinary_runs.specs.Laws.{with_events}
 use Rattle.java_rows.specs.Start.{opening_of}
 use Rattle.java_rows.specs.Thread.{first_state, java_code}
 use Rattle.interp_calls.specs.Local.{state_over}
@@ -19,10 +20,17 @@ returns g c =
     ∙ ap (start_of (opening_of us)) first in
     let ran : IsOutcome java_code (machine_at_start us c.args.main) c.args.schedule.now c.args.limits.now false outcome =
     subst (λ m. IsOutcome java_code m c.args.schedule.now c.args.limits.now false outcome) is c.in_ok-outcome.ensures in
+    let start = machine_at_start us c.args.main in
+    let schedule = c.args.schedule.now in
+    let limits = c.args.limits.now in
+    let (events, kept) = c.runs_have_events.ensures start schedule limits outcome ran in
+    let whole = with_events outcome events in
     IfOk-weaker c.answer_of.result _ _ (λ answer said. record {
-      outcome = outcome;
-      ran = ran;
-      executed = c.runs_are_executions.ensures (machine_at_start us c.args.main) c.args.schedule.now c.args.limits.now false outcome refl ran;
-      stuck = λ is none. c.stuck_runs_are_stuck.ensures (machine_at_start us c.args.main) c.args.schedule.now c.args.limits.now false outcome ran refl is none;
+      outcome = whole;
+      ran = kept;
+      executed = c.runs_are_executions.ensures start schedule limits true whole refl kept;
+      stuck = λ is none.
+          let (made, same, ends, _) = c.stuck_runs_are_stuck.ensures start schedule limits true whole kept refl is none in
+          (made, same, ends);
       answered = said;
     }) c.answer_of.ensures
