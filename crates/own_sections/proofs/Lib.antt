@@ -1,0 +1,5 @@
+pub mod WordLemmas
+pub mod DeedLemmas
+pub mod OwnLemmas
+pub mod MoveLemmas
+pub mod PinLemmas
