@@ -146,7 +146,7 @@ none_from n (h ∷ held) low each none = absurd (some (nat_le n h.level) refl no
     some false is none = is_le n h.level low each.0 is
 
 -- the last step of an undo comes where nothing that was taken since is held
-last_step : (s w x y : ℕ) (log : List Noted) (deepened taken : List Held) → undo_step s w log deepened taken ≡ MarkUndone x y → taken ≡ []
+pub last_step : (s w x y : ℕ) (log : List Noted) (deepened taken : List Held) → undo_step s w log deepened taken ≡ MarkUndone x y → taken ≡ []
 last_step s w x y (e ∷ log) deepened taken is = cc
 last_step s w x y [] (h ∷ deepened) taken is = cc
 last_step s w x y [] [] (h ∷ taken) is = cc
