@@ -1,6 +1,6 @@
 -- What a thread's steps make of its section and of the word of it: the rows of the automaton, few enough to go along runs
 -- by cases.
-use Rattle.std.proofs.Common.{◌≡◌, ◌≢◌, inl, inr, ℕ, suc, ◌-◌, ◌^◌, ◌<◌, ◌≤◌, Bool, true, false, true≢false, Option, None, Some, List, [], ◌∷◌, length, nat_eq, refl, sym, ◌∙◌, ap, subst, arith}
+use Rattle.std.proofs.Common.{◌≡◌, ◌≢◌, ◌⊎◌, inl, inr, ℕ, suc, ◌-◌, ◌^◌, ◌<◌, ◌≤◌, Bool, true, false, true≢false, Option, None, Some, List, [], ◌∷◌, length, nat_eq, refl, sym, ◌∙◌, ap, subst, arith}
 use Rattle.std.specs.Prelude.{nat_lt, nat_le, not, ◌&&◌}
 use Rattle.std.proofs.lemmas.Grind.{common_steps}
 use Rattle.std.proofs.lemmas.Bool.Decides.{nat_tests}
@@ -21,7 +21,7 @@ use Rattle.step_port.specs.declared.answer.StepAnswer.{StepAnswer}
 use Rattle.step_port.specs.declared.answer.StepAnswer.TheVariants.{Found, Lost}
 use Rattle.step_port.specs.declared.step.Effect.TheVariants.{Load, Exchange}
 use Rattle.step_port.specs.declared.step.Step.{Step}
-use Rattle.step_port.specs.declared.step.Step.TheVariants.{LoadWord, LoadSection, Pin, OpenSection, OpenLevel, CloseLevel, Commit, MarkUndone, Release}
+use Rattle.step_port.specs.declared.step.Step.TheVariants.{LoadWord, LoadSection, Pin, Revoke, OpenSection, OpenLevel, CloseLevel, Commit, MarkUndone, Release}
 use Rattle.step_port.specs.Steps.{place_of, effect_of}
 use Rattle.step_port.specs.Words.{Words, CanAnswer, area_eq, put_by, answer_of, words_after}
 use Rattle.thread_automaton.specs.declared.Bounds.{Bounds}
@@ -133,6 +133,11 @@ pub data Touch (old new : ℕ) : Type 0 where
   pinned_to : (n : ℕ) → state_of old ≡ 1 → pinned_of old < n → n < 2 ^ 8 → new ≡ with_pinned old n → Touch old new
   revoked : (n : ℕ) → state_of old ≡ 1 → pinned_of old < n → n ≤ depth_of old → new ≡ revoked_of old n → Touch old new
 
+-- by a pin, or by a revocation
+abbrev pub IsTouch : Step → ℕ → ℕ → ℕ → Type 0
+IsTouch step s old new = ((n : ℕ) × (step ≡ Pin s old n) × (n < 2 ^ 8) × (new ≡ with_pinned old n))
+    ⊎ ((n : ℕ) × (step ≡ Revoke s old n) × CanRevoke old n × (new ≡ revoked_of old n))
+
 -- A thread that is seen as x makes the step, is answered this, and is then seen as y.
 pub data Deed (x y : View) : Step → StepAnswer → Type 0 where
   plain : {step : Step} {a : StepAnswer} → SectionsStay step a → Keeps x y → y.undoing ≡ None → y.level < 2 ^ 8 → y.leaving ≡ false → Deed x y step a
@@ -143,15 +148,15 @@ pub data Deed (x y : View) : Step → StepAnswer → Type 0 where
       → Deed x y (Pin x.section (own_of x) x.levels) StepAnswer.Done
   undoes : {w : ℕ} → x.undoing ≡ Some w → 0 < x.section → IsSame x y → y.section ≡ section_at (revoke_of w - 1) x.section → y.levels ≡ revoke_of w - 1
       → y.pinned ≡ x.pinned → IsCalm y → Deed x y (MarkUndone x.section (undone_of w)) StepAnswer.Done
-  touches : {step : Step} {s old new : ℕ} → place_of step ≡ Section s → effect_of step ≡ Exchange old new → (0 < x.section → s ≢ x.section) → Touch old new
-      → Keeps x y → IsCalm y → Deed x y step StepAnswer.Done
+  touches : {step : Step} {s old new : ℕ} → place_of step ≡ Section s → effect_of step ≡ Exchange old new → (0 < x.section → s ≢ x.section)
+      → Touch old new → IsTouch step s old new → Keeps x y → IsCalm y → Deed x y step StepAnswer.Done
   opens : {s : ℕ} → x.section ≡ 0 → 0 < s → IsSame x y → y.section ≡ s → y.levels ≡ 1 → y.pinned ≡ 0 → IsCalm y → Deed x y (OpenSection s (opening_of x)) StepAnswer.Done
   opens_level : 0 < x.section → x.levels < 255 → IsSame x y → y.section ≡ x.section → y.levels ≡ suc x.levels → y.pinned ≡ x.pinned → IsCalm y
       → Deed x y (OpenLevel x.section (own_of x)) StepAnswer.Done
   commits : 0 < x.section → Keeps x y → y.undoing ≡ None → y.level ≡ 0 → Deed x y (Commit x.section (own_of x)) StepAnswer.Done
   closes_levels : {n : ℕ} → 0 < x.section → 0 < n → n < 2 ^ 8 → IsSame x y → y.section ≡ x.section → y.levels ≡ n → y.pinned ≡ x.pinned → IsCalm y
       → Deed x y (CloseLevel x.section (own_of x) n) StepAnswer.Done
-  ends_section : {step : Step} → x.leaving ≡ true → SectionsStay step StepAnswer.Done → IsSame x y → y.section ≡ 0 → IsCalm y → Deed x y step StepAnswer.Done
+  ends_section : {step : Step} → x.leaving ≡ true → SectionsStay step StepAnswer.Done → IsSame x y → y.section ≡ 0 → y.pinned ≡ x.pinned → IsCalm y → Deed x y step StepAnswer.Done
 
 -- ---- tests
 
@@ -376,8 +381,11 @@ module _ {S : Type 0} (code : Code S) (b : Bounds) (th : ThreadState S) where
       plain (load_stays _ _ refl) same refl (subst (λ g. level_in g < 2 ^ 8) at low) (leaving_as (Fixed (Pin s w level)) next is (access_leaves_none next s w level accesses))
   deed (tag_waits at accesses unsafe not_committed not_undone not_live) is kept low loaded makes = found (load_stays _ _ refl) same refl refl refl
   deed (pins_writer {next = next} {s = s} {level = level} {w = w} accesses unsafe live shallow) is kept low loaded makes =
-      touches refl refl (λ some. unsafe_other s level unsafe) (pinned_to level (state_is Live w live) shallow (subst (λ g. level_in g < 2 ^ 8) (access_pin next s w level accesses makes) low) refl)
-      same (refl, refl, refl)
+      touches refl refl (λ some. unsafe_other s level unsafe) (pinned_to level (state_is Live w live) shallow (level_fits (access_pin next s w level accesses makes)) refl)
+      (inl (level, refl, level_fits (access_pin next s w level accesses makes), refl)) same (refl, refl, refl)
+    where
+      level_fits : th.attempt ≡ Fixed (Pin s w level) → level < 2 ^ 8
+      level_fits at = subst (λ g. level_in g < 2 ^ 8) at low
   deed (has_room room_left) is kept low loaded makes = found (else_stays _ _ (λ s. refl)) same refl refl refl
   deed (heap_full full) is kept low loaded makes = found (else_stays _ _ (λ s. refl)) same refl refl refl
   deed object_made is kept low loaded makes = found (else_stays _ _ (λ s. refl)) same refl refl refl
@@ -399,7 +407,8 @@ module _ {S : Type 0} (code : Code S) (b : Bounds) (th : ThreadState S) where
   deed (holder_lower at enters other revokes) is kept low loaded makes = found (load_stays _ _ refl) same refl refl refl
   deed (holder_busy at enters other busy) is kept low loaded makes = found (load_stays _ _ refl) same refl refl refl
   deed (holder_revoked {s = s} {level = level} {w = w} enters other revokes) is kept low loaded makes =
-      touches refl refl (not_own s other) (by_revoking w level (contended w level th.priority revokes)) same (refl, refl, refl)
+      touches refl refl (not_own s other) (by_revoking w level (contended w level th.priority revokes))
+      (inr (level, refl, contended w level th.priority revokes, refl)) same (refl, refl, refl)
   deed (is_notified notified) is kept low loaded makes = found (load_stays _ _ refl) same refl refl refl
   deed (not_notified waits) is kept low loaded makes = found (load_stays _ _ refl) same refl refl refl
   deed (not_owner needs other) is kept low loaded makes = found (load_stays _ _ refl) same refl refl refl
@@ -417,7 +426,7 @@ module _ {S : Type 0} (code : Code S) (b : Bounds) (th : ThreadState S) where
   deed (monitor_left at more) is kept low loaded makes = found (else_stays _ _ (λ s. refl)) same refl refl refl
   deed (section_left {r = r} at none) is kept low loaded makes = forgets (with_levels (record (answered code th Reply.Done) { held = []; section = 0 }) 0)
       (ends_section (ap (λ g. is_leaving g (code.next th.local) th.held) at ∙ ap (λ n. is_leaving (Fixed (Release r)) n th.held) is ∙ ap is_none none)
-      (else_stays _ _ (λ s. refl)) (refl, refl) refl (refl, refl, refl))
+      (else_stays _ _ (λ s. refl)) (refl, refl) refl refl (refl, refl, refl))
   deed (wait_begins {r = r} own) is kept low loaded makes = to_pin_goes (Want (Wait r)) is kept.most (load_stays _ _ refl) refl refl
   deed (wait_noted {r = r} shut) is kept low loaded makes = found (else_stays _ _ (λ s. refl)) same refl refl (leaving_as (Fixed (Release r)) (Want (Wait r)) is refl)
   deed (wait_made shut at) is kept low loaded makes = found (else_stays _ _ (λ s. refl)) same refl refl refl

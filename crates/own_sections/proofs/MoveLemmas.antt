@@ -114,7 +114,7 @@ module _ (x y : View) (w : Words) (bits : Bits x) (own : Own x w) where
     where
       above_pin : (p r q : ℕ) → p < r → r ≡ q → 0 < q
       above_pin p r q deep is = omega (arith, deep, is)
-  moved {step} (touches {s = at} {old = old} {new = new} place effect other touch keeps calm) is unopened s = touch_exchange step at old new place effect is touch s
+  moved {step} (touches {s = at} {old = old} {new = new} place effect other touch by keeps calm) is unopened s = touch_exchange step at old new place effect is touch s
   moved (opens {s = at} closed some same section levels pin calm) is unopened s =
       at_section (Moved x s (word s)) w at (opening_of x) s
       (λ here. by_opener closed (subst (λ n. 0 < n) (sym here) some) (ap (λ n. w (Section n)) here ∙ unopened at (opening_of x) refl) refl) (by_any (stays refl))
@@ -124,7 +124,7 @@ module _ (x y : View) (w : Words) (bits : Bits x) (own : Own x w) where
   moved (commits some keeps none level) is unopened s = own_exchange (committed_of (own_of x)) is some (Move.commits (own_packed some).0 refl) s
   moved (closes_levels {n = n} some high low same section levels pin calm) is unopened s =
       own_exchange (with_depth (own_of x) n) is some (Move.closes_to n (own_packed some).0 high low refl) s
-  moved (ends_section leaving same also section calm) is unopened s = by_any (stays (same.stay w is s))
+  moved (ends_section leaving same also section pin calm) is unopened s = by_any (stays (same.stay w is s))
 
 -- ---- steps beside those of threads
 
@@ -171,7 +171,7 @@ module _ {S : Type 0} (code : Code S) (b : Bounds) (c : ℕ → Core S) (acts : 
         deed_of code b at.from (c k).words step a (facts.fit t at.from at.stands) at.move at.answered own.low
         (λ place w is found. in_bits.words k t place w (here ∙ ap (λ st. Some (did t st a)) is ∙ ap (λ an. Some (did t (LoadWord place) an)) found))
 
-    unopened : (t : ℕ) (step : Step) (a : StepAnswer) (at : DidAt code b c k t step a) → (s v : ℕ) → step ≡ OpenSection s v → (c k).words (Section s) ≡ 0
+    pub unopened : (t : ℕ) (step : Step) (a : StepAnswer) (at : DidAt code b c k t step a) → (s v : ℕ) → step ≡ OpenSection s v → (c k).words (Section s) ≡ 0
     unopened t step a at s v is =
         let done : a ≡ StepAnswer.Done = at.answered ∙ ap (answer_of (c k).words) is in
         let deed = deed_at code b c k at facts in

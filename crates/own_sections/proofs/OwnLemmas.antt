@@ -30,7 +30,8 @@ pub record Bits (x : View) : Type 0 where
 pub record OwnSays (x : View) (w : ℕ) : Type 0 where
   pub says : SaysOfOwn x.number x.priority x.levels x.pinned w
   pub sees : (v : ℕ) → x.undoing ≡ Some v → (w ≡ v) × (state_of v ≡ 3)
-  pub ends : x.leaving ≡ true → state_of w ≡ 5
+  -- at its last exit it is committed, and pinned as deep as the thread has seen
+  pub ends : x.leaving ≡ true → (state_of w ≡ 5) × (pinned_of w ≡ x.pinned)
 
 pub record Own (x : View) (w : Words) : Type 0 where
   pub own : 0 < x.section → OwnSays x (w (Section x.section))
@@ -97,7 +98,7 @@ touch_keeps x old new bits (pinned_to n live deeper low is) own =
           (deep x.pinned (pinned_of old) n (pinned_of (with_pinned old n)) says.pinned deeper now.1.3) (inl (now.1.0 ∙ live))
           (λ three. not_revoked (state_of (with_pinned old n)) (now.1.0 ∙ live) three);
       sees = λ v at. let sees = own.sees v at in not_revoked (state_of old) live (ap state_of sees.0 ∙ sees.1);
-      ends = λ leaving. not_ended (state_of old) live (own.ends leaving);
+      ends = λ leaving. not_ended (state_of old) live (own.ends leaving).0;
     })
   where
     deep : (a d n m : ℕ) → a ≤ d → d < n → m ≡ n → a ≤ m
@@ -114,7 +115,7 @@ touch_keeps x old new bits (revoked n live free there is) own =
             most (revoke_of (revoked_of old n)) n (depth_of old) x.levels now.1.5 there says.depth,
           ));
       sees = λ v at. let sees = own.sees v at in not_revoked (state_of old) live (ap state_of sees.0 ∙ sees.1);
-      ends = λ leaving. not_ended (state_of old) live (own.ends leaving);
+      ends = λ leaving. not_ended (state_of old) live (own.ends leaving).0;
     })
   where
     lower : (m d n r : ℕ) → m ≡ d → d < n → r ≡ n → m < r
@@ -147,7 +148,7 @@ elsewhere_stays step w s r old new place effect other =
     unequal m n other = ne_eqb m n other
 
 -- the own word as the thread knows it
-own_packed : (x : View) → Bits x → x.pinned < 2 ^ 8 → (own_of x < 2 ^ 48) × Says (own_of x) 1 x.number x.priority x.pinned x.levels 0
+pub own_packed : (x : View) → Bits x → x.pinned < 2 ^ 8 → (own_of x < 2 ^ 48) × Says (own_of x) 1 x.number x.priority x.pinned x.levels 0
 own_packed x bits low = (
   small_packed 1 x.number x.priority x.pinned x.levels 0 (omega arith) bits.number bits.priority low bits.levels (omega arith),
   packed 1 x.number x.priority x.pinned x.levels 0 (omega arith) bits.number bits.priority low bits.levels (omega arith),
@@ -204,11 +205,11 @@ module _ (x y : View) (w : Words) (bits : Bits x) (own : Own x w) where
     low = low;
   }
 
-  pin_low : 0 < x.section → x.pinned < 2 ^ 8
+  pub pin_low : 0 < x.section → x.pinned < 2 ^ 8
   pin_low some = within x.pinned (pinned_of word) (own.own some).says.pinned (pinned_low word)
 
   -- the own word was exchanged
-  swapped : (new : ℕ) → StepAnswer.Done ≡ answer_to (Exchange (own_of x) new) word → put_by (Exchange (own_of x) new) w (Section x.section) (Section x.section) ≡ new
+  pub swapped : (new : ℕ) → StepAnswer.Done ≡ answer_to (Exchange (own_of x) new) word → put_by (Exchange (own_of x) new) w (Section x.section) (Section x.section) ≡ new
   swapped new done = ap (λ (u : Words). u (Section x.section)) (exchanged w (Section x.section) (own_of x) new done).leaves ∙ put_section w x.section new
 
   pub own_steps : {step : Step} {a : StepAnswer} → Deed x y step a → a ≡ answer_of w step → Own y (words_after step w)
@@ -235,7 +236,7 @@ module _ (x y : View) (w : Words) (bits : Bits x) (own : Own x w) where
       own_now y _ x.section (with_pinned (own_of x) x.levels) keeps.2 (swapped (with_pinned (own_of x) x.levels) is)
       (live_says y (with_pinned (own_of x) x.levels) (now.0 p.0) (now.1.1 ∙ p.1.1 ∙ sym keeps.0) (now.1.2 ∙ p.1.2 ∙ sym keeps.1) (now.1.4 ∙ p.1.4 ∙ sym keeps.3)
       (as_is y.pinned (pinned_of (with_pinned (own_of x) x.levels)) (pin ∙ sym now.1.3)) (now.1.0 ∙ live) none
-      (λ ending. not_ended (state_of (own_of x)) live (ap state_of (sym (exchanged w (Section x.section) (own_of x) (with_pinned (own_of x) x.levels) is).found) ∙ (own.own some).ends (leaving ending))))
+      (λ ending. not_ended (state_of (own_of x)) live (ap state_of (sym (exchanged w (Section x.section) (own_of x) (with_pinned (own_of x) x.levels) is).found) ∙ ((own.own some).ends (leaving ending)).0)))
       level
   own_steps (undoes {w = seen} undoing some same section levels pin calm) is = by_depth (nat_le (revoke_of seen) 1) refl
     where
@@ -275,7 +276,7 @@ module _ (x y : View) (w : Words) (bits : Bits x) (own : Own x w) where
           (live_says y (undone_of seen) (now.0 small) (now.1.1 ∙ ap owner_of (sym sees.0) ∙ was.says.owner ∙ sym same.0) (now.1.2 ∙ ap priority_of (sym sees.0) ∙ was.says.priority ∙ sym same.1)
           (now.1.4 ∙ sym levels) (subst (λ n. n ≤ pinned_of (undone_of seen)) (sym pin) (subst (λ n. x.pinned ≤ n) (ap pinned_of sees.0 ∙ sym now.1.3) was.says.pinned))
           now.1.0 calm.0 (is_false calm.2)) calm.1
-  own_steps {step} (touches {s = s} {old = old} {new = new} place effect other touch keeps calm) is =
+  own_steps {step} (touches {s = s} {old = old} {new = new} place effect other touch by keeps calm) is =
       record {
         own = λ some.
             let before : 0 < x.section = subst (λ n. 0 < n) keeps.2 some in
@@ -311,7 +312,7 @@ module _ (x y : View) (w : Words) (bits : Bits x) (own : Own x w) where
         says = says_own y.number y.priority y.levels y.pinned (committed_of (own_of x)) (now.0 p.0) (now.1.1 ∙ p.1.1 ∙ sym keeps.0) (now.1.2 ∙ p.1.2 ∙ sym keeps.1) (now.1.4 ∙ p.1.4 ∙ sym keeps.3)
             (as_is y.pinned (pinned_of (committed_of (own_of x))) (keeps.4 ∙ sym p.1.3 ∙ sym now.1.3)) (inr (inr now.1.0)) (λ three. ended_stays (state_of (committed_of (own_of x))) now.1.0 three);
         sees = λ v at. none_some v (sym none ∙ at);
-        ends = λ ending. now.1.0;
+        ends = λ ending. (now.1.0, now.1.3 ∙ p.1.3 ∙ sym keeps.4);
       }) level
   own_steps (closes_levels {n = n} some above low same section levels pin calm) is =
       let p = own_packed x bits (pin_low some) in
@@ -319,7 +320,7 @@ module _ (x y : View) (w : Words) (bits : Bits x) (own : Own x w) where
       own_now y _ x.section (with_depth (own_of x) n) section (swapped (with_depth (own_of x) n) is)
       (live_says y (with_depth (own_of x) n) (now.0 p.0) (now.1.1 ∙ p.1.1 ∙ sym same.0) (now.1.2 ∙ p.1.2 ∙ sym same.1) (now.1.4 ∙ sym levels)
       (as_is y.pinned (pinned_of (with_depth (own_of x) n)) (pin ∙ sym p.1.3 ∙ sym now.1.3)) (now.1.0 ∙ p.1.0) calm.0 (is_false calm.2)) calm.1
-  own_steps (ends_section leaving stay same section calm) is = record {
+  own_steps (ends_section leaving stay same section pin calm) is = record {
     own = λ some. absurd (none y.section section some);
     low = subst (λ n. n < 2 ^ 8) (sym calm.1) (omega arith);
   }
