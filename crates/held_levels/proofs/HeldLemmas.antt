@@ -79,3 +79,12 @@ below_level n (h ∷ held) none = by_test (nat_le n h.level) refl none (λ more.
 pub kept_low : (n : ℕ) (g : Attempt) (next : Next) (held : List Held) → AreAtMost n held → AreAtMost n (kept_by g next held)
 kept_low n (Fixed (Release q)) (Want (Exit r)) held each = without_low n r held each
 kept_low n g next held each = each
+
+pub highest_low : (n : ℕ) (held : List Held) → AreAtMost n held → highest held ≤ n
+highest_low n [] each = omega arith
+highest_low n (h ∷ held) each = by_if (λ m. m ≤ n) (nat_lt (highest held) h.level) h.level (highest held) (λ _. each.0) (λ _. highest_low n held each.1)
+
+-- those that are held beside the monitor of an exit
+pub kept_exit : (n r : ℕ) (g : Attempt) (held : List Held) → AreAtMost n (kept_by g (Want (Exit r)) held) → AreAtMost n (without r held)
+kept_exit n r (Fixed (Release q)) held each = each
+kept_exit n r g held each = without_low n r held each

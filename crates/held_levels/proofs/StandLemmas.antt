@@ -9,38 +9,39 @@ use Rattle.op_core.specs.ThreadCode.{Code, quiet_to, quiet_step}
 use Rattle.op_core.specs.Orderly.{IsRewake, CanStand, at_first, by_silent, by_start, IsOrderly}
 use Rattle.op_core.specs.OrdinaryState.{set_at}
 use Rattle.op_core.proofs.QuietLemmas.{quiet_step-silent}
-use Rattle.heap_words.specs.declared.areas.Area.TheVariants.{Section}
-use Rattle.section_state.specs.SectionWord.{state_of, pinned_of, revoke_of}
 use Rattle.step_port.specs.declared.answer.StepAnswer.{StepAnswer}
-use Rattle.step_port.specs.declared.answer.StepAnswer.TheVariants.{Found, Lost}
+use Rattle.step_port.specs.declared.answer.StepAnswer.TheVariants.{Lost}
 use Rattle.step_port.specs.declared.step.Step.{Step}
-use Rattle.step_port.specs.declared.step.Step.TheVariants.{LoadSection, Release, Split}
+use Rattle.step_port.specs.declared.step.Step.TheVariants.{Release, CloseLevel, Split}
 use Rattle.step_port.specs.Steps.{effect_of}
-use Rattle.step_port.specs.Words.{CanAnswer, answer_of}
+use Rattle.step_port.specs.Words.{CanAnswer}
 use Rattle.thread_automaton.specs.declared.Bounds.{Bounds}
 use Rattle.thread_automaton.specs.declared.Move.TheVariants.{Make}
 use Rattle.thread_automaton.specs.declared.Attempt.{Attempt}
-use Rattle.thread_automaton.specs.declared.Attempt.TheVariants.{Fixed, Undoing}
+use Rattle.thread_automaton.specs.declared.Attempt.TheVariants.{Fixed}
 use Rattle.thread_automaton.specs.declared.Held.{Held}
 use Rattle.thread_automaton.specs.ThreadState.{ThreadState, first_state}
 use Rattle.thread_automaton.specs.NextMove.{move_of, next_move}
-use Rattle.thread_automaton.specs.Changes.{Change, changed}
+use Rattle.thread_automaton.specs.Changes.{without, Change, changed}
 use Rattle.thread_automaton.specs.Answers.{change_of}
 use Rattle.thread_automaton.specs.Told.{Told, advanced, born, told, counted_for, after_answer, after_quiet}
-use Rattle.automaton_rows.specs.Fits.{AttemptFits, IsFit}
+use Rattle.automaton_rows.specs.Fits.{IsFit}
 use Rattle.automaton_rows.specs.Rows.{Row, is_lost, handed_out}
 use Rattle.automaton_rows.proofs.RowLemmas.{answers_are_rows, words_can_answer}
+use Rattle.automaton_rows.proofs.PinLemmas.{steps_caused}
 use Rattle.automaton_rows.proofs.ReplyLemmas.{replies_fit}
 use Rattle.core_runs.specs.Cores.{Core, threads_by}
 use Rattle.core_runs.specs.Acts.{Act, quiet, did, beside, QuietAt, DidAt, ActAt}
-use Rattle.section_laws.proofs.DeedLemmas.{makes_it, above}
-use Rattle.section_laws.proofs.ClaimLemmas.{none_some, found_is}
+use Rattle.section_laws.proofs.DeedLemmas.{makes_it}
+use Rattle.section_laws.proofs.ClaimLemmas.{none_some}
 use Rattle.section_laws.proofs.FactLemmas.{each}
 use Rattle.section_laws.proofs.RunLemmas.{along, Known, facts_at}
-use Rattle.own_sections.proofs.DeedLemmas.{view, undone_word}
+use Rattle.own_sections.proofs.DeedLemmas.{view}
 use Rattle.own_sections.proofs.OwnLemmas.{Own}
+use Rattle.own_sections.proofs.SeenLemmas.{undoing_seen, looked_pin}
 use Rattle.own_sections.proofs.MoveLemmas.{own_at}
 use Rattle.held_levels.specs.HeldLevels.{AreAtMost, kept_by, IsOrderlyRun, ThreadsStandInOrder, HeldLevelsAreOpen, RewakesAreInLevels}
+use Rattle.held_levels.proofs.HeldLemmas.{highest_low, kept_exit}
 use Rattle.held_levels.proofs.RowLemmas.{Stands, keeps}
 
 -- a thread is handed out as the start of one is wanted
@@ -111,26 +112,10 @@ module _ {S : Type 0} (code : Code S) (first : S) (classes : ℕ) (orderly : IsO
           row : Row code b at.from (code.next at.from.local) step a (change_of code b at.from (code.next at.from.local) step a)
           row = answers_are_rows code b at.from step a fits.attempt at.move can
 
-          looked : (w : ℕ) → step ≡ LoadSection at.from.section → a ≡ Found w → 0 < at.from.section → at.from.pinned ≤ pinned_of w
-          looked w is found some =
-              let answer : Found w ≡ Found ((c k).words (Section at.from.section)) = sym found ∙ at.answered ∙ ap (answer_of (c k).words) is in
-              subst (λ v. at.from.pinned ≤ pinned_of v) (sym (found_is w ((c k).words (Section at.from.section)) answer)) (own.own some).says.pinned
-
-          undoing : (w : ℕ) → at.from.attempt ≡ Undoing w → (at.from.pinned < revoke_of w) × (revoke_of w ≤ at.from.levels)
-          undoing w is =
-              let says = own.own (above at.from.section (subst (AttemptFits at.from (code.next at.from.local)) is fits.attempt).section) in
-              let sees = says.sees w (ap undone_word is) in
-              let turned = says.says.revoking (ap state_of sees.0 ∙ sees.1) in (
-                lower at.from.pinned (pinned_of ((c k).words (Section at.from.section))) (revoke_of ((c k).words (Section at.from.section))) (revoke_of w) says.says.pinned turned.0 (ap revoke_of sees.0),
-                subst (λ n. n ≤ at.from.levels) (ap revoke_of sees.0) turned.1,
-              )
-            where
-              lower : (m n p q : ℕ) → m ≤ n → n < p → p ≡ q → m < q
-              lower m n p q low deep is = omega (arith, low, deep, is)
-
           y_stands : StandsSo (after_answer code b at.from step a)
           y_stands = counted_stands (told code b at.from step a) (changed code at.from (change_of code b at.from (code.next at.from.local) step a))
-              (keeps code first classes orderly b at.from stood fits.kept row refl (made step at.move) can (replies_fit code b at.from step a fits.attempt at.move can) looked undoing)
+              (keeps code first classes orderly b at.from stood fits.kept row refl (made step at.move) can (replies_fit code b at.from step a fits.attempt at.move can)
+              (looked_pin code at.from (c k).words own step a at.answered) (undoing_seen code at.from (c k).words own fits))
             where
               made : (step : Step) → next_move code b at.from ≡ Make step → move_of code at.from (code.next at.from.local) at.from.attempt ≡ Make step
               made step makes = makes_it at.from.over (nat_le b.limits.turns at.from.counted) _ step makes
@@ -189,6 +174,14 @@ module _ {S : Type 0} (code : Code S) (first : S) (classes : ℕ) (orderly : IsO
     pub stands_at : (k : ℕ) → k ≤ length acts → StandAt k
     stands_at k within =
         along code b c acts run.run.leads StandAt first_stands (λ n act here at before. act_stands n (slice_get_within acts n act here) act at before) k within
+
+    -- inner levels are closed to one that is open
+    pub closed_low : (k t : ℕ) (th : ThreadState S) → k ≤ length acts → (c k).threads t ≡ Some th → (s w n : ℕ) → next_move code b th ≡ Make (CloseLevel s w n) → n ≤ th.levels
+    closed_low k t th within at s w n makes =
+        let fits = (facts_at code b c acts run.run k within).fit t th at in
+        let cause = steps_caused code b th (CloseLevel s w n) fits.attempt makes in
+        let held = subst (λ next. AreAtMost th.levels (kept_by th.attempt next th.held)) cause.exit (stands_at k within t th at).held in
+        subst (λ m. m ≤ th.levels) (sym cause.own.4) (highest_low th.levels (without cause.monitor th.held) (kept_exit th.levels cause.monitor th.attempt th.held held))
 
 pub threads_stand_in_order : {S : Type 0} (code : Code S) → ThreadsStandInOrder code
 threads_stand_in_order code b first classes c acts run k t th within at = (stands_at code first classes run.orderly b c acts run k within t th at).can

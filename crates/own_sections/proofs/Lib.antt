@@ -3,3 +3,4 @@ pub mod DeedLemmas
 pub mod OwnLemmas
 pub mod MoveLemmas
 pub mod PinLemmas
+pub mod SeenLemmas

@@ -1,64 +1,44 @@
 -- The levels of threads along a run.
 use Rattle.std.proofs.Common.{◌≡◌, ◌≢◌, inl, inr, ℕ, suc, ◌<◌, ◌≤◌, true, Option, None, Some, List, [], ◌∷◌, length, nat_eq, refl, sym, ◌∙◌, ap, subst, arith}
-use Rattle.std.specs.Prelude.{slice_get, nat_lt, if◌then◌else◌}
+use Rattle.std.specs.Prelude.{slice_get, if◌then◌else◌}
 use Rattle.std.proofs.lemmas.Grind.{common_steps}
 use Rattle.std.proofs.lemmas.Bool.Decides.{nat_tests}
 use Rattle.std.proofs.lemmas.Option.{same_Some, slice_get_within}
-use Rattle.op_core.specs.declared.Op.TheVariants.{Exit}
-use Rattle.op_core.specs.declared.Next.TheVariants.{Want}
 use Rattle.op_core.specs.ThreadCode.{Code}
 use Rattle.op_core.specs.OrdinaryState.{set_at}
 use Rattle.op_core.proofs.PointwiseLemmas.{same_or_other, set_at-hit, set_at-other}
 use Rattle.heap_words.specs.declared.areas.Area.TheVariants.{Section}
-use Rattle.section_state.specs.SectionWord.{state_of, revoke_of}
 use Rattle.step_port.specs.declared.answer.StepAnswer.{StepAnswer}
 use Rattle.step_port.specs.declared.step.Step.{Step}
-use Rattle.step_port.specs.declared.step.Step.TheVariants.{CloseLevel, Revoke, BreakLevel, Release, Split}
+use Rattle.step_port.specs.declared.step.Step.TheVariants.{Revoke, BreakLevel, Split}
 use Rattle.step_port.specs.Steps.{effect_of}
 use Rattle.step_port.specs.Words.{Words, CanAnswer, words_after}
 use Rattle.thread_automaton.specs.declared.Bounds.{Bounds}
-use Rattle.thread_automaton.specs.declared.Attempt.{Attempt}
-use Rattle.thread_automaton.specs.declared.Attempt.TheVariants.{Fixed, Undoing}
-use Rattle.thread_automaton.specs.declared.Held.{Held}
 use Rattle.thread_automaton.specs.declared.Move.TheVariants.{Make}
-use Rattle.thread_automaton.specs.ThreadState.{ThreadState, first_state, highest}
-use Rattle.thread_automaton.specs.Changes.{without}
+use Rattle.thread_automaton.specs.ThreadState.{ThreadState, first_state}
 use Rattle.thread_automaton.specs.Answers.{change_of}
 use Rattle.thread_automaton.specs.Told.{after_answer, after_quiet}
-use Rattle.automaton_rows.specs.Fits.{AttemptFits, IsKept, IsFit}
+use Rattle.automaton_rows.specs.Fits.{IsKept, IsFit}
 use Rattle.automaton_rows.specs.Rows.{Row}
-use Rattle.automaton_rows.proofs.RowLemmas.{answers_are_rows, words_can_answer, by_if}
-use Rattle.automaton_rows.proofs.PinLemmas.{steps_caused}
+use Rattle.automaton_rows.proofs.RowLemmas.{answers_are_rows, words_can_answer}
 use Rattle.core_runs.specs.Cores.{Core, threads_by, levels_by, core_after}
 use Rattle.core_runs.specs.Acts.{Act, quiet, did, beside, QuietAt, DidAt, BesideAt, ActAt}
 use Rattle.core_runs.specs.Revoked.{RevokesAt}
 use Rattle.section_laws.specs.Runs.{IsRun}
-use Rattle.section_laws.proofs.DeedLemmas.{above}
 use Rattle.section_laws.proofs.ClaimLemmas.{none_some}
 use Rattle.section_laws.proofs.FactLemmas.{each}
 use Rattle.section_laws.proofs.RunLemmas.{get_some, act_at, along, Known, facts_at}
 use Rattle.section_laws.proofs.SectionLemmas.{sections_apart}
-use Rattle.own_sections.proofs.DeedLemmas.{view, undone_word}
+use Rattle.own_sections.proofs.DeedLemmas.{view}
 use Rattle.own_sections.proofs.OwnLemmas.{Own, is_some}
+use Rattle.own_sections.proofs.SeenLemmas.{undoing_seen}
 use Rattle.own_sections.proofs.MoveLemmas.{bits_at, deed_here, unopened, own_at}
 use Rattle.run_threads.proofs.NumberLemmas.{threads_are_new}
-use Rattle.held_levels.specs.HeldLevels.{AreAtMost, kept_by}
-use Rattle.held_levels.proofs.HeldLemmas.{without_low}
-use Rattle.held_levels.proofs.StandLemmas.{held_levels_are_open}
+use Rattle.held_levels.proofs.StandLemmas.{closed_low}
 use Rattle.section_levels.specs.Levels.{IsLevelledRun, LevelsAreCounted, word_in, revoked_by, pinned_in}
 use Rattle.section_levels.proofs.RowLemmas.{LevelsGo, levels_after, counted_after}
 use Rattle.section_levels.proofs.TurnLemmas.{Turn, calm_turn, own_turn}
 use Rattle.section_levels.proofs.OtherLemmas.{other_word, beside_word, other_turn}
-
--- ---- held monitors
-
-highest_low : (n : ℕ) (held : List Held) → AreAtMost n held → highest held ≤ n
-highest_low n [] each = omega arith
-highest_low n (h ∷ held) each = by_if (λ m. m ≤ n) (nat_lt (highest held) h.level) h.level (highest held) (λ _. each.0) (λ _. highest_low n held each.1)
-
-kept_exit : (n r : ℕ) (g : Attempt) (held : List Held) → AreAtMost n (kept_by g (Want (Exit r)) held) → AreAtMost n (without r held)
-kept_exit n r (Fixed (Release q)) held each = each
-kept_exit n r g held each = without_low n r held each
 
 is_zero : (n : ℕ) → nat_eq n 0 ≡ true → n ≡ 0
 is_zero n is = grind (arith, common_steps, nat_tests)
@@ -138,21 +118,10 @@ module _ {S : Type 0} (code : Code S) (b : Bounds) (first : S) (classes : ℕ) (
       row : Row code b at.from (code.next at.from.local) step a (change_of code b at.from (code.next at.from.local) step a)
       row = answers_are_rows code b at.from step a fits.attempt at.move (subst (CanAnswer (effect_of step)) (sym at.answered) (words_can_answer (c k).words step))
 
-      closed : (s w n : ℕ) → step ≡ CloseLevel s w n → n ≤ at.from.levels
-      closed s w n is =
-          let cause = steps_caused code b at.from (CloseLevel s w n) fits.attempt (at.move ∙ ap Make is) in
-          let held = subst (λ next. AreAtMost at.from.levels (kept_by at.from.attempt next at.from.held)) cause.exit (held_levels_are_open code b first classes c acts run.ordered k t at.from here_at at.stands) in
-          subst (λ m. m ≤ at.from.levels) (sym cause.own.4)
-          (highest_low at.from.levels (without cause.monitor at.from.held) (kept_exit at.from.levels cause.monitor at.from.attempt at.from.held held))
-
-      undoing : (w : ℕ) → at.from.attempt ≡ Undoing w → revoke_of w ≤ at.from.levels
-      undoing w is =
-          let says = (own_of_thread t at.from at.stands).own (above at.from.section (subst (AttemptFits at.from (code.next at.from.local)) is fits.attempt).section) in
-          let sees = says.sees w (ap undone_word is) in
-          subst (λ n. n ≤ at.from.levels) (ap revoke_of sees.0) (says.says.revoking (ap state_of sees.0 ∙ sees.1)).1
-
       pub goes : LevelsGo step k at.from.levels y.levels ((c k).levels t) behind
-      goes = levels_after code b at.from k ((c k).levels t) (counted.there t at.from at.stands) row fits.kept closed undoing
+      goes = levels_after code b at.from k ((c k).levels t) (counted.there t at.from at.stands) row fits.kept
+          (λ s w n is. closed_low code first classes run.ordered.orderly b c acts run.ordered k t at.from here_at at.stands s w n (at.move ∙ ap Make is))
+          (λ w is. (undoing_seen code at.from (c k).words (own_of_thread t at.from at.stands) fits w is).1)
 
       abbrev pub after : ℕ → Option (ThreadState S)
       after = threads_by code step at.from.local (set_at (c k).threads t (Some y))
