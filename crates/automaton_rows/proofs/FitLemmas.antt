@@ -102,7 +102,7 @@ unsafe_at th tag unsafe = by_parts (nat_eq tag 0) (nat_eq (tag_section tag) th.s
 
 -- ---- monitors that are held
 
-levels_without : (r : ℕ) (held : List Held) → InLevels held → InLevels (without r held)
+pub levels_without : (r : ℕ) (held : List Held) → InLevels held → InLevels (without r held)
 levels_without r [] each = tt
 levels_without r (h ∷ held) each = by_if (λ xs. InLevels xs) (not (nat_eq h.object r)) (h ∷ without r held) (without r held)
     (λ _. (each.0, each.1, levels_without r held each.2)) (λ _. levels_without r held each.2)
@@ -118,11 +118,11 @@ level_of_held r [] each = (omega arith, omega arith)
 level_of_held r (h ∷ held) each = by_if (λ (x : Held). (0 < x.level) × (x.level < 2 ^ 8)) (nat_eq h.object r) h (held_as r held)
     (λ _. (each.0, each.1)) (λ _. level_of_held r held each.2)
 
-highest_low : (held : List Held) → InLevels held → highest held < 2 ^ 8
+pub highest_low : (held : List Held) → InLevels held → highest held < 2 ^ 8
 highest_low [] each = omega arith
 highest_low (h ∷ held) each = by_if (λ n. n < 2 ^ 8) (nat_lt (highest held) h.level) h.level (highest held) (λ _. each.1) (λ _. highest_low held each.2)
 
-highest_some : (held : List Held) → InLevels held → 0 < length held → 0 < highest held
+pub highest_some : (held : List Held) → InLevels held → 0 < length held → 0 < highest held
 highest_some [] each some = absurd (no some)
   where
     no : 0 < 0 → ⊥
@@ -146,7 +146,7 @@ none_from n (h ∷ held) low each none = absurd (some (nat_le n h.level) refl no
     some false is none = is_le n h.level low each.0 is
 
 -- the last step of an undo comes where nothing that was taken since is held
-last_step : (s w x y : ℕ) (log : List Noted) (deepened taken : List Held) → undo_step s w log deepened taken ≡ MarkUndone x y → taken ≡ []
+pub last_step : (s w x y : ℕ) (log : List Noted) (deepened taken : List Held) → undo_step s w log deepened taken ≡ MarkUndone x y → taken ≡ []
 last_step s w x y (e ∷ log) deepened taken is = cc
 last_step s w x y [] (h ∷ deepened) taken is = cc
 last_step s w x y [] [] (h ∷ taken) is = cc

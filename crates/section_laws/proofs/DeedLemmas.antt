@@ -147,25 +147,32 @@ abbrev IsRevoke : Contend → Type 0
 IsRevoke (Contend.Revoke k) = Unit {0}
 IsRevoke contend = ⊥
 
-contended : (w level priority : ℕ) → contend_with w level priority ≡ Contend.Revoke level → Touched w (revoked_of w level)
+-- the section of this word is live, and the level is open and not pinned
+abbrev pub CanRevoke : ℕ → ℕ → Type 0
+CanRevoke w level = (state_of w ≡ 1) × (pinned_of w < level) × (level ≤ depth_of w)
+
+pub by_revoking : (w level : ℕ) → CanRevoke w level → Touched w (revoked_of w level)
+by_revoking w level can = revoked_to level can.0 can.1 can.2 refl
+
+pub contended : (w level priority : ℕ) → contend_with w level priority ≡ Contend.Revoke level → CanRevoke w level
 contended w level priority revoke = by_live (is_in Live w) refl revoke
   where
     by_pin : (p : Bool) → nat_le level (pinned_of w) ≡ p → is_in Live w ≡ true → level ≤ depth_of w
         → (if p then Busy Why.Pinned else if nat_lt (priority_of w) priority then Contend.Revoke level else Busy (NotHigher (priority_of w))) ≡ Contend.Revoke level
-        → Touched w (revoked_of w level)
+        → CanRevoke w level
     by_pin true deep is_live low is = absurd (subst IsRevoke (sym is) tt)
-    by_pin false deep is_live low is = revoked_to level (state_is Live w is_live) (higher level (pinned_of w) deep) low refl
+    by_pin false deep is_live low is = (state_is Live w is_live, higher level (pinned_of w) deep, low)
 
     by_depth : (d : Bool) → nat_lt (depth_of w) level ≡ d → is_in Live w ≡ true
         → (if d then Busy Leaving else if nat_le level (pinned_of w) then Busy Why.Pinned
         else if nat_lt (priority_of w) priority then Contend.Revoke level else Busy (NotHigher (priority_of w))) ≡ Contend.Revoke level
-        → Touched w (revoked_of w level)
+        → CanRevoke w level
     by_depth true deep is_live is = absurd (subst IsRevoke (sym is) tt)
     by_depth false deep is_live is = by_pin (nat_le level (pinned_of w)) refl is_live (at_least level (depth_of w) deep) is
 
     by_live : (t : Bool) → is_in Live w ≡ t
         → (if t then contend_live w level priority else if is_in Revoking w then Busy Why.Revoking else Busy Leaving) ≡ Contend.Revoke level
-        → Touched w (revoked_of w level)
+        → CanRevoke w level
     by_live true is_live is = by_depth (nat_lt (depth_of w) level) refl is_live is
     by_live false is_live is = absurd (by_if (λ c. c ≡ Contend.Revoke level → ⊥) (is_in Revoking w) (Busy Why.Revoking) (Busy Leaving)
         (λ yes same. subst IsRevoke (sym same) tt) (λ no same. subst IsRevoke (sym same) tt) is)
@@ -314,7 +321,7 @@ module _ {S : Type 0} (code : Code S) (b : Bounds) (th : ThreadState S) where
   deed (held_by_other enters held other) same opens = plain (loads _ _ refl tt)
   deed (holder_lower at enters other revokes) same opens = plain (loads _ _ refl tt)
   deed (holder_busy at enters other busy) same opens = plain (loads _ _ refl tt)
-  deed (holder_revoked {level = level} {w = w} enters other revokes) same opens = exchanges refl refl (of_any (contended w level th.priority revokes))
+  deed (holder_revoked {level = level} {w = w} enters other revokes) same opens = exchanges refl refl (of_any (by_revoking w level (contended w level th.priority revokes)))
   deed (is_notified notified) same opens = plain (loads _ _ refl tt)
   deed (not_notified waits) same opens = plain (loads _ _ refl tt)
   deed (not_owner needs other) same opens = plain (loads _ _ refl tt)

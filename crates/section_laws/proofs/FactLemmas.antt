@@ -21,7 +21,7 @@ use Rattle.thread_automaton.specs.ThreadState.{ThreadState, first_state}
 use Rattle.automaton_rows.specs.Fits.{IsFit}
 use Rattle.automaton_rows.specs.Laws.{FirstStatesAreFit, SilentStepsKeepFit}
 use Rattle.section_laws.proofs.WordLemmas.{state_of_zero, state_pinned, revoked_some, state_is, stays_at, at_section}
-use Rattle.section_laws.proofs.DeedLemmas.{opening_of, View, view, calm, Touched, untouched, pinned_deeper, revoked_to, Deed}
+use Rattle.section_laws.proofs.DeedLemmas.{opening_of, View, view, calm, Touched, untouched, pinned_deeper, revoked_to, CanRevoke, by_revoking, Deed}
 use Rattle.section_laws.proofs.ClaimLemmas.{claim, claim_none, claim_some, claim_calm, Change, is_touched, is_opened, is_own, section_changes, keeps, takes, claim_steps, opens_none, opens_next, opening_steps}
 
 pub first_states_fit : {S : Type 0} (code : Code S) → FirstStatesAreFit code
@@ -263,10 +263,10 @@ module _ {S : Type 0} (code : Code S) where
 
 -- ---- steps beside those of threads
 
-breaks : (word level : ℕ) → can_break word level ≡ true → Touched word (revoked_of word level)
+pub breaks : (word level : ℕ) → can_break word level ≡ true → CanRevoke word level
 breaks word level may =
     let parts = split (is_in Live word) (nat_lt (pinned_of word) level) (nat_le level (depth_of word)) may in
-    revoked_to level (state_is Live word parts.0) (less (pinned_of word) level parts.1) (most level (depth_of word) parts.2) refl
+    (state_is Live word parts.0, less (pinned_of word) level parts.1, most level (depth_of word) parts.2)
   where
     split : (a b c : Bool) → (a && b && c) ≡ true → (a ≡ true) × (b ≡ true) × (c ≡ true)
     split true true true is = (refl, refl, refl)
@@ -293,7 +293,7 @@ beside_touches (BreakLevel at old level) w s is = by_test (nat_eq (w (Section at
     by_test : (t : Bool) → nat_eq (w (Section at)) old ≡ t
         → Touched (w (Section s)) ((if t then put_at w (Section at) (revoked_of old level) else w) (Section s))
     by_test true found = at_section (Touched (w (Section s))) w at (revoked_of old level) s
-        (λ own. subst (λ x. Touched x (revoked_of old level)) (sym (ap (λ n. w (Section n)) own ∙ same (w (Section at)) old found)) (breaks old level is)) (untouched refl)
+        (λ own. subst (λ x. Touched x (revoked_of old level)) (sym (ap (λ n. w (Section n)) own ∙ same (w (Section at)) old found)) (by_revoking old level (breaks old level is))) (untouched refl)
     by_test false found = untouched refl
 beside_touches step w s is = absurd (true≢false (sym is))
 

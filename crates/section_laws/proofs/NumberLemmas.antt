@@ -172,7 +172,7 @@ module _ {S : Type 0} (code : Code S) (b : Bounds) (th : ThreadState S) where
 
 -- ---- the count of threads
 
-grows : (step : Step) (w : Words) → w (Control 4) ≤ words_after step w (Control 4)
+pub grows : (step : Step) (w : Words) → w (Control 4) ≤ words_after step w (Control 4)
 grows DrawThread w = omega arith
 grows (LoadThread which) w = omega arith
 grows step w = let same = stays_at (effect_of step) w (place_of step) (Control 4) refl in omega (arith, same)

@@ -1,0 +1,5 @@
+pub mod RowLemmas
+pub mod TurnLemmas
+pub mod OtherLemmas
+pub mod RunLemmas
+pub mod LevelLemmas
