@@ -1,5 +1,5 @@
 -- A number is written in decimal digits, and read from them.
-use Rattle.std.proofs.Common.{◌≡◌, ℕ, zero, suc, ◌+◌, ◌-◌, ◌*◌, ◌<◌, ◌≤◌, ◌^◌, ◌==◌, Bool, true, false, not, ◌&&◌, cond, nat_le, List, [], ◌∷◌, ◌++◌, length, get_or, Option, Some, None, refl, sym, ap, ◌∙◌, subst, arith, ◌⊎◌, inl, inr}
+use Rattle.std.proofs.Common.{◌≡◌, ℕ, zero, suc, ◌+◌, ◌-◌, ◌*◌, ◌<◌, ◌≤◌, ◌^◌, ◌==◌, Bool, true, false, not, ◌&&◌, cond, nat_le, List, [], ◌∷◌, ◌++◌, length, drop, get_or, Option, Some, None, refl, sym, ap, ◌∙◌, subst, arith, add-one, drop-cons}
 use Rattle.std.specs.Fmt.{decimal}
 use Rattle.std.proofs.lemmas.Bool.{and_parts, leb-true, le-leb, cases_Bool, ne_eqb, eqb-true}
 use Rattle.std.proofs.lemmas.Option.{same_Some}
@@ -63,3 +63,10 @@ number_is limit word n small e =
     let shape = alone word parts.0 in
     let spelled : decimal (digits_value 0 word) ≡ word = decimal-digits_value numerals word parts.1 shape.0 shape.1 (omega (arith, small, le)) in
     (omega (arith, le, parts.3), sym spelled ∙ ap decimal parts.3)
+
+-- digits, byte by byte
+pub not_digits : (bytes : List ℕ) (i : ℕ) → i < length bytes → is_digit (get_or bytes i 0) ≡ false → are_digits (drop i bytes) ≡ false
+not_digits bytes i lt f = ap are_digits (drop-cons bytes i 0 lt) ∙ rw f refl
+
+pub more_digits : (bytes : List ℕ) (i : ℕ) → i < length bytes → is_digit (get_or bytes i 0) ≡ true → are_digits (drop i bytes) ≡ are_digits (drop (i + 1) bytes)
+more_digits bytes i lt t = ap are_digits (drop-cons bytes i 0 lt) ∙ rw (t, add-one) refl

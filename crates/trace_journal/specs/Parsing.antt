@@ -1,13 +1,15 @@
 -- What a line of a journal says, read from its front.
-use Rattle.std.specs.Prelude.{ℕ, ◌==◌, ◌&&◌, List, [], ◌∷◌, codes, nat_le, if◌then◌else◌, Option, Some, None, option_map, true, false}
+use Rattle.std.specs.Prelude.{ℕ, ◌==◌, ◌&&◌, Bool, List, [], ◌∷◌, codes, nat_le, if◌then◌else◌, Option, Some, None, option_map, true, false}
 use Rattle.std.specs.Option.{option_and_then}
 use Rattle.std.specs.Str.{bytes_eq}
-use Rattle.decimal_numbers.specs.Numbers.{number_up_to}
+use Rattle.decimal_numbers.specs.Numbers.{are_digits, has_no_leading_zero, number_up_to}
 use Rattle.op_core.specs.declared.Line.TheVariants.{Empty}
 use Rattle.op_core.specs.declared.Op.{Op}
 use Rattle.op_core.specs.declared.Op.TheVariants.{ClassOf, Read, Write, New, Enter, Exit, Wait, Rewake, Notify, Print, Start, Join, Init, InitDone, End}
 use Rattle.op_core.specs.declared.Reply.{Reply}
 use Rattle.op_core.specs.declared.Reply.TheVariants.{Class, Value, Made, Done, NotOwner, Woken, Number, Already, Ready, Bad, Claimed}
+use Rattle.trace_journal.specs.declared.head.Head.{Head}
+use Rattle.trace_journal.specs.declared.head.Head.TheVariants.{Known, Other, Wrong}
 use Rattle.trace_journal.specs.declared.item.Answered.{Answered}
 use Rattle.trace_journal.specs.declared.item.JournalItem.{JournalItem}
 use Rattle.trace_journal.specs.declared.item.JournalItem.TheVariants.{Event as event_item, Undone}
@@ -131,3 +133,29 @@ item_of version word words =
 
 abbrev pub item_at : ℕ → Cut → Option JournalItem
 item_at version c = option_and_then (λ words. item_of version c.word words) c.rest
+
+-- the version that a first line names
+abbrev pub version_at : List ℕ → Head
+version_at number =
+    if bytes_eq number (codes "1") then Known 1
+    else if bytes_eq number (codes "2") then Known 2
+    else if has_no_leading_zero number && are_digits number then Other
+    else Wrong
+
+-- what the first line of a text is
+abbrev pub head_at : Cut → Head
+head_at c = elim c.rest [
+  | None ↦ Wrong
+  | Some number ↦ if bytes_eq c.word (codes "jrev-trace") then version_at number else Wrong
+]
+
+abbrev pub is_number : ℕ → Option ℕ → Bool
+is_number events (Some n) = n == events
+is_number events None = false
+
+-- whether a line is the last one of a journal with this number of events
+abbrev pub ends_at : ℕ → Cut → Bool
+ends_at events c = elim c.rest [
+  | None ↦ false
+  | Some number ↦ if bytes_eq c.word (codes "end") then is_number events (u32_of number) else false
+]

@@ -37,3 +37,18 @@ pub enum JournalFault {
     /// The line is one more than a journal may have, or has the byte that is one more.
     TooMany(u32),
 }
+
+/// How large a journal may be.
+#[derive(Clone, Copy)]
+pub struct JournalLimits {
+    /// The events and undos, at most 4,194,304.
+    pub items: u32,
+    /// The bytes of its text, at most 268,435,456.
+    pub bytes: u64,
+}
+
+/// The limits of a journal that `jrev` writes and reads.
+pub const LARGEST: JournalLimits = JournalLimits {
+    items: 4_194_304,
+    bytes: 268_435_456,
+};

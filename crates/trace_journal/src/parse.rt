@@ -8,36 +8,10 @@ ghost use Rattle.decimal_numbers.specs.Numbers.{number_up_to};
 ghost use Rattle.trace_journal.specs.Spelling.{Says};
 ghost use Rattle.trace_journal.specs.declared.item.JournalItem.{JournalItem};
 
+use crate::cut::cut_word;
 use crate::item::{Answered, JournalItem};
 use decimal_numbers::number_up_to;
 use op_core::{Event, Line, Op, Reply};
-
-// A line up to its first space, and what comes after that space; nothing comes where there is no space.
-#[derive(Clone, Copy)]
-struct Cut<'a> {
-    word: &'a [u8],
-    rest: Option<&'a [u8]>,
-}
-
-fn cut_word(line: &[u8]) -> Cut<'_>
-    ensures word { result.word.now ≡ (spec.cut line.now).word }
-    ensures rest { MatchOption result.rest ((spec.cut line.now).rest ≡ None) (λ rest. (spec.cut line.now).rest ≡ Some rest.now) }
-{
-    for place in 0..line.len() {
-        if line[place] == b' ' {
-            let (word, _) = line.split_at(place);
-            let (_, rest) = line.split_at(place + 1);
-            return Cut {
-                word,
-                rest: Some(rest),
-            };
-        }
-    }
-    Cut {
-        word: line,
-        rest: None,
-    }
-}
 
 fn u32_of(word: &[u8]) -> Option<u32>
     ensures { result ≡ spec.u32_of word.now }

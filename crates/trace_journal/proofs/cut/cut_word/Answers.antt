@@ -2,7 +2,7 @@ use Rattle.std.proofs.Common.{◌≡◌, ◌+◌, suc, take, drop, List, [], ◌
 use Rattle.std.proofs.lemmas.List.{take_all, drop_all}
 use Rattle.trace_journal.specs.Parsing as spec
 use Rattle.trace_journal.proofs.CutLemmas.{behind, moves, cut_at, word_at_end}
-use Rattle.trace_journal.proofs.parse.cut_word.Goals as goal
+use Rattle.trace_journal.proofs.cut.cut_word.Goals as goal
 
 at_space : (c : goal.After-rest-1) → spec.cut c.args.line.now ≡ record { word = take c.loop-place.place c.args.line.now; rest = Some (drop (suc c.loop-place.place) c.args.line.now) }
 at_space c = c.loop-place.invariant.far ∙ cut_at c.args.line.now c.loop-place.place c.loop-place-test.true c.if-line-place-eq32.true
