@@ -1,0 +1,5 @@
+pub mod CutLemmas
+pub mod NumberLemmas
+pub mod SaidLemmas
+pub mod StageLemmas
+pub mod FeedLemmas

@@ -1,0 +1,5 @@
+pub mod Spelling
+pub mod Parsing
+pub mod Text
+pub mod Reading
+pub mod Reader

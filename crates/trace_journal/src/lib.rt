@@ -1,0 +1,15 @@
+//! The journal of an execution: events and undos as lines of text, and back.
+#![tactic(auto)]
+
+mod cut;
+mod head;
+mod item;
+mod parse;
+mod reader;
+mod spell;
+mod state;
+
+pub use item::{JournalFault, JournalItem, JournalLimits, LARGEST};
+pub use parse::item_in;
+pub use spell::{push_end, push_head, push_item};
+pub use state::JournalReader;
