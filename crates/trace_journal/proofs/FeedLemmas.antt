@@ -67,7 +67,7 @@ end_reads most part stage stage' count events count' events' l before after insi
     let rest = lines_of (take l more) in
     let now : FromStage stage (nat_lt l (length more)) most count events (record { ended = part ∷ rest.ended; rest = rest.rest }) (with_items h.added found) = h.reads (nat_lt l (length more)) rest found reads in
     subst (λ past. FromStage stage past most count events (lines_of (part ++ take (suc l) (10 ∷ more))) (with_items h.added found)) (sym (past_same l (length more)))
-        (subst (λ lines. FromStage stage (nat_lt l (length more)) most count events lines (with_items h.added found)) (sym (line_ends part (take l more) inside)) now)
+    (subst (λ lines. FromStage stage (nat_lt l (length more)) most count events lines (with_items h.added found)) (sym (line_ends part (take l more) inside)) now)
 
 -- the line that a reader is in ends
 pub line_feeds : (old new : JournalReader) (stage : Stage) (count events : ℕ) (before after : List JournalItem)
@@ -80,7 +80,7 @@ line_feeds old new stage count events before after leads inside is_stage is_coun
   reads = λ more found h.
       let left : old.left ≡ suc new.left = is_left ∙ add-one new.left in
       let now : FromStage stage (nat_lt new.left (length more)) old.limits.items count events (lines_of (take new.left more)) found
-          = subst (λ x. x) (λ i. FromStage (is_stage i) (nat_lt new.left (length more)) (is_limits i).items (is_count i) (is_events i) (lines_of (is_part i ++ take new.left more)) found) h in
+      = subst (λ x. x) (λ i. FromStage (is_stage i) (nat_lt new.left (length more)) (is_limits i).items (is_count i) (is_events i) (lines_of (is_part i ++ take new.left more)) found) h in
       let was = end_reads old.limits.items old.part.items old.stage stage old.count old.events count events new.left before after inside leads more found now in
       subst (λ l. FromStage old.stage (nat_lt l (length (10 ∷ more))) old.limits.items old.count old.events (lines_of (old.part.items ++ take l (10 ∷ more))) (with_items leads.added found)) (sym left) was;
 }
@@ -101,9 +101,9 @@ byte_feeds old new b items is_stage is_count is_events is_limits is_part is_left
     let left : old.left ≡ suc new.left = is_left ∙ add-one new.left in
     let bytes : new.part.items ++ take new.left more ≡ old.part.items ++ (b ∷ take new.left more) = ap (λ p. p ++ take new.left more) is_part ∙ append_assoc old.part.items (b ∷ []) (take new.left more) in
     let now : FromStage old.stage (nat_lt new.left (length more)) old.limits.items old.count old.events (lines_of (old.part.items ++ (b ∷ take new.left more))) found
-        = subst (λ x. x) (λ i. FromStage (is_stage i) (nat_lt new.left (length more)) (is_limits i).items (is_count i) (is_events i) (lines_of (bytes i)) found) h in
+    = subst (λ x. x) (λ i. FromStage (is_stage i) (nat_lt new.left (length more)) (is_limits i).items (is_count i) (is_events i) (lines_of (bytes i)) found) h in
     let past : FromStage old.stage (nat_lt (suc new.left) (length (b ∷ more))) old.limits.items old.count old.events (lines_of (old.part.items ++ take (suc new.left) (b ∷ more))) found
-        = subst (λ x. FromStage old.stage x old.limits.items old.count old.events (lines_of (old.part.items ++ (b ∷ take new.left more))) found) (sym (past_same new.left (length more))) now in
+    = subst (λ x. FromStage old.stage x old.limits.items old.count old.events (lines_of (old.part.items ++ (b ∷ take new.left more))) found) (sym (past_same new.left (length more))) now in
     subst (λ l. FromStage old.stage (nat_lt l (length (b ∷ more))) old.limits.items old.count old.events (lines_of (old.part.items ++ take l (b ∷ more))) found) (sym left) past)
 
 -- the byte past the limit
@@ -122,7 +122,7 @@ past_feeds old new b items going inside none is_stage = no_items old new (b ∷ 
     let lines : lines_of (old.part.items ++ take 0 (b ∷ more)) ≡ record { ended = []; rest = old.part.items } = ap lines_of (append-nil old.part.items) ∙ line_goes_on old.part.items inside in
     let past : nat_lt 0 (length (b ∷ more)) ≡ true = past_none (length more) in
     let was : FromStage old.stage (nat_lt 0 (length (b ∷ more))) old.limits.items old.count old.events (lines_of (old.part.items ++ take 0 (b ∷ more))) found
-        = subst (λ x. x) (λ i. FromStage old.stage (sym past i) old.limits.items old.count old.events (sym lines i) found) now in
+    = subst (λ x. x) (λ i. FromStage old.stage (sym past i) old.limits.items old.count old.events (sym lines i) found) now in
     subst (λ l. FromStage old.stage (nat_lt l (length (b ∷ more))) old.limits.items old.count old.events (lines_of (old.part.items ++ take l (b ∷ more))) found) (sym none) was)
 
 -- after a fault nothing is read

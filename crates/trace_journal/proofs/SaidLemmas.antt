@@ -136,8 +136,8 @@ started_said name n p word a named h low high e =
     let range : (n < 2 ^ 32) × (p < 2 ^ 8) = (h, omega (arith, high)) in
     chosen word (codes "no") _ _ _ e (λ is x. said (Start n p) Already a _ x (record { fits = tt; op_range = range; reply_range = tt; line = (low, high) }) (same_long _ _ n p _ _ named is))
     (λ e. let k = mapped _ _ a e in
-        let byte = byte_is word k.0 k.1 in
-        subst (λ b. IsSaid b (long_line name n p word)) k.2 (record { fits = tt; op_range = range; reply_range = byte.0; line = (low, high) }, same_long _ _ n p _ _ named byte.1))
+    let byte = byte_is word k.0 k.1 in
+    subst (λ b. IsSaid b (long_line name n p word)) k.2 (record { fits = tt; op_range = range; reply_range = byte.0; line = (low, high) }, same_long _ _ n p _ _ named byte.1))
 
 start_said : (name : List ℕ) (n p : ℕ) (word : List ℕ) (a : Answered) → n < 2 ^ 32 → (x y z : Bool) → x ≡ bytes_eq name (codes "start") → y ≡ nat_le 1 p → z ≡ nat_le p 10
     → cond (x && y && z) (cond (bytes_eq word (codes "no")) (answered (Start n p) Already) (option_map (λ k. record { op = Start n p; reply = Number k }) (number_up_to 255 word))) None ≡ Some a
@@ -217,7 +217,7 @@ event_says version t word rest item h e = by_rest rest k.2
         let m = mapped _ _ item e in
         let is = words_said words m.0 m.1 in
         subst (Says version (decimal t ++ 32 ∷ (word ++ 32 ∷ words))) m.2
-            (record { thread = h; silent = number.0; said = is.0 }, λ i. decimal t ++ 32 ∷ (number.1 i ++ 32 ∷ is.1 i))
+        (record { thread = h; silent = number.0; said = is.0 }, λ i. decimal t ++ 32 ∷ (number.1 i ++ 32 ∷ is.1 i))
 
     by_rest : (rest : Option (List ℕ)) → option_and_then (λ words. option_map (event_with t k.0) (answered_of (cut words))) rest ≡ Some item → Says version (decimal t ++ 32 ∷ uncut word rest) item
     by_rest None e = absurd cc
@@ -239,7 +239,7 @@ undone_last t word rest item h e = by_rest rest k.2
         let m = mapped _ _ item e in
         let count = word_is words m.0 m.1 in
         subst (Says 2 (codes "undone" ++ 32 ∷ (decimal t ++ 32 ∷ (word ++ 32 ∷ words)))) m.2
-            ((refl, h, level.0, count.0), λ i. codes "undone" ++ 32 ∷ (decimal t ++ 32 ∷ (level.1 i ++ 32 ∷ count.1 i)))
+        ((refl, h, level.0, count.0), λ i. codes "undone" ++ 32 ∷ (decimal t ++ 32 ∷ (level.1 i ++ 32 ∷ count.1 i)))
 
 undone_says : (word : List ℕ) (rest : Option (List ℕ)) (item : JournalItem) → undone_of (record { word = word; rest = rest }) ≡ Some item → Says 2 (codes "undone" ++ 32 ∷ uncut word rest) item
 undone_says word rest item e = by_rest rest k.2
@@ -254,12 +254,12 @@ undone_says word rest item e = by_rest rest k.2
     by_rest None e = absurd cc
     by_rest (Some words) e =
         subst (λ w. Says 2 w item) (λ i. codes "undone" ++ 32 ∷ (sym thread.1 i ++ 32 ∷ uncut_cut words i))
-            (undone_last k.0 (cut words).word (cut words).rest item thread.0 e)
+        (undone_last k.0 (cut words).word (cut words).rest item thread.0 e)
 
 by_version : (version : ℕ) (words : List ℕ) (item : JournalItem) → cond (version == 2) (undone_of (cut words)) None ≡ Some item → Says version (codes "undone" ++ 32 ∷ words) item
 by_version version words item e = elim (cases_Bool (version == 2)) [
   | inl is ↦ subst (λ v. Says v (codes "undone" ++ 32 ∷ words) item) (sym (eqb-true version 2 is))
-        (subst (λ w. Says 2 (codes "undone" ++ 32 ∷ w) item) (uncut_cut words) (undone_says (cut words).word (cut words).rest item (ap (λ b. cond b (undone_of (cut words)) None) (sym is) ∙ e)))
+      (subst (λ w. Says 2 (codes "undone" ++ 32 ∷ w) item) (uncut_cut words) (undone_says (cut words).word (cut words).rest item (ap (λ b. cond b (undone_of (cut words)) None) (sym is) ∙ e)))
   | inr other ↦ absurd (let no : None ≡ Some item = ap (λ b. cond b (undone_of (cut words)) None) (sym other) ∙ e in cc)
 ]
 
@@ -267,8 +267,8 @@ item_says : (version : ℕ) (word words : List ℕ) (item : JournalItem) → ite
 item_says version word words item e =
     chosen word (codes "undone") _ _ _ e (λ is x. subst (λ w. Says version (w ++ 32 ∷ words) item) (sym is) (by_version version words item x))
     (λ e. let k = went_on _ _ item e in
-        let thread = small_is word k.0 k.1 in
-        subst (λ w. Says version w item) (λ i. sym thread.1 i ++ 32 ∷ uncut_cut words i) (event_says version k.0 (cut words).word (cut words).rest item thread.0 k.2))
+    let thread = small_is word k.0 k.1 in
+    subst (λ w. Says version w item) (λ i. sym thread.1 i ++ 32 ∷ uncut_cut words i) (event_says version k.0 (cut words).word (cut words).rest item thread.0 k.2))
 
 at_says : (version : ℕ) (word : List ℕ) (rest : Option (List ℕ)) (item : JournalItem) → item_at version (record { word = word; rest = rest }) ≡ Some item → Says version (uncut word rest) item
 at_says version word None item e = absurd cc

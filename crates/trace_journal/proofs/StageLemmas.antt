@@ -31,7 +31,7 @@ one_added item version (Err fault) = refl
 -- no item is added
 no_more : {most : ℕ} {line : List ℕ} {old new : Stage} {count events : ℕ} (items : List JournalItem)
     → ((past : Bool) (lines : Lines) (found : Result Read JournalFault) → FromStage new past most count events lines found
-        → FromStage old past most count events (record { ended = line ∷ lines.ended; rest = lines.rest }) found)
+    → FromStage old past most count events (record { ended = line ∷ lines.ended; rest = lines.rest }) found)
     → LeadsTo most line old count events new count events items items
 no_more {most} {line} {old} {new} {count} {events} items reads = record {
   added = [];
@@ -70,9 +70,9 @@ named_again a b e = ap (drop 11) e
 version_leads : (most : ℕ) (line number : List ℕ) (items : List JournalItem) → line ≡ codes "jrev-trace" ++ 32 ∷ number → LeadsTo most line Head 0 0 (head_stage (version_at number)) 0 0 items items
 version_leads most line number items is =
     by_choice number (codes "1") (λ h. LeadsTo most line Head 0 0 (head_stage h) 0 0 items items) _ _
-        (λ one. known most line 1 items (inl refl) (is ∙ ap (λ w. codes "jrev-trace" ++ 32 ∷ w) (one ∙ sym version_1)))
+    (λ one. known most line 1 items (inl refl) (is ∙ ap (λ w. codes "jrev-trace" ++ 32 ∷ w) (one ∙ sym version_1)))
     (λ not_one. by_choice number (codes "2") (λ h. LeadsTo most line Head 0 0 (head_stage h) 0 0 items items) _ _
-        (λ two. known most line 2 items (inr refl) (is ∙ ap (λ w. codes "jrev-trace" ++ 32 ∷ w) (two ∙ sym version_2)))
+    (λ two. known most line 2 items (inr refl) (is ∙ ap (λ w. codes "jrev-trace" ++ 32 ∷ w) (two ∙ sym version_2)))
     (λ not_two. by_digits (has_no_leading_zero number) (are_digits number) refl refl not_one not_two))
   where
     by_choice : (name word : List ℕ) (P : Heads → Type 0) (x y : Heads) → (name ≡ word → P x) → ((name ≡ word → ⊥) → P y) → P (cond (bytes_eq name word) x y)
@@ -80,11 +80,14 @@ version_leads most line number items is =
 
     by_digits : (lead digits : Bool) → lead ≡ has_no_leading_zero number → digits ≡ are_digits number → (number ≡ codes "1" → ⊥) → (number ≡ codes "2" → ⊥)
         → LeadsTo most line Head 0 0 (head_stage (cond (lead && digits) Other Wrong)) 0 0 items items
-    by_digits true true led all not_one not_two = other_version most line items (number, record { spelled = is; digits = sym all; lead = sym led },
-        λ version known spelled. elim known [
-          | inl one ↦ not_one (named_again _ _ (sym is ∙ spelled ∙ ap (λ v. codes "jrev-trace" ++ 32 ∷ decimal v) one) ∙ version_1)
-          | inr two ↦ not_two (named_again _ _ (sym is ∙ spelled ∙ ap (λ v. codes "jrev-trace" ++ 32 ∷ decimal v) two) ∙ version_2)
-        ])
+    by_digits true true led all not_one not_two = other_version most line items (
+      number,
+      record { spelled = is; digits = sym all; lead = sym led },
+      λ version known spelled. elim known [
+        | inl one ↦ not_one (named_again _ _ (sym is ∙ spelled ∙ ap (λ v. codes "jrev-trace" ++ 32 ∷ decimal v) one) ∙ version_1)
+        | inr two ↦ not_two (named_again _ _ (sym is ∙ spelled ∙ ap (λ v. codes "jrev-trace" ++ 32 ∷ decimal v) two) ∙ version_2)
+      ],
+    )
     by_digits true false led all not_one not_two = no_head most line items (λ other h. absurd (let same : number ≡ other = named_again _ _ (sym is ∙ h.spelled) in let no : true ≡ false = sym h.digits ∙ ap are_digits (sym same) ∙ sym all in cc))
     by_digits false digits led all not_one not_two = no_head most line items (λ other h. absurd (let same : number ≡ other = named_again _ _ (sym is ∙ h.spelled) in let no : true ≡ false = sym h.lead ∙ ap has_no_leading_zero (sym same) ∙ sym led in cc))
 
@@ -94,9 +97,9 @@ cut_leads most line word None items is cuts = no_head most line items (λ number
 cut_leads most line word (Some number) items is cuts = cond_both (bytes_eq word (codes "jrev-trace")) (version_at number) Wrong (λ h. LeadsTo most line Head 0 0 (head_stage h) 0 0 items items)
     (λ t. version_leads most line number items (is ∙ ap (λ w. w ++ 32 ∷ number) ((bytes_eq-Decides word (codes "jrev-trace")).0 t)))
     (λ f. no_head most line items (λ other h. absurd (
-        let again : cut line ≡ record { word = codes "jrev-trace"; rest = Some other } = ap cut h.spelled in
-        let same : word ≡ codes "jrev-trace" = ap (λ (c : Cut). c.word) (sym cuts ∙ again) in
-        let no : true ≡ false = sym ((bytes_eq-Decides word (codes "jrev-trace")).1 same) ∙ f in cc)))
+    let again : cut line ≡ record { word = codes "jrev-trace"; rest = Some other } = ap cut h.spelled in
+    let same : word ≡ codes "jrev-trace" = ap (λ (c : Cut). c.word) (sym cuts ∙ again) in
+    let no : true ≡ false = sym ((bytes_eq-Decides word (codes "jrev-trace")).1 same) ∙ f in cc)))
 
 head_leads : (most : ℕ) (line : List ℕ) (items : List JournalItem) → LeadsTo most line Head 0 0 (head_stage (head_at (cut line))) 0 0 items items
 head_leads most line items = cut_leads most line (cut line).word (cut line).rest items (sym (uncut_cut line)) refl
@@ -150,7 +153,7 @@ pub too_many : (most : ℕ) (line : List ℕ) (version count events : ℕ) (item
 too_many most line version count events items item says full =
     let few : nat_lt count most ≡ false = false_from_ne_true (nat_lt count most) (λ t. full (ltb-true count most t)) in
     no_more items (λ past lines found e.
-        (Err (TooMany (count + 2)), inr (inl (item, says, goes_on_full most count item _ few)), e))
+    (Err (TooMany (count + 2)), inr (inl (item, says, goes_on_full most count item _ few)), e))
   where
     goes_on_full : (most count : ℕ) (item : JournalItem) (AreOthers : Result (List JournalItem) JournalFault → Type 0) → nat_lt count most ≡ false → GoesOn most count item (Err (TooMany (count + 2))) AreOthers
     goes_on_full most count item AreOthers few = rw few refl

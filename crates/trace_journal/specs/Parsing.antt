@@ -70,7 +70,7 @@ of_word name a word =
     if bytes_eq name (codes "exit") then (if bytes_eq word (codes "no") then answered (Exit a) NotOwner else None)
     else if bytes_eq name (codes "wait") then (if bytes_eq word (codes "no") then answered (Wait a) NotOwner else None)
     else if bytes_eq name (codes "notify") then (if bytes_eq word (codes "no") then answered (Notify a) NotOwner
-        else option_map (λ n. record { op = Notify a; reply = Woken n }) (number_up_to 255 word))
+    else option_map (λ n. record { op = Notify a; reply = Woken n }) (number_up_to 255 word))
     else if bytes_eq name (codes "init") then init_reply a word
     else if bytes_eq name (codes "done") then done_reply a word
     else None
@@ -83,7 +83,7 @@ of_three name a b word =
     else if bytes_eq name (codes "write") then option_map (λ c. record { op = Write a b c; reply = Done }) (u32_of word)
     else if bytes_eq name (codes "new") then option_map (λ c. record { op = New a b; reply = Made c }) (u32_of word)
     else if bytes_eq name (codes "start") && nat_le 1 b && nat_le b 10 then (if bytes_eq word (codes "no") then answered (Start a b) Already
-        else option_map (λ n. record { op = Start a b; reply = Number n }) (number_up_to 255 word))
+    else option_map (λ n. record { op = Start a b; reply = Number n }) (number_up_to 255 word))
     else None
 
 abbrev pub with_three : List ℕ → ℕ → ℕ → Cut → Option Answered

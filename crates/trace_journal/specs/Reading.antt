@@ -45,7 +45,7 @@ AreRead past version most count events [] rest found = found ≡ Err (unended pa
 AreRead past version most count events (line ∷ lines) rest found =
     ((line ≡ end_line events) × Closes past (count + 3) lines rest found)
     ⊎ (((item : JournalItem) × Says version line item
-        × GoesOn most count item found (AreRead past version most (count + 1) (events_with events item) lines rest))
+    × GoesOn most count item found (AreRead past version most (count + 1) (events_with events item) lines rest))
     ⊎ ((line ≡ end_line events → ⊥) × ((item : JournalItem) → ¬ Says version line item) × (found ≡ Err (Line (count + 2)))))
 
 -- a first line with a number
@@ -67,7 +67,7 @@ abbrev pub AreReadFrom : Bool → ℕ → List (List ℕ) → List ℕ → Resul
 AreReadFrom past most [] rest found = found ≡ Err (unended past 1)
 AreReadFrom past most (line ∷ lines) rest found =
     ((version : ℕ) × (others : Result (List JournalItem) JournalFault) × IsKnown version × (line ≡ head_line version)
-        × AreRead past version most 0 0 lines rest others × (found ≡ of_version version others))
+    × AreRead past version most 0 0 lines rest others × (found ≡ of_version version others))
     ⊎ (((number : List ℕ) × IsHead line number × ((version : ℕ) → IsKnown version → line ≡ head_line version → ⊥) × (found ≡ Err Version))
     ⊎ (((number : List ℕ) → ¬ IsHead line number) × (found ≡ Err (Line 1))))
 

@@ -99,11 +99,23 @@ fn of_word(name: &[u8], a: u32, word: &[u8]) -> Option<Answered>
     ensures { result ≡ spec.of_word name.now a word.now }
 {
     if name == b"exit".as_slice() {
-        if word == b"no".as_slice() { answered(Op::Exit(a), Reply::NotOwner) } else { None }
+        if word == b"no".as_slice() {
+            answered(Op::Exit(a), Reply::NotOwner)
+        } else {
+            None
+        }
     } else if name == b"wait".as_slice() {
-        if word == b"no".as_slice() { answered(Op::Wait(a), Reply::NotOwner) } else { None }
+        if word == b"no".as_slice() {
+            answered(Op::Wait(a), Reply::NotOwner)
+        } else {
+            None
+        }
     } else if name == b"notify".as_slice() {
-        if word == b"no".as_slice() { answered(Op::Notify(a), Reply::NotOwner) } else { notified(a, word) }
+        if word == b"no".as_slice() {
+            answered(Op::Notify(a), Reply::NotOwner)
+        } else {
+            notified(a, word)
+        }
     } else if name == b"init".as_slice() {
         init_reply(a, word)
     } else if name == b"done".as_slice() {

@@ -24,7 +24,7 @@ loop-place-preserved c =
     let next = sym (add-one c.loop-place.place) in
     record {
       far = c.loop-place.invariant.far ∙ moves c.args.line.now c.loop-place.place c.loop-place-test.true c.if-line-place-eq32.false
-        ∙ (λ i. behind (take (next i) c.args.line.now) (spec.cut (drop (next i) c.args.line.now)))
+          ∙ (λ i. behind (take (next i) c.args.line.now) (spec.cut (drop (next i) c.args.line.now)));
     }
 
 pub returns-clause-word : goal.returns-clause-word
