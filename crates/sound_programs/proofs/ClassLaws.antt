@@ -46,7 +46,7 @@ unfolding library
 throwable_is_class us = refl
 
 module _ (us : List ClassUnit) where
-  abbrev goes_below : ObjectType → ObjectType → Bool
+  abbrev pub goes_below : ObjectType → ObjectType → Bool
   goes_below = is_object_below (is_class_below (classes_of us))
 
   pub to_top : (t : ObjectType) → goes_below t (Class OBJECT) ≡ true
@@ -59,15 +59,8 @@ module _ (us : List ClassUnit) where
   element_top (elements.Other m) d e = refl
   element_top x d e = cc
 
-  -- what is below a type is below it as it is seen
-  raised : (t u : ObjectType) → goes_below t u ≡ true → goes_below t (seen_type us u) ≡ true
-  raised t (Class d) e = by_flag ((hierarchy_of (classes_of us)).is_interface d)
-    where
-      by_flag : (b : Bool) → goes_below t (Class (if b then OBJECT else d)) ≡ true
-      by_flag true = to_top t
-      by_flag false = e
-  raised t (Other m) e = e
-  raised (Array m y) (Array n (elements.Class d)) e = by_flag ((hierarchy_of (classes_of us)).is_interface d)
+  raised_array : (m n : ℕ) (y x : ElementType) → goes_below (Array m y) (Array n x) ≡ true → goes_below (Array m y) (Array n (seen_element us x)) ≡ true
+  raised_array m n y (elements.Class d) e = by_flag ((hierarchy_of (classes_of us)).is_interface d)
     where
       by_dimensions : (b : Bool) → cond b (is_element_below (is_class_below (classes_of us)) y (elements.Class d)) (nat_lt n m && (d == OBJECT)) ≡ true
           → cond b (is_element_below (is_class_below (classes_of us)) y (elements.Class OBJECT)) (nat_lt n m && true) ≡ true
@@ -77,28 +70,19 @@ module _ (us : List ClassUnit) where
       by_flag : (b : Bool) → goes_below (Array m y) (Array n (elements.Class (if b then OBJECT else d))) ≡ true
       by_flag true = by_dimensions (nat_eq m n) e
       by_flag false = e
-  raised t (Array n x) e = by_element x e
-    where
-      by_element : (x : ElementType) → goes_below t (Array n x) ≡ true → goes_below t (Array n (seen_element us x)) ≡ true
-      by_element (elements.Class d) is = no_array t is
-        where
-          no_array : (t : ObjectType) → goes_below t (Array n (elements.Class d)) ≡ true → goes_below t (Array n (elements.Class (seen_class us d))) ≡ true
-          no_array (Class c) is = cc
-          no_array (Other c) is = cc
-          no_array (Array k y) is = raised_array k y is
-            where
-              raised_array : (k : ℕ) (y : ElementType) → goes_below (Array k y) (Array n (elements.Class d)) ≡ true → goes_below (Array k y) (Array n (elements.Class (seen_class us d))) ≡ true
-              raised_array k y is = by_flag ((hierarchy_of (classes_of us)).is_interface d)
-                where
-                  by_dimensions : (b : Bool) → cond b (is_element_below (is_class_below (classes_of us)) y (elements.Class d)) (nat_lt n k && (d == OBJECT)) ≡ true
-                      → cond b (is_element_below (is_class_below (classes_of us)) y (elements.Class OBJECT)) (nat_lt n k && true) ≡ true
-                  by_dimensions true e' = element_top y d e'
-                  by_dimensions false e' = both_true (nat_lt n k) true (and_parts (nat_lt n k) (d == OBJECT) e').0 refl
+  raised_array m n y x e = e
 
-                  by_flag : (b : Bool) → goes_below (Array k y) (Array n (elements.Class (if b then OBJECT else d))) ≡ true
-                  by_flag true = by_dimensions (nat_eq k n) is
-                  by_flag false = is
-      by_element x is = is
+  -- what is below a type is below it as it is seen
+  raised : (t u : ObjectType) → goes_below t u ≡ true → goes_below t (seen_type us u) ≡ true
+  raised t (Class d) e = by_flag ((hierarchy_of (classes_of us)).is_interface d)
+    where
+      by_flag : (b : Bool) → goes_below t (Class (if b then OBJECT else d)) ≡ true
+      by_flag true = to_top t
+      by_flag false = e
+  raised t (Other m) e = e
+  raised (Class c) (Array n x) e = cc
+  raised (Other c) (Array n x) e = cc
+  raised (Array m y) (Array n x) e = raised_array m n y x e
 
   subclass_parts : (c d : ℕ) → is_subclass us c d ≡ true → goes_below (type_numbered (program_names us) c) (type_numbered (program_names us) d) ≡ true
   subclass_parts c d e =

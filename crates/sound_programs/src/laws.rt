@@ -10,6 +10,7 @@ ghost use Rattle.op_core.specs.Orderly.{IsOrderly};
 ghost use Rattle.soundness_senses.specs.Accepted.{IsMain};
 ghost use Rattle.sound_programs.specs.Programs.{ObjectsHaveRoom, IsMainMethod};
 ghost use Rattle.sound_programs.specs.ClassFacts.{ClassesGoUp, NumbersAreWords};
+ghost use Rattle.java_sound.specs.Sound.{HasRoom};
 ghost use Rattle.link_rules.specs.FixedObjects.{first_free};
 ghost use Rattle.link_rules.specs.Names.{program_names};
 
@@ -39,4 +40,10 @@ pub fn classes_go_up()
 /// Where the objects at the start have places below 2^32, numbers of classes are words.
 pub fn numbers_are_words()
     ensures { (us : List ClassUnit) (order : List ℕ) → IsSound us order → first_free (program_names us) ≤ 2 ^ 32 → NumbersAreWords us }
+{}
+
+/// Where the objects at the start have places below 2^32, the objects of a program and the numbers of its classes are as
+/// large as they may be, and each object of a Thread has the words of a Thread.
+pub fn programs_have_room()
+    ensures { (us : List ClassUnit) (order : List ℕ) → IsSound us order → first_free (program_names us) ≤ 2 ^ 32 → HasRoom us }
 {}
