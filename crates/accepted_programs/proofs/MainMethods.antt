@@ -1,5 +1,5 @@
 -- The method with which a program begins.
-use Rattle.std.proofs.Common.{◌≡◌, ◌<◌, ◌+◌, ◌&&◌, ℕ, zero, suc, Bool, true, Option, None, Some, List, length, map, slice_get, bytes_eq, codes, refl, sym, ap, subst, ◌∙◌, arith}
+use Rattle.std.proofs.Common.{◌≡◌, ◌<◌, ◌≤◌, ◌^◌, ◌&&◌, ℕ, Option, None, Some, List, length, slice_get, bytes_eq, codes, refl, sym, ap, subst, ◌∙◌, arith}
 use Rattle.std.specs.Prelude.{option_map, option_and_then, position}
 use Rattle.std.proofs.lemmas.Bool.{and_parts}
 use Rattle.std.proofs.lemmas.Option.{none-some, slice_get-map}
@@ -10,21 +10,23 @@ use Rattle.access_flags.specs.Flags.{has}
 use Rattle.class_read.specs.declared.class_file.Member.{Member}
 use Rattle.code_decode.specs.declared.code.ClassUnit.{ClassUnit}
 use Rattle.link_types.specs.declared.operands.MethodId.{MethodId}
-use Rattle.link_rules.specs.Classes.{NamedMember, classes_of, member_of_file, number_of_file}
-use Rattle.link_rules.specs.Linked.{IsLinked}
+use Rattle.link_rules.specs.Classes.{NamedMember, classes_of, member_of_file}
+use Rattle.link_rules.specs.FixedObjects.{first_free}
 use Rattle.link_rules.specs.LinkRules.{link_rules}
+use Rattle.link_rules.specs.Names.{program_names}
 use Rattle.link_rules.specs.Units.{AreUnits}
 use Rattle.link_rules.proofs.Lists.{Found, found_at}
 use Rattle.linker.specs.Tables.{HasOrder}
-use Rattle.linked_operands.specs.Sound.{IsSound}
 use Rattle.linked_operands.proofs.Methods.{from_map, methods_of_file}
 use Rattle.op_core.specs.Orderly.{IsOrderly}
 use Rattle.program_accept.specs.Accepted.{Accepted, IsProgram}
 use Rattle.program_accept.specs.Main.{is_main, is_named, main_of_file, main_at, main_method}
 use Rattle.type_rules.specs.VerifyRules.{method_of_file}
+use Rattle.java_sound.specs.Sound.{HasRoom}
 use Rattle.java_rows.specs.Thread.{java_code, first_state}
 use Rattle.sound_programs.specs.Programs.{IsMainMethod}
 use Rattle.sound_programs.proofs.Programs.{go_in_order}
+use Rattle.sound_programs.proofs.ThreadLaws.{programs_have_room}
 use Rattle.accepted_programs.specs.Programs.{IsSoundProgram}
 
 then_some : {A B : Type 0} (f : A → Option B) (o : Option A) (b : B) → option_and_then f o ≡ Some b → (a : A) × (o ≡ Some a) × (f a ≡ Some b)
@@ -56,3 +58,10 @@ pub is_orderly : (p : Accepted) (files : List (List ℕ)) (name : List ℕ) (cla
     → IsOrderly java_code (first_state p.units p.main) classes
 is_orderly p files name classes decoded hold order is below =
     let (places, sound, main) = is_sound p files name decoded hold order is in go_in_order p.units places p.main classes sound main below
+
+pub has_room : (p : Accepted) (files : List (List ℕ)) (name : List ℕ) → AreUnits p.units → (link_rules p.units).Hold → HasOrder p.units → IsProgram files name p → (first : ℕ) → first ≡ first_free (program_names p.units) → first < 2 ^ 30
+    → HasRoom p.units
+has_room p files name decoded hold order is first value small =
+    let (places, sound, main) = is_sound p files name decoded hold order is in
+    let below : first ≤ 2 ^ 32 = omega arith in
+    programs_have_room p.units places sound (subst (λ n. n ≤ 2 ^ 32) value below)

@@ -1,6 +1,7 @@
 //! What holds of the programs that are accepted.
 
 ghost use Rattle.std.specs.Prelude.{ℕ, List, ◌<◌, length};
+ghost use Rattle.java_sound.specs.Sound.{HasRoom};
 ghost use Rattle.java_rows.specs.Thread.{java_code, first_state};
 ghost use Rattle.link_rules.specs.Classes.{classes_of};
 ghost use Rattle.op_core.specs.Orderly.{IsOrderly};
@@ -11,11 +12,15 @@ use program_accept::Program;
 
 /// A program that `accept` gives is decoded, keeps the rules of linking in an order of its classes, its methods are type
 /// safe, and it begins with a method of its own. So its code goes in order, whatever it is answered: a thread ends by its
-/// end alone, and never comes to a place where an operand, a local, room or an entry of the constant pool is missing.
+/// end alone, and never comes to a place where an operand, a local, room or an entry of the constant pool is missing. Its
+/// objects and the numbers of its classes are as large as they may be.
 pub fn accepted_programs_go_in_order(program: &Program)
     ensures sound { (files : List (List ℕ)) (name : List ℕ) → IsProgram files name program.now → IsSoundProgram program.now }
     ensures orderly { (files : List (List ℕ)) (name : List ℕ) (classes : ℕ) → IsProgram files name program.now → length (classes_of program.now.units) < classes →
         IsOrderly java_code (first_state program.now.units program.now.main) classes }
+    ensures room { (files : List (List ℕ)) (name : List ℕ) → IsProgram files name program.now → HasRoom program.now.units }
 {
-    program.world().is_linked();
+    let world = program.world();
+    world.is_linked();
+    let _first = world.first_free();
 }

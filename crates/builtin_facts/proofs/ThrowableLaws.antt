@@ -57,7 +57,7 @@ module _ (us : List ClassUnit) (order : List ℕ) (linked : IsLinked us order) w
       let count : length (classes_of us) ≡ 28 + length us = class_count_is us in
       ap (λ b. unwrap_or (option_map (type_named (program_names us)) (if b then None else slice_get (program_names us).arrays (c - suc (length (classes_of us))))) (Class c)) (le-leb c (length (classes_of us)) (omega (arith, count, high)))
 
-  throwable : (c : ℕ) → is_throwable c ≡ true → IsThrowable us c
+  pub throwable : (c : ℕ) → is_throwable c ≡ true → IsThrowable us c
   throwable c is = (subclass, assignable)
     where
       low : 8 ≤ c

@@ -116,7 +116,7 @@ either_right : (a b : Bool) → b ≡ true → (a || b) ≡ true
 either_right true b e = refl
 either_right false b e = e
 
-found_any : (xs : List ℕ) (d : ℕ) → Contains xs d → list_any (λ e. e == d) xs ≡ true
+pub found_any : (xs : List ℕ) (d : ℕ) → Contains xs d → list_any (λ e. e == d) xs ≡ true
 found_any [] d is = absurd (contains_none d is)
 found_any (x ∷ xs) d is = elim (contains_cases x xs d is) [
   | inl same ↦ either_left (x == d) (list_any (λ e. e == d) xs) (eq-eqb x d same)
@@ -133,7 +133,7 @@ module _ (us : List ClassUnit) (order : List ℕ) (linked : IsLinked us order) w
   pub to_interface : (c d : ℕ) → class_has (classes_of us) d INTERFACE ≡ true → goes_to c d ≡ true
   to_interface c d is = either_right (d == OBJECT) _ (either_left (class_has (classes_of us) d INTERFACE) _ is)
 
-  object_above : (d : ℕ) → Contains (superclasses (classes_of us) OBJECT) d → d ≡ OBJECT
+  pub object_above : (d : ℕ) → Contains (superclasses (classes_of us) OBJECT) d → d ≡ OBJECT
   object_above d h =
       let count : length (classes_of us) ≡ 28 + length us = class_count_is us in
       elim (contains_cases OBJECT [] d (subst (λ xs. Contains xs d) (superclasses_none (classes_of us) order linked.order OBJECT (object_super us) (λ e. omega (arith, e)) (omega (arith, count))) h)) [

@@ -1,2 +1,4 @@
 pub mod Rooms
 pub mod Programs
+pub mod ClassLaws
+pub mod ThreadLaws

@@ -3,4 +3,7 @@
 
 mod laws;
 
-pub use laws::{main_methods_begin, objects_have_room, programs_go_in_order};
+pub use laws::{
+    classes_go_up, main_methods_begin, numbers_are_words, objects_have_room, programs_go_in_order,
+    programs_have_room,
+};
