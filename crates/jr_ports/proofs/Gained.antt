@@ -1,5 +1,5 @@
 -- A sink that was given nothing more.
-use Rattle.std.proofs.Common.{◌≡◌, ℕ, List, [], ◌++◌, Option, Some, None, option_map, Result, Ok, Err, refl, sym, ◌∙◌, ap, append-nil, append_assoc}
+use Rattle.std.proofs.Common.{◌≡◌, ℕ, List, [], ◌∷◌, ◌++◌, Option, Some, None, option_map, Result, Ok, Err, refl, sym, ◌∙◌, ap, append-nil, append_assoc}
 use Rattle.std.specs.Result.{OnErr}
 use Rattle.jr_ports.specs.Stream.{Gains, GainsPart}
 
@@ -7,8 +7,8 @@ pub OnErr-any : {T E : Type 0} (r : Result T E) (P : Type 0) → P → OnErr r P
 OnErr-any (Ok x) P p = tt
 OnErr-any (Err e) P p = p
 
-pub GainsPart-none : (before after pieces : List (List ℕ)) → after ≡ before → GainsPart (Some before) (Some after) pieces
-GainsPart-none before after pieces same =
+pub GainsPart-none : (before after : List (List ℕ)) (piece : List ℕ) → after ≡ before → GainsPart (Some before) (Some after) (piece ∷ [])
+GainsPart-none before after piece same =
     ([], tt, ap (λ (l : List (List ℕ)). let o : Option (List (List ℕ)) = Some l in o) (same ∙ sym (append-nil before)))
 
 pub Gains-none : {A : Type 0} (a : Option (List A)) → Gains a a []

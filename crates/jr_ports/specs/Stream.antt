@@ -1,21 +1,21 @@
 -- Sources and sinks: the pieces that a sink was given, and what was taken of a source.
 use Rattle.std.specs.Prelude.{◌≡◌, ℕ, ◌⊎◌, List, [], ◌∷◌, ◌++◌, Option, option_map, map, take, length}
 
--- part is how the list begins
-abbrev pub IsPrefix : List ℕ → List ℕ → Type 0
-IsPrefix part whole = (rest : List ℕ) × (whole ≡ part ++ rest)
+-- part is how the list begins, and not all of it
+abbrev pub IsProperPrefix : List ℕ → List ℕ → Type 0
+IsProperPrefix part whole = (next : ℕ) × (rest : List ℕ) × (whole ≡ part ++ next ∷ rest)
 
--- The pieces of a whole were given in order, up to one of which a part came at most.
+-- Of the pieces of a whole the first were given, and of the next one nothing or a proper part: not all were.
 abbrev pub IsBegun : List (List ℕ) → List (List ℕ) → Type 0
-IsBegun [] whole = Unit {0}
-IsBegun (piece ∷ begun) [] = ⊥
-IsBegun (piece ∷ begun) (first ∷ whole) = ((piece ≡ first) × IsBegun begun whole) ⊎ ((begun ≡ []) × IsPrefix piece first)
+IsBegun begun [] = ⊥
+IsBegun [] (first ∷ whole) = Unit {0}
+IsBegun (piece ∷ begun) (first ∷ whole) = ((piece ≡ first) × IsBegun begun whole) ⊎ ((begun ≡ []) × IsProperPrefix piece first)
 
 -- The list that was told before, where one was told, has these items more at its end.
 abbrev pub Gains : {A : Type 0} → Option (List A) → Option (List A) → List A → Type 0
 Gains before after more = after ≡ option_map (λ told. told ++ more) before
 
--- a sink was given these pieces, up to one of which a part came at most
+-- a sink was given the first of these pieces and perhaps a proper part of the next one, but not all
 abbrev pub GainsPart : Option (List (List ℕ)) → Option (List (List ℕ)) → List (List ℕ) → Type 0
 GainsPart before after pieces = (begun : List (List ℕ)) × IsBegun begun pieces × Gains before after begun
 

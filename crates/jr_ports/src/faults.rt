@@ -1,6 +1,6 @@
 //! What an error of the system is to a caller, and how faults are counted.
 
-ghost use Rattle.std.specs.Prelude.{◌≡◌, ◌<◌, ◌≤◌, ◌+◌, ◌^◌};
+ghost use Rattle.std.specs.Prelude.{◌≡◌, ◌<◌, ◌+◌, ◌^◌};
 ghost use Rattle.std.specs.Bool.{OnTrue, OnFalse};
 
 use std::io::{Error, ErrorKind};
@@ -30,7 +30,7 @@ pub fn count_fault(faults: &mut u64) -> bool
 /// where the count stands at its end, it passes for want of memory.
 pub fn refusal_of(faults: &mut u64, error: &Error) -> Refusal
     ensures cause { result ≡ Refusal.Failed → faults.old < faults.new }
-    ensures faults { faults.old ≤ faults.new }
+    ensures memory { result ≡ Refusal.NoMemory → faults.new ≡ faults.old }
 {
     if error.kind() == ErrorKind::OutOfMemory || !count_fault(faults) {
         return Refusal::NoMemory;

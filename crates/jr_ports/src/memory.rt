@@ -1,6 +1,6 @@
 //! A folder, a source and a sink in memory, of which chosen calls fail.
 
-ghost use Rattle.std.specs.Prelude.{◌≡◌, ◌+◌, ◌-◌, ◌^◌, ◌<◌, ◌≤◌, ◌↔◌, min, IsTrue, Contains};
+ghost use Rattle.std.specs.Prelude.{◌≡◌, ◌+◌, ◌-◌, ◌^◌, ◌<◌, ◌↔◌, min, IsTrue, Contains};
 
 use crate::faults::{Refusal, count_fault};
 
@@ -48,7 +48,7 @@ impl Calls {
     /// The answer of a call that fails: a fault, or want of memory where the count stands at its end.
     fn refuse(&mut self) -> Refusal
         ensures cause { result ≡ Refusal.Failed → self.old.faults < self.new.faults }
-        ensures faults { self.old.faults ≤ self.new.faults }
+        ensures memory { result ≡ Refusal.NoMemory → self.new.faults ≡ self.old.faults }
     {
         if count_fault(&mut self.faults) {
             Refusal::Failed

@@ -42,7 +42,7 @@ pub trait ClassDir {
     /// What it was asked for: nothing yet, or one folder with the names that it gave.
     ghost asked: { Self → Option Asked };
 
-    /// How often it failed.
+    /// How often it failed: a call that answers `Failed` raises it, and no other call changes it.
     ghost faults: { Self → ℕ };
 
     /// Its files, where it tells them.
@@ -61,7 +61,8 @@ pub trait ClassDir {
         ensures failed { result ≡ Err DirFault.Failed → asked self.new ≡ Some (record { dir = dir.now; names = [] }) }
         ensures no_memory { result ≡ Err DirFault.NoMemory → (asked self.new ≡ None) ⊎ (asked self.new ≡ Some (record { dir = dir.now; names = [] })) }
         ensures cause { result ≡ Err DirFault.Failed → faults self.old < faults self.new }
-        ensures faults { faults self.old ≤ faults self.new }
+        ensures ok_faults { OnOk result (faults self.new ≡ faults self.old) }
+        ensures memory_faults { result ≡ Err DirFault.NoMemory → faults self.new ≡ faults self.old }
         ensures contents { contents self.new ≡ contents self.old }
         ensures read_names { read_names self.new ≡ read_names self.old };
 
@@ -73,7 +74,8 @@ pub trait ClassDir {
         ensures most { IfOk result (λ bytes. length bytes.items ≤ MOST_READ) }
         ensures asked { asked self.new ≡ asked self.old }
         ensures cause { result ≡ Err DirFault.Failed → faults self.old < faults self.new }
-        ensures faults { faults self.old ≤ faults self.new }
+        ensures ok_faults { OnOk result (faults self.new ≡ faults self.old) }
+        ensures memory_faults { result ≡ Err DirFault.NoMemory → faults self.new ≡ faults self.old }
         ensures contents { contents self.new ≡ contents self.old }
         ensures read { OnOk result (Gains (read_names self.old) (read_names self.new) (name.now ∷ [])) }
         ensures refused { OnErr result (read_names self.new ≡ read_names self.old) };
@@ -87,7 +89,7 @@ pub trait Source {
     /// What was taken of it, call by call, where it tells that.
     ghost taken: { Self → Option (List Taken) };
 
-    /// How often it failed.
+    /// How often it failed: a call that answers `Failed` raises it, and no other call changes it.
     ghost faults: { Self → ℕ };
 
     /// The next bytes, at most `most` of them; none means the end of the input. A refusal takes nothing.
@@ -98,7 +100,8 @@ pub trait Source {
         ensures taken { IfOk result (λ piece. Gains (taken self.old) (taken self.new) (record { asked = most; came = length piece.items } ∷ [])) }
         ensures err { OnErr result ((left self.new ≡ left self.old) × (taken self.new ≡ taken self.old)) }
         ensures cause { result ≡ Err SourceFault.Failed → faults self.old < faults self.new }
-        ensures faults { faults self.old ≤ faults self.new };
+        ensures ok_faults { OnOk result (faults self.new ≡ faults self.old) }
+        ensures memory_faults { result ≡ Err SourceFault.NoMemory → faults self.new ≡ faults self.old };
 }
 
 /// Output that is given piece by piece.
@@ -106,15 +109,16 @@ pub trait Sink {
     /// The pieces that it was given so far, one for each put, where the sink tells them.
     ghost given: { Self → Option (List (List ℕ)) };
 
-    /// How often it failed.
+    /// How often it failed: a call that answers `Failed` raises it, and no other call changes it.
     ghost faults: { Self → ℕ };
 
-    /// Gives a piece. After a refusal nothing was taken, or a part of the piece from its front.
+    /// Gives a piece. After a refusal nothing was taken, or a part of the piece from its front, and not all of it.
     fn put(&mut self, bytes: &[u8]) -> Result<(), SinkFault>
         ensures ok { OnOk result (Gains (given self.old) (given self.new) (bytes.now ∷ [])) }
         ensures err { OnErr result (GainsPart (given self.old) (given self.new) (bytes.now ∷ [])) }
         ensures cause { result ≡ Err SinkFault.Failed → faults self.old < faults self.new }
-        ensures faults { faults self.old ≤ faults self.new };
+        ensures ok_faults { OnOk result (faults self.new ≡ faults self.old) }
+        ensures memory_faults { result ≡ Err SinkFault.NoMemory → faults self.new ≡ faults self.old };
 }
 
 impl From<AllocError> for DirFault {

@@ -16,6 +16,7 @@ use Rattle.program_accept.specs.declared.refusal.AcceptRefusal.{AcceptRefusal}
 use Rattle.program_accept.specs.declared.refusal.AcceptRefusal.TheVariants.{NoMemory}
 use Rattle.command_words.specs.declared.request.Request.{Request}
 use Rattle.command_words.specs.declared.request.Request.TheVariants.{Pick, Load}
+use Rattle.encoded_texts.specs.Encoded.{encoded_text}
 use Rattle.jrev_top.specs.Folder.{AreListed}
 use Rattle.jrev_top.specs.Headline.{Outside, IsOfProgram, IsAnswer}
 use Rattle.jrev_top.proofs.Found.{Told, listed}
@@ -61,17 +62,17 @@ refuses-only rules e wanted exact first hold same other = record {
 
 pub pick-asked : (request : Option Request) (dir main dir-given main-given : List ℕ) (limits : Limits) (schedule : Schedule) (counts : Bool) (outside : Outside) (answer : Answer)
     → request ≡ Some (Pick dir main limits schedule counts) → dir-given ≡ dir → main-given ≡ main
-    → IsOfProgram (Runs schedule limits) dir-given main-given outside answer → IsAnswer request outside answer
+    → IsOfProgram (Runs schedule limits) dir-given (encoded_text main-given) outside answer → IsAnswer request outside answer
 pick-asked request dir main dir-given main-given limits schedule counts outside answer is same-dir same-main of =
     let Of : Option Request → Type 0 = λ r. IsAnswer r outside answer in
-    let In : List ℕ → Type 0 = λ d. IsOfProgram (Runs schedule limits) d main outside answer in
-    let From : List ℕ → Type 0 = λ m. IsOfProgram (Runs schedule limits) dir-given m outside answer in
+    let In : List ℕ → Type 0 = λ d. IsOfProgram (Runs schedule limits) d (encoded_text main) outside answer in
+    let From : List ℕ → Type 0 = λ m. IsOfProgram (Runs schedule limits) dir-given (encoded_text m) outside answer in
     subst Of (sym is) (subst In same-dir (subst From same-main of))
 
 pub load-asked : (request : Option Request) (dir main dir-given main-given : List ℕ) (outside : Outside) (answer : Answer) → request ≡ Some (Load dir main) → dir-given ≡ dir → main-given ≡ main
-    → IsOfProgram Counts dir-given main-given outside answer → IsAnswer request outside answer
+    → IsOfProgram Counts dir-given (encoded_text main-given) outside answer → IsAnswer request outside answer
 load-asked request dir main dir-given main-given outside answer is same-dir same-main of =
     let Of : Option Request → Type 0 = λ r. IsAnswer r outside answer in
-    let In : List ℕ → Type 0 = λ d. IsOfProgram Counts d main outside answer in
-    let From : List ℕ → Type 0 = λ m. IsOfProgram Counts dir-given m outside answer in
+    let In : List ℕ → Type 0 = λ d. IsOfProgram Counts d (encoded_text main) outside answer in
+    let From : List ℕ → Type 0 = λ m. IsOfProgram Counts dir-given (encoded_text m) outside answer in
     subst Of (sym is) (subst In same-dir (subst From same-main of))

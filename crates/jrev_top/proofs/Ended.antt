@@ -1,6 +1,7 @@
 -- How a run may end.
-use Rattle.std.proofs.Common.{◌≡◌, inl, inr, ℕ, List, [], ◌∷◌, ◌||◌, length, Bool, true, false, Option, None, Some, refl, sym, ◌∙◌, ap, subst, codes}
+use Rattle.std.proofs.Common.{◌≡◌, inl, inr, ℕ, List, [], ◌∷◌, ◌||◌, length, Bool, true, false, Option, None, Some, Result, Ok, Err, IfOk, ◌<◌, ◌↔◌, arith, refl, sym, ◌∙◌, ap, subst, codes}
 use Rattle.std.specs.Prelude.{◌⊎◌}
+use Rattle.std.specs.Result.{OnOk}
 use Rattle.op_core.specs.declared.How.{How}
 use Rattle.op_core.specs.declared.How.TheVariants as how
 use Rattle.op_core.specs.declared.Limits.{Limits}
@@ -12,24 +13,48 @@ use Rattle.command_words.specs.declared.request.Request.TheVariants.{Pick, Trace
 use Rattle.program_answers.specs.declared.status.Status.{Status}
 use Rattle.program_answers.specs.declared.status.Status.TheVariants as statuses
 use Rattle.program_answers.specs.declared.answer.Answer.{Answer}
-use Rattle.program_answers.specs.Written.{line, SinkRun, Streams, Said, Comes}
+use Rattle.program_answers.specs.Written.{line, SinkRun, Streams, EndsOr, Comes}
+use Rattle.encoded_texts.specs.Encoded.{encoded_text}
 use Rattle.jrev_top.specs.Answers.{IsJudged, Counts, Runs, IsMade}
+use Rattle.jrev_top.specs.declared.failure.Failure.{Failure}
+use Rattle.jrev_top.specs.declared.failure.Failure.TheVariants as failure
 use Rattle.jrev_top.specs.Touches.{may_end, is_of_program, is_of_run, is_of_text, is_done}
-use Rattle.jrev_top.specs.Headline.{Outside, IsAnswerTo, IsAnswer, Ends}
+use Rattle.jrev_top.specs.Headline.{Outside, IsAnswerTo, IsAnswer, IsTold, Reports, FailsAsked, FailsStream, Ends, MayEnd}
 
 -- what holds of the status that is meant, and of those of failures, holds of the one that comes
-pub said : (P : Status → Type 0) (lines : List (List ℕ)) (meant status : Status) (run : SinkRun)
-    → P meant → (run.failed → P statuses.WriteFault) → P statuses.Memory → Said lines meant run status → P status
-said P lines meant status run is fault memory (inl whole) = subst P (sym whole.0) is
-said P lines meant status run is fault memory (inr (inl failed)) = subst P (sym failed.0) (fault failed.1)
-said P lines meant status run is fault memory (inr (inr none)) = subst P (sym none.0) memory
+ended : (P : Status → Type 0) (short meant status : Status) (lines : List (List ℕ)) (run : SinkRun)
+    → (¬ run.failed → P meant) → (run.failed → P statuses.WriteFault) → (¬ run.failed → P short) → EndsOr short lines meant run status → P status
+ended P short meant status lines run is fault none (inl whole) = subst P (sym whole.0) (is whole.1)
+ended P short meant status lines run is fault none (inr (inl failed)) = subst P (sym failed.0) (fault failed.1)
+ended P short meant status lines run is fault none (inr (inr out)) = subst P (sym out.0) (none out.1)
 
-pub comes : (P : Status → Type 0) (answer : Answer) (streams : Streams) (status : Status)
-    → P answer.status → (streams.out.failed → P statuses.WriteFault) → (streams.err.failed → P statuses.WriteFault) → P statuses.Memory → Comes answer streams status → P status
-comes P answer streams status is out err memory (inl whole) = said P answer.err answer.status status streams.err is err memory whole.1
-comes P answer streams status is out err memory (inr (inl fault)) =
-    said P (line (codes "write fault") ∷ []) statuses.WriteFault status streams.err (out fault.0) err memory fault.3
-comes P answer streams status is out err memory (inr (inr none)) = said P (line (codes "no memory") ∷ []) statuses.Memory status streams.err memory err memory none.2
+comes : (P : Status → Type 0) (answer : Answer) (streams : Streams) (status : Status)
+    → (¬ streams.out.failed → ¬ streams.err.failed → P answer.status) → (FailsStream streams → P statuses.WriteFault) → (¬ streams.out.failed → ¬ streams.err.failed → P statuses.Memory)
+    → Comes answer streams status → P status
+comes P answer streams status is fault none (inl whole) =
+    ended P statuses.Memory answer.status status answer.err streams.err (is whole.0) (λ failed. fault (inr failed)) (none whole.0) whole.2
+comes P answer streams status is fault none (inr (inl failed)) =
+    ended P statuses.WriteFault statuses.WriteFault status (line (codes "write fault") ∷ []) streams.err (λ _. fault (inl failed.0)) (λ err. fault (inr err)) (λ _. fault (inl failed.0)) failed.2
+comes P answer streams status is fault none (inr (inr out)) =
+    ended P statuses.Memory statuses.Memory status (line (codes "no memory") ∷ []) streams.err (none out.0) (λ failed. fault (inr failed)) (none out.0) out.2
+
+-- .. of a whole run
+pub reported : (P : Status → Type 0) (request : Option Request) (outside : Outside) (failed : Type 0) (streams : Streams) (status : Status)
+    → ((answer : Answer) → IsAnswer request outside answer → ¬ failed → ¬ streams.out.failed → ¬ streams.err.failed → P answer.status)
+    → (failed → ¬ streams.out.failed → ¬ streams.err.failed → P statuses.ReadFault)
+    → (FailsStream streams → P statuses.WriteFault)
+    → (¬ failed → ¬ streams.out.failed → ¬ streams.err.failed → P statuses.Memory)
+    → Reports request outside failed streams status → P status
+reported P request outside failed streams status is read write none (inl (answer, of, calm, came)) =
+    comes P answer streams status (is answer of calm) write (none calm) came
+reported P request outside failed streams status is read write none (inr (inl fault)) =
+    ended P statuses.ReadFault statuses.ReadFault status (line (codes "read fault") ∷ []) streams.err (read fault.0 fault.1.0) (λ err. write (inr err)) (read fault.0 fault.1.0) fault.1.2
+reported P request outside failed streams status is read write none (inr (inr out)) =
+    ended P statuses.Memory statuses.Memory status (line (codes "no memory") ∷ []) streams.err (none out.0 out.1.0) (λ err. write (inr err)) (none out.0 out.1.0) out.1.2
+
+neither : (streams : Streams) → ¬ streams.out.failed → ¬ streams.err.failed → ¬ FailsStream streams
+neither streams out err (inl failed) = out failed
+neither streams out err (inr failed) = err failed
 
 ends-as : (test : Status → Bool) (answer known : Answer) → answer ≡ known → test known.status ≡ true → test answer.status ≡ true
 ends-as test answer known same is = ap (λ (a : Answer). test a.status) same ∙ is
@@ -51,13 +76,13 @@ ran : (schedule : Schedule) (limits : Limits) (count : ℕ) (program : Accepted)
 ran schedule limits count program answer is = ap (λ (a : Answer). is_of_run a.status) is.answered ∙ of_how is.outcome.how
 
 counted : (main : List ℕ) (names files : List (List ℕ)) (answer : Answer) → IsJudged Counts main names files answer → is_of_program answer.status ≡ true
-counted main names files answer (inl program) = ends-as is_of_program answer _ program.3 refl
+counted main names files answer (inl program) = ends-as is_of_program answer _ program.2 refl
 counted main names files answer (inr (inl none)) = ends-as is_of_program answer _ none.1 refl
 counted main names files answer (inr (inr refusal)) = ends-as is_of_program answer _ refusal.2 refl
 
 picked : (schedule : Schedule) (limits : Limits) (main : List ℕ) (names files : List (List ℕ)) (answer : Answer) → IsJudged (Runs schedule limits) main names files answer
     → is_of_run answer.status || is_of_program answer.status ≡ true
-picked schedule limits main names files answer (inl program) = or_left _ _ (ran schedule limits (length files) program.0 answer program.3)
+picked schedule limits main names files answer (inl program) = or_left _ _ (ran schedule limits (length files) program.0 answer program.2)
 picked schedule limits main names files answer (inr (inl none)) = or_right _ _ (ends-as is_of_program answer _ none.1 refl)
 picked schedule limits main names files answer (inr (inr refusal)) = or_right _ _ (ends-as is_of_program answer _ refusal.2 refl)
 
@@ -66,8 +91,8 @@ made text answer (inl bytes) = ends-as is_of_text answer _ bytes.2 refl
 made text answer (inr number) = ends-as is_of_text answer _ number.2 refl
 
 request-ends : (request : Request) (outside : Outside) (answer : Answer) → IsAnswerTo request outside answer → may_end request answer.status ≡ true
-request-ends (Pick dir main limits schedule counts) outside answer is = picked schedule limits main _ is.3.0 answer is.3.2
-request-ends (Load dir main) outside answer is = counted main _ is.3.0 answer is.3.2
+request-ends (Pick dir main limits schedule counts) outside answer is = picked schedule limits (encoded_text main) _ is.3.0 answer is.3.2
+request-ends (Load dir main) outside answer is = counted (encoded_text main) _ is.3.0 answer is.3.2
 request-ends Make outside answer is = made is.0 answer is.2
 request-ends Help outside answer is = ends-as is_done answer _ is refl
 request-ends Version outside answer is = ends-as is_done answer _ is refl
@@ -106,9 +131,98 @@ ends-write_fault (Some (Run dir main limits workers slice counts)) is = cc
 ends-write_fault (Some (Check dir main)) is = cc
 ends-write_fault (Some (Stress number)) is = cc
 
--- a fault of writing is that of a stream
-pub write-faults : (answer : Answer) (streams : Streams) (status : Status) → (answer.status ≡ statuses.WriteFault → ⊥) → Comes answer streams status → status ≡ statuses.WriteFault
-    → streams.out.failed ⊎ streams.err.failed
-write-faults answer streams status other =
-    let P : Status → Type 0 = λ s. s ≡ statuses.WriteFault → streams.out.failed ⊎ streams.err.failed in
-    comes P answer streams status (λ e. absurd (other e)) (λ failed _. inl failed) (λ failed _. inr failed) (λ e. absurd cc)
+ends-memory : (request : Option Request) → Ends request statuses.Memory → ⊥
+ends-memory None is = cc
+ends-memory (Some (Pick dir main limits schedule counts)) is = cc
+ends-memory (Some (Load dir main)) is = cc
+ends-memory (Some Make) is = cc
+ends-memory (Some Help) is = cc
+ends-memory (Some Version) is = cc
+ends-memory (Some (Trace dir main limits schedule)) is = cc
+ends-memory (Some (Run dir main limits workers slice counts)) is = cc
+ends-memory (Some (Check dir main)) is = cc
+ends-memory (Some (Stress number)) is = cc
+
+-- ---- which status comes of a run
+
+module _ (request : Option Request) (outside : Outside) (failed : Type 0) (streams : Streams) (status : Status) (reports : Reports request outside failed streams status) where
+  is_none : (other : Status) (P : Type 0) → (Ends request other → ⊥) → (answer : Answer) → IsAnswer request outside answer → answer.status ≡ other → P
+  is_none other P never answer of same = absurd (never (subst (Ends request) same (answer-ends request outside answer of)))
+
+  pub read-faults : status ≡ statuses.ReadFault ↔ (failed × ¬ FailsStream streams)
+  read-faults = (
+    reported (λ s. s ≡ statuses.ReadFault → failed × ¬ FailsStream streams) request outside failed streams status
+        (λ answer of _ _ _. is_none statuses.ReadFault _ (ends-read_fault request) answer of)
+        (λ fault out err _. (fault, neither streams out err))
+        (λ _ e. absurd cc)
+        (λ _ _ _ e. absurd cc)
+        reports,
+    reported (λ s. failed × ¬ FailsStream streams → s ≡ statuses.ReadFault) request outside failed streams status
+        (λ answer of calm _ _ fault. absurd (calm fault.0))
+        (λ _ _ _ _. refl)
+        (λ write fault. absurd (fault.1 write))
+        (λ calm _ _ fault. absurd (calm fault.0))
+        reports,
+  )
+
+  pub write-faults : status ≡ statuses.WriteFault ↔ FailsStream streams
+  write-faults = (
+    reported (λ s. s ≡ statuses.WriteFault → FailsStream streams) request outside failed streams status
+        (λ answer of _ _ _. is_none statuses.WriteFault _ (ends-write_fault request) answer of)
+        (λ _ _ _ e. absurd cc)
+        (λ fault _. fault)
+        (λ _ _ _ e. absurd cc)
+        reports,
+    reported (λ s. FailsStream streams → s ≡ statuses.WriteFault) request outside failed streams status
+        (λ answer of _ out err fault. absurd (neither streams out err fault))
+        (λ _ out err fault. absurd (neither streams out err fault))
+        (λ _ _. refl)
+        (λ _ out err fault. absurd (neither streams out err fault))
+        reports,
+  )
+
+  pub memory-ends : status ≡ statuses.Memory → ¬ failed × ¬ FailsStream streams
+  memory-ends = reported (λ s. s ≡ statuses.Memory → ¬ failed × ¬ FailsStream streams) request outside failed streams status
+      (λ answer of _ _ _. is_none statuses.Memory _ (ends-memory request) answer of)
+      (λ _ _ _ e. absurd cc)
+      (λ _ e. absurd cc)
+      (λ calm out err _. (calm, neither streams out err))
+      reports
+
+  pub calm-ends : ¬ failed → ¬ streams.out.failed → ¬ streams.err.failed → MayEnd request status
+  calm-ends calm out err = reported (MayEnd request) request outside failed streams status
+      (λ answer of _ _ _. inr (answer-ends request outside answer of))
+      (λ fault _ _. absurd (calm fault))
+      (λ fault. absurd (neither streams out err fault))
+      (λ _ _ _. inl refl)
+      reports
+
+-- what was decided is reported
+pub reports-told : (request : Option Request) (outside : Outside) (failed : Type 0) (streams : Streams) (status : Status) (decided : Result Answer Failure)
+    → IfOk decided (IsAnswer request outside) → OnOk decided (¬ failed) → (decided ≡ Err failure.Failed → failed) → (decided ≡ Err failure.NoMemory → ¬ failed)
+    → IsTold decided streams status → Reports request outside failed streams status
+reports-told request outside failed streams status (Ok answer) of calm cause memory told = inl (answer, of, calm, told)
+reports-told request outside failed streams status (Err failure.Failed) of calm cause memory told = inr (inl (cause refl, told))
+reports-told request outside failed streams status (Err failure.NoMemory) of calm cause memory told = inr (inr (memory refl, told))
+
+-- the folder and the input didn't fail where their counts are as they were
+pub unfailed : (request : Option Request) (folder folder_after input input_after : ℕ) → (folder_after ≡ folder) × (input_after ≡ input) → ¬ FailsAsked request (folder < folder_after) (input < input_after)
+unfailed request folder folder_after input input_after same (inl fault) = omega (arith, same.0, fault.1)
+unfailed request folder folder_after input input_after same (inr fault) = omega (arith, same.1, fault.1)
+
+pub OnOk-weaker : {T E : Type 0} (r : Result T E) (P Q : Type 0) → (P → Q) → OnOk r P → OnOk r Q
+OnOk-weaker (Ok x) P Q f p = f p
+OnOk-weaker (Err e) P Q f p = tt
+
+pub OnOk-left : {T E : Type 0} (r : Result T E) (P : Type 0) (n : ℕ) → OnOk r P → OnOk r (P × (n ≡ n))
+OnOk-left (Ok x) P n p = (p, refl)
+OnOk-left (Err e) P n p = tt
+
+pub OnOk-right : {T E : Type 0} (r : Result T E) (P : Type 0) (n : ℕ) → OnOk r P → OnOk r ((n ≡ n) × P)
+OnOk-right (Ok x) P n p = (refl, p)
+OnOk-right (Err e) P n p = tt
+
+-- neither count rose
+pub unasked : (request : Option Request) (folder input : Type 0) → ¬ folder → ¬ input → ¬ FailsAsked request folder input
+unasked request folder input none never (inl fault) = none fault.1
+unasked request folder input none never (inr fault) = never fault.1

@@ -71,12 +71,17 @@ pub record RefuseOnly (rules : Rules AcceptRefusal) (refusal : AcceptRefusal) : 
   pub only : (other : AcceptRefusal) → rules.Refuse other → other ≡ refusal
   pub broken : ¬ rules.Hold
 
+-- The files are a program that begins with a class, one and no other, and none of its rules is broken.
+pub record AreProgram (main : List ℕ) (files : List (List ℕ)) (program : Accepted) : Type 0 where
+  pub is : IsProgram files main program
+  pub only : (other : Accepted) → IsProgram files main other → other ≡ program
+  pub unbroken : (e : AcceptRefusal) → ¬ (program_rules files main).Refuse e
+
 -- The answer to class files of these names and bytes, one and no other: where they are a program, what holds of it; else the
 -- first rule that is broken.
 abbrev pub IsJudged : (ℕ → Accepted → Answer → Type 0) → List ℕ → List (List ℕ) → List (List ℕ) → Answer → Type 0
 IsJudged answers main names files answer =
-    ((program : Accepted) × IsProgram files main program × ((e : AcceptRefusal) → ¬ (program_rules files main).Refuse e)
-    × answers (length files) program answer)
+    ((program : Accepted) × AreProgram main files program × answers (length files) program answer)
     ⊎ (RefuseOnly (program_rules files main) NoMain × (answer ≡ no_main))
     ⊎ ((refusal : Refusal) × RefuseOnly (program_rules files main) (Refused refusal) × (answer ≡ refused names refusal))
 

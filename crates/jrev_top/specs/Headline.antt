@@ -1,16 +1,19 @@
 -- What a run of the program leaves on its streams, and what it touches.
-use Rattle.std.specs.Prelude.{◌≡◌, ◌≢◌, ◌⊎◌, ℕ, List, take, true, Option, None, Some, IfSome}
+use Rattle.std.specs.Prelude.{◌≡◌, ◌≢◌, ◌<◌, ◌⊎◌, ℕ, List, take, true, Option, None, Some, IfSome, Result, Ok, Err}
 use Rattle.jr_ports.specs.Folder.{File, Asked}
 use Rattle.jr_ports.specs.Stream.{Gains}
 use Rattle.class_make.specs.Texts.{front}
+use Rattle.encoded_texts.specs.Encoded.{encoded_text}
 use Rattle.command_words.specs.declared.request.Request.{Request}
 use Rattle.command_words.specs.declared.request.Request.TheVariants.{Pick, Load, Make, Help, Version}
 use Rattle.program_accept.specs.Accepted.{Accepted}
 use Rattle.program_answers.specs.declared.status.Status.{Status}
 use Rattle.program_answers.specs.declared.status.Status.TheVariants as statuses
 use Rattle.program_answers.specs.declared.answer.Answer.{Answer}
-use Rattle.program_answers.specs.Written.{Streams, Comes, IsReadFault, IsNoMemory}
+use Rattle.program_answers.specs.Written.{SinkRun, Streams, Comes, IsReadFault, IsNoMemory}
 use Rattle.jrev_top.specs.Answers.{usage, given, help_text, version_text, IsDecided, Counts, Runs, IsMade}
+use Rattle.jrev_top.specs.declared.failure.Failure.{Failure}
+use Rattle.jrev_top.specs.declared.failure.Failure.TheVariants.{Failed, NoMemory}
 use Rattle.jrev_top.specs.Touches.{folder_named, input_wanted, may_end}
 use Rattle.jrev_top.specs.Folder.{AreListed}
 
@@ -33,10 +36,10 @@ IsOfProgram answers dir main outside answer =
     (names : List (List ℕ)) × AreListed outside.asked outside.files dir names
     × Gains outside.before outside.after (take 1025 names) × IsDecided answers main outside.files (take 1025 names) answer
 
--- The answer to a request.
+-- The answer to a request. A class's name is compared in modified UTF-8.
 abbrev pub IsAnswerTo : Request → Outside → Answer → Type 0
-IsAnswerTo (Pick dir main limits schedule counts) outside answer = IsOfProgram (Runs schedule limits) dir main outside answer
-IsAnswerTo (Load dir main) outside answer = IsOfProgram Counts dir main outside answer
+IsAnswerTo (Pick dir main limits schedule counts) outside answer = IsOfProgram (Runs schedule limits) dir (encoded_text main) outside answer
+IsAnswerTo (Load dir main) outside answer = IsOfProgram Counts dir (encoded_text main) outside answer
 IsAnswerTo Make outside answer = (text : List ℕ) × IsText outside.input text × IsMade text answer
 IsAnswerTo Help outside answer = answer ≡ given help_text
 IsAnswerTo Version outside answer = answer ≡ given version_text
@@ -47,13 +50,27 @@ abbrev pub IsAnswer : Option Request → Outside → Answer → Type 0
 IsAnswer None outside answer = answer ≡ usage
 IsAnswer (Some request) outside answer = IsAnswerTo request outside answer
 
--- What is left on the streams: an answer, or that the folder or the input failed before it was known, or that there was
--- no memory for it.
+-- a sink that a call changes: what it was given before and behind it, and how often it had failed
+abbrev pub sink_run : Option (List (List ℕ)) → Option (List (List ℕ)) → ℕ → ℕ → SinkRun
+sink_run given_before given_after faults_before faults_after = record {
+  before = given_before;
+  after = given_after;
+  failed = faults_before < faults_after;
+}
+
+-- what is left of an answer that was decided, or of why there is none
+abbrev pub IsTold : Result Answer Failure → Streams → Status → Type 0
+IsTold (Ok answer) streams status = Comes answer streams status
+IsTold (Err Failed) streams status = IsReadFault streams status
+IsTold (Err NoMemory) streams status = IsNoMemory streams status
+
+-- What is left on the streams: an answer, before which nothing failed; or that the folder or the input failed before it was
+-- known; or that there was no memory for it, and nothing had failed.
 abbrev pub Reports : Option Request → Outside → Type 0 → Streams → Status → Type 0
 Reports request outside failed streams status =
-    ((answer : Answer) × IsAnswer request outside answer × Comes answer streams status)
+    ((answer : Answer) × IsAnswer request outside answer × ¬ failed × Comes answer streams status)
     ⊎ (failed × IsReadFault streams status)
-    ⊎ IsNoMemory streams status
+    ⊎ (¬ failed × IsNoMemory streams status)
 
 -- a folder was asked for nothing, or for the one that is named
 abbrev pub AsksOnly : Option Request → Option Asked → Type 0
@@ -64,6 +81,10 @@ AsksOnly request (Some asked) = folder_named request ≡ Some asked.dir
 abbrev pub FailsAsked : Option Request → Type 0 → Type 0 → Type 0
 FailsAsked request folder_failed input_failed =
     ((folder_named request ≢ None) × folder_failed) ⊎ ((input_wanted request ≢ None) × input_failed)
+
+-- a stream failed
+abbrev pub FailsStream : Streams → Type 0
+FailsStream streams = streams.out.failed ⊎ streams.err.failed
 
 -- how the answer to the words ends
 abbrev pub Ends : Option Request → Status → Type 0

@@ -1,6 +1,6 @@
 //! What the program answers to its words, before a byte of it is written.
 
-ghost use Rattle.std.specs.Prelude.{◌≡◌, ◌<◌, IfOk, IfSome, None};
+ghost use Rattle.std.specs.Prelude.{◌≡◌, ◌<◌, IfOk, OnOk, IfSome, None};
 ghost use Rattle.program_input.specs.Input.{TakesAtMost, TakesUpTo};
 ghost use Rattle.jrev_top.specs.Answers as answers;
 ghost use Rattle.jrev_top.specs.Folder.{ReadsInOrder};
@@ -31,7 +31,7 @@ fn text(alloc: Global, text: &str) -> Result<Answer, Failure>
 /// The answer to the words, over what the folder and the input give.
 ///
 /// # Errors
-/// `Failed` comes only where the count of faults of the folder that is asked, or of the input that is read, rose in
+/// `Failed` comes exactly where the count of faults of the folder that is asked, or of the input that is read, rose in
 /// this call.
 pub(crate) fn decide<D: ClassDir, I: Source>(
     alloc: Global,
@@ -50,6 +50,9 @@ pub(crate) fn decide<D: ClassDir, I: Source>(
         }) answer) }
     ensures cause { result ≡ Err Failure.Failed → FailsAsked (asked_by words.now)
         (D.faults classes.old < D.faults classes.new) (I.faults input.old < I.faults input.new) }
+    ensures ok_faults { OnOk result ((D.faults classes.new ≡ D.faults classes.old) × (I.faults input.new ≡ I.faults input.old)) }
+    ensures memory_faults { result ≡ Err Failure.NoMemory
+        → (D.faults classes.new ≡ D.faults classes.old) × (I.faults input.new ≡ I.faults input.old) }
     ensures asked { AsksOnly (asked_by words.now) (D.asked classes.new) }
     ensures order { ReadsInOrder (files_wanted (asked_by words.now)) (D.asked classes.new)
         (D.read_names classes.old) (D.read_names classes.new) }
@@ -74,10 +77,10 @@ pub(crate) fn decide<D: ClassDir, I: Source>(
                 schedule: &schedule,
                 limits: &limits,
             };
-            decide_program(alloc, dir.as_str(), main.as_bytes(), classes, &execution)
+            decide_program(alloc, dir.as_str(), main.as_str(), classes, &execution)
         }
         Ok(Request::Load { dir, main }) => {
-            decide_program(alloc, dir.as_str(), main.as_bytes(), classes, &Count)
+            decide_program(alloc, dir.as_str(), main.as_str(), classes, &Count)
         }
         Ok(Request::Make) => make(alloc, input),
         Ok(Request::Help) => text(alloc, help()),

@@ -18,7 +18,7 @@ pub enum Failure {
 }
 
 impl From<DirFault> for Failure {
-    ghost from_gives = { λ fault failure. failure ≡ Failed → fault ≡ folders.Failed };
+    ghost from_gives = { λ fault failure. (failure ≡ Failed → fault ≡ folders.Failed) × (failure ≡ NoMemory → fault ≡ folders.NoMemory) };
 
     fn from(fault: DirFault) -> Self {
         match fault {
@@ -29,7 +29,7 @@ impl From<DirFault> for Failure {
 }
 
 impl From<SourceFault> for Failure {
-    ghost from_gives = { λ fault failure. failure ≡ Failed → fault ≡ inputs.Failed };
+    ghost from_gives = { λ fault failure. (failure ≡ Failed → fault ≡ inputs.Failed) × (failure ≡ NoMemory → fault ≡ inputs.NoMemory) };
 
     fn from(fault: SourceFault) -> Self {
         match fault {
@@ -43,6 +43,14 @@ impl From<AllocError> for Failure {
     ghost from_gives = { λ _ failure. failure ≡ NoMemory };
 
     fn from(_error: AllocError) -> Self {
+        Failure::NoMemory
+    }
+}
+
+impl From<op_core::NoMemory> for Failure {
+    ghost from_gives = { λ _ failure. failure ≡ NoMemory };
+
+    fn from(_error: op_core::NoMemory) -> Self {
         Failure::NoMemory
     }
 }

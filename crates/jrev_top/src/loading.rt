@@ -1,14 +1,17 @@
 //! Commands over the program of a folder.
 
-ghost use Rattle.std.specs.Prelude.{◌≡◌, ◌<◌, List, ℕ, IfOk, IfSome, None, map, take, string_bytes};
+ghost use Rattle.std.specs.Prelude.{◌≡◌, ◌<◌, List, ℕ, IfOk, OnOk, IfSome, None, map, take, string_bytes};
 ghost use Rattle.jr_ports.specs.Stream.{Gains};
+ghost use Rattle.encoded_texts.specs.Encoded.{encoded_text};
 ghost use Rattle.jrev_top.specs.Answers.{IsJudged, IsDecided};
 ghost use Rattle.jrev_top.specs.Folder.{AreListed, ReadsInOrder};
 
 use crate::answers::{no_main, refused};
 use crate::failure::Failure;
 use crate::verdict::Verdict;
+use encoded_texts::encoded_text;
 use jr_ports::ClassDir;
+use op_core::NoMemory;
 use program_accept::{AcceptRefusal, accept};
 use program_answers::Answer;
 use program_input::{class_names, read_files};
@@ -17,24 +20,28 @@ use std::alloc::Global;
 /// How many class files are read at most: one more than a program has, so that too many are seen.
 const MOST_READ: usize = 1025;
 
-// The answer to class files of these names.
-fn judge<V: Verdict>(
+/// The answer to class files of these names and bytes, and to the name of a class, whose parts are joined by slashes: where
+/// they are a program that begins with that class, the verdict's, and else the first rule that they break.
+///
+/// # Errors
+/// It fails for want of memory alone.
+pub fn answer_to_files<V: Verdict>(
     alloc: Global,
     names: &[String],
     files: Vec<Vec<u8>>,
-    main: &[u8],
+    main: &str,
     verdict: &V,
-) -> Result<Answer, Failure>
-    ensures answer { IfOk result (λ answer.
-        IsJudged (V.answers verdict.now) main.now (map string_bytes names.now) (map (λ f. f.items) files.items) answer) }
-    ensures memory { result ≡ Err Failure.Failed → ⊥ }
+) -> Result<Answer, NoMemory>
+    ensures { IfOk result (λ answer.
+        IsJudged (V.answers verdict.now) (encoded_text main.now) (map string_bytes names.now) (map (λ f. f.items) files.items) answer) }
 {
     let count = files.len();
-    let program = match accept(alloc, files, main) {
+    let main = encoded_text(alloc, main)?;
+    let program = match accept(alloc, files, main.as_slice()) {
         Ok(program) => program,
         Err(AcceptRefusal::NoMain) => return Ok(no_main(alloc)?),
         Err(AcceptRefusal::Refused(refusal)) => return Ok(refused(alloc, names, refusal)?),
-        Err(AcceptRefusal::NoMemory) => return Err(Failure::NoMemory),
+        Err(AcceptRefusal::NoMemory) => return Err(NoMemory),
     };
     verdict.answer(alloc, count, &program)
 }
@@ -43,11 +50,11 @@ fn judge<V: Verdict>(
 /// judged.
 ///
 /// # Errors
-/// `Failed` comes only where the folder's count of faults rose in this call.
+/// `Failed` comes exactly where the folder's count of faults rose in this call.
 pub(crate) fn decide_program<D: ClassDir, V: Verdict>(
     alloc: Global,
     dir: &str,
-    main: &[u8],
+    main: &str,
     classes: &mut D,
     verdict: &V,
 ) -> Result<Answer, Failure>
@@ -55,14 +62,16 @@ pub(crate) fn decide_program<D: ClassDir, V: Verdict>(
     ensures answer { IfOk result (λ answer. (names : List (List ℕ))
         × AreListed (D.asked classes.new) (D.contents classes.old) dir.now names
         × Gains (D.read_names classes.old) (D.read_names classes.new) (take 1025 names)
-        × IsDecided (V.answers verdict.now) main.now (D.contents classes.old) (take 1025 names) answer) }
+        × IsDecided (V.answers verdict.now) (encoded_text main.now) (D.contents classes.old) (take 1025 names) answer) }
     ensures cause { result ≡ Err Failure.Failed → D.faults classes.old < D.faults classes.new }
+    ensures ok_faults { OnOk result (D.faults classes.new ≡ D.faults classes.old) }
+    ensures memory_faults { result ≡ Err Failure.NoMemory → D.faults classes.new ≡ D.faults classes.old }
     ensures asked { IfSome (D.asked classes.new) (λ asked. asked.dir ≡ dir.now) }
     ensures order { ReadsInOrder 1025 (D.asked classes.new) (D.read_names classes.old) (D.read_names classes.new) }
 {
     let mut names = class_names(alloc, classes, dir)?;
     names.truncate(MOST_READ);
     let files = read_files(alloc, classes, dir, names.as_slice())?;
-    let answer = judge(alloc, names.as_slice(), files, main, verdict)?;
+    let answer = answer_to_files(alloc, names.as_slice(), files, main, verdict)?;
     Ok(answer)
 }

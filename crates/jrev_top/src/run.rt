@@ -1,15 +1,15 @@
 //! The top call: everything between the words of the command line and the exit status.
 
-ghost use Rattle.std.specs.Prelude.{◌≡◌, ◌<◌, ◌⊎◌, IfSome, None};
+ghost use Rattle.std.specs.Prelude.{◌≡◌, ◌<◌, ◌⊎◌, ◌↔◌, IfSome, None};
 ghost use Rattle.program_input.specs.Input.{TakesAtMost, TakesUpTo};
 ghost use Rattle.jrev_top.specs.Folder.{ReadsInOrder};
 ghost use Rattle.jrev_top.specs.Touches.{asked_by, files_wanted, folder_named, input_wanted};
-ghost use Rattle.jrev_top.specs.Headline.{AsksOnly, FailsAsked, MayEnd, Reports};
+ghost use Rattle.jrev_top.specs.Headline.{AsksOnly, FailsAsked, MayEnd, Reports, sink_run};
 
 use crate::deciding::decide;
-use crate::failure::Failure;
+use crate::telling::tell;
 use jr_ports::{ClassDir, Gate, Sink, Source};
-use program_answers::{Status, report, say};
+use program_answers::Status;
 use std::alloc::Global;
 use std::thread::Threads;
 
@@ -22,9 +22,9 @@ use std::thread::Threads;
 /// - `Done`, `Usage`, `Refused`, `NoMain` and `MakeRefused` come exactly where the words, the files and the text say
 ///   so; under `pick` `Done` and `Died` where all threads have ended, normally or one by an exception, `Stuck` where no
 ///   thread can go on, `Limit` where the next turn meets a limit;
-/// - `ReadFault` only where the count of faults of `classes` rose in this call, or under `make` that of `input`;
-///   `WriteFault` only where that of `out` or of `err` did;
-/// - `Memory` may come anywhere.
+/// - `WriteFault` comes exactly where the count of faults of `out` or of `err` rose in this call, and `ReadFault` exactly
+///   where neither did and that of `classes` rose, or under `make` that of `input`;
+/// - `Memory` may come anywhere, but not where one of these counts rose.
 ///
 /// `out` is written before `err`. After a fault or want of memory `out` was given a part of the answer, from its
 /// front, and `err` the line of that failure alone, or a part of it. `classes` is asked for DIR alone; all files that an
@@ -54,18 +54,24 @@ pub fn jrev<R: Threads + Sync, D: ClassDir, I: Source, O: Sink, E: Sink, G: Gate
         (FailsAsked (asked_by words.now)
         (D.faults classes.old < D.faults classes.new) (I.faults input.old < I.faults input.new))
         (record {
-          out = record { before = O.given out.old; after = O.given out.new; failed = O.faults out.old < O.faults out.new };
-          err = record { before = E.given err.old; after = E.given err.new; failed = E.faults err.old < E.faults err.new };
+          out = sink_run (O.given out.old) (O.given out.new) (O.faults out.old) (O.faults out.new);
+          err = sink_run (E.given err.old) (E.given err.new) (E.faults err.old) (E.faults err.new);
         }) result }
 
     // Where no count of faults rose, the status is one of the answer, or that of want of memory.
     ensures complete { (D.faults classes.old < D.faults classes.new → ⊥) → (I.faults input.old < I.faults input.new → ⊥)
         → (O.faults out.old < O.faults out.new → ⊥) → (E.faults err.old < E.faults err.new → ⊥)
         → MayEnd (asked_by words.now) result }
-    ensures read_fault { result ≡ Status.ReadFault → FailsAsked (asked_by words.now)
-        (D.faults classes.old < D.faults classes.new) (I.faults input.old < I.faults input.new) }
+
+    // A fault that came is told: that of a stream, or else that of the folder or the input.
+    ensures read_fault { result ≡ Status.ReadFault ↔ (FailsAsked (asked_by words.now)
+        (D.faults classes.old < D.faults classes.new) (I.faults input.old < I.faults input.new)
+        × ¬ ((O.faults out.old < O.faults out.new) ⊎ (E.faults err.old < E.faults err.new))) }
     ensures write_fault { result ≡ Status.WriteFault
-        → (O.faults out.old < O.faults out.new) ⊎ (E.faults err.old < E.faults err.new) }
+        ↔ ((O.faults out.old < O.faults out.new) ⊎ (E.faults err.old < E.faults err.new)) }
+    ensures no_memory { result ≡ Status.Memory → ¬ (FailsAsked (asked_by words.now)
+        (D.faults classes.old < D.faults classes.new) (I.faults input.old < I.faults input.new))
+        × ¬ ((O.faults out.old < O.faults out.new) ⊎ (E.faults err.old < E.faults err.new)) }
 
     // The folder is asked for the one that is named, and the first of its class files are read, in order.
     ensures asked { AsksOnly (asked_by words.now) (D.asked classes.new) }
@@ -80,9 +86,6 @@ pub fn jrev<R: Threads + Sync, D: ClassDir, I: Source, O: Sink, E: Sink, G: Gate
     ensures calls { IfSome (input_wanted (asked_by words.now))
         (λ most. TakesUpTo most (I.taken input.old) (I.taken input.new)) }
 {
-    match decide(alloc, words, classes, input) {
-        Ok(answer) => report(&answer, out, err),
-        Err(Failure::Failed) => say(err, b"read fault\n", Status::ReadFault),
-        Err(Failure::NoMemory) => say(err, b"no memory\n", Status::Memory),
-    }
+    let decided = decide(alloc, words, classes, input);
+    tell(decided, out, err)
 }

@@ -1,9 +1,8 @@
 //! What is answered to a program that is accepted.
 
-ghost use Rattle.std.specs.Prelude.{◌≡◌, IfOk, Err};
+ghost use Rattle.std.specs.Prelude.{IfOk};
 
 use crate::answers::accepted;
-use crate::failure::Failure;
 use java_run::execute;
 use java_world::JavaWorld;
 use op_core::{Limits, NoMemory};
@@ -13,38 +12,36 @@ use schedules::Schedule;
 use std::alloc::Global;
 
 /// What is answered to a program that is accepted.
-pub(crate) trait Verdict {
-    ghost use Rattle.std.specs.Prelude.{◌≡◌, ℕ, IfOk, Err};
+pub trait Verdict {
+    ghost use Rattle.std.specs.Prelude.{ℕ, IfOk};
     ghost use Rattle.program_accept.specs.Accepted.{Accepted};
     ghost use Rattle.program_answers.specs.declared.answer.Answer.{Answer};
-    ghost use Rattle.jrev_top.specs.declared.failure.Failure.{Failure};
 
     /// What holds of the answer to a program of so many classes.
     ghost answers: { Self → ℕ → Accepted → Answer → Type 0 };
 
-    /// The answer to a program of so many classes.
-    fn answer(&self, alloc: Global, count: usize, accepted: &Program) -> Result<Answer, Failure>
-        ensures answer { IfOk result (λ answer. answers self.now count accepted.now answer) }
-        ensures memory { result ≡ Err Failure.Failed → ⊥ };
+    /// The answer to a program of so many classes. It fails for want of memory alone.
+    fn answer(&self, alloc: Global, count: usize, accepted: &Program) -> Result<Answer, NoMemory>
+        ensures { IfOk result (λ answer. answers self.now count accepted.now answer) };
 }
 
 /// How many classes were read.
 #[derive(Clone, Copy)]
-pub(crate) struct Count;
+pub struct Count;
 
 impl Verdict for Count {
     ghost use Rattle.jrev_top.specs.Answers.{Counts};
 
     ghost answers = { λ _. Counts };
 
-    fn answer(&self, alloc: Global, count: usize, _accepted: &Program) -> Result<Answer, Failure> {
+    fn answer(&self, alloc: Global, count: usize, _accepted: &Program) -> Result<Answer, NoMemory> {
         Ok(accepted(alloc, count)?)
     }
 }
 
 /// A run of the program by a schedule and under limits.
 #[derive(Clone, Copy)]
-pub(crate) struct Execution<'a> {
+pub struct Execution<'a> {
     pub schedule: &'a Schedule,
     pub limits: &'a Limits,
 }
@@ -54,18 +51,15 @@ impl<'a> Verdict for Execution<'a> {
 
     ghost answers = { λ e. Runs e.schedule.now e.limits.now };
 
-    fn answer(&self, alloc: Global, _count: usize, accepted: &Program) -> Result<Answer, Failure> {
+    fn answer(&self, alloc: Global, _count: usize, accepted: &Program) -> Result<Answer, NoMemory> {
         let program = JavaWorld::new(alloc, accepted)?;
-        match execute(
+        execute(
             alloc,
             accepted.world(),
             &program,
             accepted.main(),
             self.schedule,
             self.limits,
-        ) {
-            Ok(answer) => Ok(answer),
-            Err(NoMemory) => Err(Failure::NoMemory),
-        }
+        )
     }
 }

@@ -86,3 +86,8 @@ pub record IsProgramOf (us : List ClassUnit) (name : List ℕ) (program : Accept
 pub record IsProgram (files : List (List ℕ)) (name : List ℕ) (program : Accepted) : Type 0 where
   pub units : AreUnitsOf files program.units
   pub is : IsProgramOf program.units name program
+
+-- .. and no other one is
+pub record IsOnlyProgram (files : List (List ℕ)) (name : List ℕ) (program : Accepted) : Type 0 where
+  pub is : IsProgram files name program
+  pub only : (other : Accepted) → IsProgram files name other → other ≡ program

@@ -6,7 +6,7 @@ ghost use Rattle.link_rules.specs.Units.{AreUnits};
 ghost use Rattle.type_rules.specs.VerifyRules.{verify_rules};
 ghost use Rattle.program_accept.specs.declared.refusal.AcceptRefusal.{AcceptRefusal};
 ghost use Rattle.program_accept.specs.declared.refusal.AcceptRefusal.TheVariants.{NoMemory};
-ghost use Rattle.program_accept.specs.Accepted.{IsProgram, IsProgramOf, program_rules, unit_rules, told};
+ghost use Rattle.program_accept.specs.Accepted.{Accepted, IsProgram, IsOnlyProgram, IsProgramOf, program_rules, unit_rules, told};
 ghost use Rattle.program_accept.specs.Answers.{Decides, IsRefused};
 ghost use Rattle.program_accept.specs.Refusals as refusals;
 
@@ -94,7 +94,7 @@ fn accept_units(alloc: Global, units: Vec<ClassUnit>, main: &[u8]) -> Result<Pro
 }
 
 fn accept_files(alloc: Global, files: Vec<Vec<u8>>, main: &[u8]) -> Result<Program, AcceptRefusal>
-    ensures { Decides result (program_rules (map (λ f. f.items) files.items) main.now) (λ p. IsProgram (map (λ f. f.items) files.items) main.now p) }
+    ensures { Decides result (program_rules (map (λ f. f.items) files.items) main.now) (λ p. IsOnlyProgram (map (λ f. f.items) files.items) main.now p) }
 {
     if files.len() > MOST_FILES {
         return Err(too_many());
@@ -123,6 +123,8 @@ fn accept_files(alloc: Global, files: Vec<Vec<u8>>, main: &[u8]) -> Result<Progr
 pub fn accept(alloc: Global, files: Vec<Vec<u8>>, main: &[u8]) -> Result<Program, AcceptRefusal>
     // What is accepted is the program of the files.
     ensures accepted { IfOk result (λ p. IsProgram (map (λ f. f.items) files.items) main.now p) }
+    // They are no other program.
+    ensures alone { IfOk result (λ p. (other : Accepted) → IsProgram (map (λ f. f.items) files.items) main.now other → other ≡ p) }
     // Where all rules hold it is accepted, unless memory runs out.
     ensures only { (program_rules (map (λ f. f.items) files.items) main.now).Hold → IfErr result (λ e. e ≡ NoMemory) }
     // What is refused is the first rule that is broken.

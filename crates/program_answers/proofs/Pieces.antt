@@ -6,7 +6,7 @@ use Rattle.jr_ports.proofs.Gained.{Gains-then}
 -- what is begun of a piece alone is begun of it before others
 begun-more : (begun : List (List ℕ)) (piece : List ℕ) (others : List (List ℕ)) → IsBegun begun (piece ∷ []) → IsBegun begun (piece ∷ others)
 begun-more [] piece others is = tt
-begun-more (b ∷ []) piece others (inl is) = inl (is.0, tt)
+begun-more (b ∷ []) piece others (inl is) = absurd is.1
 begun-more (b ∷ c ∷ begun) piece others (inl is) = absurd is.1
 begun-more (b ∷ begun) piece others (inr is) = inr is
 

@@ -7,4 +7,4 @@ mod writing;
 
 pub use answer::Answer;
 pub use status::Status;
-pub use writing::{report, say};
+pub use writing::{report, say, say_fault};

@@ -1,8 +1,8 @@
 //! Writing what the program answers.
 
-ghost use Rattle.std.specs.Prelude.{◌≡◌, ◌≢◌, ◌<◌, ◌≤◌, [], ◌∷◌, OnOk, OnErr};
+ghost use Rattle.std.specs.Prelude.{◌≡◌, ◌<◌, [], ◌∷◌, OnOk, OnErr};
 ghost use Rattle.jr_ports.specs.Stream.{Gains, GainsPart};
-ghost use Rattle.program_answers.specs.Written.{Comes, Said};
+ghost use Rattle.program_answers.specs.Written.{Comes, EndsOr, Said};
 
 use crate::answer::Answer;
 use crate::status::Status;
@@ -13,9 +13,9 @@ use rows::Bytes;
 fn put_all<S: Sink>(pieces: &[Bytes], sink: &mut S) -> Result<(), SinkFault>
     ensures ok { OnOk result (Gains (S.given sink.old) (S.given sink.new) pieces.now) }
     ensures err { OnErr result (GainsPart (S.given sink.old) (S.given sink.new) pieces.now) }
-    ensures some { OnErr result (pieces.now ≢ []) }
     ensures cause { result ≡ Err SinkFault.Failed → S.faults sink.old < S.faults sink.new }
-    ensures faults { S.faults sink.old ≤ S.faults sink.new }
+    ensures ok_faults { OnOk result (S.faults sink.new ≡ S.faults sink.old) }
+    ensures memory_faults { result ≡ Err SinkFault.NoMemory → S.faults sink.new ≡ S.faults sink.old }
 {
     for piece in pieces {
         sink.put(piece.as_slice())?;
@@ -32,6 +32,17 @@ pub fn say<E: Sink>(err: &mut E, line: &[u8], meant: Status) -> Status
         Ok(()) => meant,
         Err(SinkFault::Failed) => Status::WriteFault,
         Err(SinkFault::NoMemory) => Status::Memory,
+    }
+}
+
+/// Writes the line of a fault to the standard error, and ends with the fault's status, also without memory for the line; or
+/// with that of a fault of the standard error.
+pub fn say_fault<E: Sink>(err: &mut E, line: &[u8], fault: Status) -> Status
+    ensures { EndsOr fault (line.now ∷ []) fault (record { before = E.given err.old; after = E.given err.new; failed = E.faults err.old < E.faults err.new }) result }
+{
+    match err.put(line) {
+        Ok(()) | Err(SinkFault::NoMemory) => fault,
+        Err(SinkFault::Failed) => Status::WriteFault,
     }
 }
 
@@ -56,7 +67,7 @@ pub fn report<O: Sink, E: Sink>(answer: &Answer, out: &mut O, err: &mut E) -> St
 {
     match put_all(answer.out.as_slice(), out) {
         Ok(()) => say_all(err, answer.err.as_slice(), answer.status),
-        Err(SinkFault::Failed) => say(err, b"write fault\n", Status::WriteFault),
+        Err(SinkFault::Failed) => say_fault(err, b"write fault\n", Status::WriteFault),
         Err(SinkFault::NoMemory) => say(err, b"no memory\n", Status::Memory),
     }
 }

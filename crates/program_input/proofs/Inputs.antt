@@ -66,11 +66,11 @@ most_read (Some all) now bytes most so_far few enough =
     so_far.2.front ∙ ap (λ (k : ℕ). take k all) full
 
 -- what the loop keeps
-pub record Reads (told now : Option (List ℕ)) (told_calls calls : Option (List Taken)) (bytes : List ℕ) (most faults_before faults : ℕ) : Type 0 where
+pub record Reads (told now : Option (List ℕ)) (told_calls calls : Option (List Taken)) (bytes : List ℕ) (most faults_before faults_now : ℕ) : Type 0 where
   pub so_far : ReadSoFar told now bytes
   pub called : CalledSoFar told_calls calls most (most - length bytes)
   pub few : length bytes ≤ most
-  pub rise : faults_before ≤ faults
+  pub faults : faults_now ≡ faults_before
 
 -- no more was taken than was read
 pub taken : (told now : Option (List ℕ)) (bytes : List ℕ) (most : ℕ) → ReadSoFar told now bytes → length bytes ≤ most → TakesAtMost most told now

@@ -1,6 +1,6 @@
 //! Reading the class files of a folder.
 
-ghost use Rattle.std.specs.Prelude.{◌≡◌, ◌<◌, ◌≤◌, List, ℕ, IfOk, IfSome, None, Some, filter, map, string_bytes};
+ghost use Rattle.std.specs.Prelude.{◌≡◌, ◌<◌, List, ℕ, IfOk, OnOk, IfSome, None, Some, filter, map, string_bytes};
 ghost use Rattle.std.specs.List.{All};
 ghost use Rattle.std.specs.List.Sorted.{IsPermutation, IsSorted};
 ghost use Rattle.std.specs.Cmp.Lexicographic.{slice_cmp};
@@ -50,7 +50,7 @@ fn chosen_names(alloc: Global, names: &[String]) -> Result<Vec<String>, AllocErr
 /// the order of their bytes. Reads no file.
 ///
 /// # Errors
-/// `Failed` comes only where the folder's count of faults rose in this call.
+/// `Failed` comes exactly where the folder's count of faults rose in this call.
 pub fn class_names<D: ClassDir>(
     alloc: Global,
     classes: &mut D,
@@ -62,7 +62,8 @@ pub fn class_names<D: ClassDir>(
     ensures listed { IfOk result (λ sorted. All (λ name. IsListed (D.asked classes.new) dir.now (string_bytes name)) sorted.items) }
     ensures cause { result ≡ Err DirFault.Failed → D.faults classes.old < D.faults classes.new }
     ensures asked { IfSome (D.asked classes.new) (λ asked. asked.dir ≡ dir.now) }
-    ensures faults { D.faults classes.old ≤ D.faults classes.new }
+    ensures ok_faults { OnOk result (D.faults classes.new ≡ D.faults classes.old) }
+    ensures memory_faults { result ≡ Err DirFault.NoMemory → D.faults classes.new ≡ D.faults classes.old }
     ensures contents { D.contents classes.new ≡ D.contents classes.old }
     ensures read { D.read_names classes.new ≡ D.read_names classes.old }
 {
@@ -74,7 +75,7 @@ pub fn class_names<D: ClassDir>(
 /// Reads files of the folder that was asked for, in the order of these names, all of them or up to the first that fails.
 ///
 /// # Errors
-/// `Failed` comes only where the folder's count of faults rose in this call. After an error the first of the files were
+/// `Failed` comes exactly where the folder's count of faults rose in this call. After an error the first of the files were
 /// read.
 pub fn read_files<D: ClassDir>(
     alloc: Global,
@@ -86,7 +87,8 @@ pub fn read_files<D: ClassDir>(
     ensures read { IfOk result (λ files. AreRead (D.contents classes.old) (map string_bytes names.now) (map (λ f. f.items) files.items)) }
     ensures cause { result ≡ Err DirFault.Failed → D.faults classes.old < D.faults classes.new }
     ensures asked { D.asked classes.new ≡ D.asked classes.old }
-    ensures faults { D.faults classes.old ≤ D.faults classes.new }
+    ensures ok_faults { OnOk result (D.faults classes.new ≡ D.faults classes.old) }
+    ensures memory_faults { result ≡ Err DirFault.NoMemory → D.faults classes.new ≡ D.faults classes.old }
     ensures contents { D.contents classes.new ≡ D.contents classes.old }
     ensures whole { IfOk result (λ _. Gains (D.read_names classes.old) (D.read_names classes.new) (map string_bytes names.now)) }
     ensures front { ReadsFront (map string_bytes names.now) (D.read_names classes.old) (D.read_names classes.new) }

@@ -1,6 +1,6 @@
 //! Reading the standard input.
 
-ghost use Rattle.std.specs.Prelude.{◌≡◌, ◌<◌, ◌≤◌, IfOk, IfSome, take};
+ghost use Rattle.std.specs.Prelude.{◌≡◌, ◌<◌, IfOk, IfSome, OnOk, take};
 ghost use Rattle.program_input.specs.Input.{TakesAtMost, TakesUpTo};
 
 use jr_ports::{Source, SourceFault};
@@ -20,7 +20,8 @@ pub fn read_up_to<I: Source>(
     ensures taken { TakesAtMost most (I.left input.old) (I.left input.new) }
     ensures calls { TakesUpTo most (I.taken input.old) (I.taken input.new) }
     ensures cause { result ≡ Err SourceFault.Failed → I.faults input.old < I.faults input.new }
-    ensures faults { I.faults input.old ≤ I.faults input.new }
+    ensures ok_faults { OnOk result (I.faults input.new ≡ I.faults input.old) }
+    ensures memory_faults { result ≡ Err SourceFault.NoMemory → I.faults input.new ≡ I.faults input.old }
 {
     let mut bytes = Vec::new(alloc);
     'pieces: while bytes.len() < most {

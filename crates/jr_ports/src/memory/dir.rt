@@ -101,7 +101,7 @@ impl MemDir {
         ensures asked { (self.new.dir ≡ self.old.dir) × (self.new.gave ≡ self.old.gave) }
         ensures read { self.new.read ≡ self.old.read }
         ensures cause { result ≡ DirFault.Failed → self.old.calls.faults < self.new.calls.faults }
-        ensures faults { self.old.calls.faults ≤ self.new.calls.faults }
+        ensures memory { result ≡ DirFault.NoMemory → self.new.calls.faults ≡ self.old.calls.faults }
     {
         match self.calls.refuse() {
             Refusal::Failed => DirFault::Failed,

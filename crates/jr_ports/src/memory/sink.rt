@@ -38,7 +38,7 @@ impl MemSink {
     fn refuse(&mut self) -> SinkFault
         ensures taken { self.new.taken ≡ self.old.taken }
         ensures cause { result ≡ SinkFault.Failed → self.old.calls.faults < self.new.calls.faults }
-        ensures faults { self.old.calls.faults ≤ self.new.calls.faults }
+        ensures memory { result ≡ SinkFault.NoMemory → self.new.calls.faults ≡ self.old.calls.faults }
     {
         match self.calls.refuse() {
             Refusal::Failed => SinkFault::Failed,

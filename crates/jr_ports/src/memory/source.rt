@@ -37,7 +37,7 @@ impl MemSource {
         ensures bytes { self.new.bytes ≡ self.old.bytes }
         ensures taken { (self.new.taken ≡ self.old.taken) × (self.new.takes ≡ self.old.takes) }
         ensures cause { result ≡ SourceFault.Failed → self.old.calls.faults < self.new.calls.faults }
-        ensures faults { self.old.calls.faults ≤ self.new.calls.faults }
+        ensures memory { result ≡ SourceFault.NoMemory → self.new.calls.faults ≡ self.old.calls.faults }
     {
         match self.calls.refuse() {
             Refusal::Failed => SourceFault::Failed,

@@ -1,4 +1,5 @@
 use Rattle.std.proofs.Common.{◌∙◌}
+use Rattle.encoded_texts.specs.Encoded.{encoded_text}
 use Rattle.jrev_top.proofs.Found.{order-loaded}
 use Rattle.jrev_top.proofs.Answered.{loaded}
 use Rattle.jrev_top.proofs.loading.decide_program.Goals as goal
@@ -10,9 +11,9 @@ returns-in_err-files-clause-order g c =
 
 pub returns-clause-answer : goal.returns-clause-answer
 returns-clause-answer g c =
-    loaded (g.V.Verdict.answers c.args.verdict.now) _ _ (g.D.ClassDir.contents c.args.classes.now) _ _ _ _ c.args.dir.now c.args.main.now c.in_ok-names.names.items c.as_slice.result.now c.as_slice-2.result.now _ _
+    loaded (g.V.Verdict.answers c.args.verdict.now) _ _ (g.D.ClassDir.contents c.args.classes.now) _ _ _ _ c.args.dir.now (encoded_text c.args.main.now) c.in_ok-names.names.items c.as_slice.result.now c.as_slice-2.result.now _ _
     c.in_ok-names.ensures.names c.in_ok-files.ensures.asked c.in_ok-names.ensures.contents c.in_ok-names.ensures.read (c.as_slice.ensures.value ∙ c.truncate.ensures.items) (c.as_slice-2.ensures.value ∙ c.truncate.ensures.items)
-    c.in_ok-files.ensures.read c.in_ok-files.ensures.whole c.in_ok-answer.ensures.answer
+    c.in_ok-files.ensures.read c.in_ok-files.ensures.whole c.in_ok-answer.ensures
 
 pub returns-clause-order : goal.returns-clause-order
 returns-clause-order g c =

@@ -1,4 +1,4 @@
-use Rattle.std.proofs.Common.{◌+◌, ◌∙◌, sym, arith}
+use Rattle.std.proofs.Common.{◌+◌, ◌∙◌, sym}
 use Rattle.std.proofs.lemmas.List.{map-append}
 use Rattle.jr_ports.proofs.Gained.{Gains-then}
 use Rattle.program_input.proofs.Names.{AreRead-more, Gains-front, Gains-same, names-more, read-same}
@@ -27,6 +27,6 @@ loop-name-preserved g c =
       read = rw (more, c.in_ok-push.ensures.items, map-append, sym c.as_str.ensures.value) (AreRead-more _ _ _ _ _ c.loop-name.invariant.read told);
       asked = c.in_ok-read.ensures.asked ∙ c.loop-name.invariant.asked;
       contents = c.in_ok-read.ensures.contents ∙ c.loop-name.invariant.contents;
-      faults = omega (arith, c.in_ok-read.ensures.faults, c.loop-name.invariant.faults);
+      faults = c.in_ok-read.ensures.ok_faults ∙ c.loop-name.invariant.faults;
       front = rw (more, sym c.as_str.ensures.value) (Gains-then _ _ _ _ _ c.loop-name.invariant.front c.in_ok-read.ensures.read);
     }

@@ -24,7 +24,7 @@ pieces-preserved g c =
       so_far = rw grown (more_read _ _ _ bytes piece c.pieces.invariant.so_far c.in_ok-piece.ensures.next);
       called = missing_after _ _ c.args.most (length bytes) (length piece) _ size (called_more _ _ _ c.args.most (c.args.most - length bytes) _ (length piece) c.pieces.invariant.called missing asked some c.in_ok-piece.ensures.taken);
       few = let fewer = c.min-asked.ensures in let least = min-le_left (c.args.most - c.len-in-pieces.result) 65536 in let most = c.in_ok-piece.ensures.most in omega arith;
-      rise = omega (arith, c.take.ensures.faults, c.pieces.invariant.rise);
+      faults = c.in_ok-piece.ensures.ok_faults ∙ c.pieces.invariant.faults;
     }
 
 pub returns-in_err-piece-clause-calls : goal.returns-in_err-piece-clause-calls

@@ -1,0 +1,17 @@
+-- A request has one answer over what a folder and an input hold.
+use Rattle.std.specs.Prelude.{◌≡◌, ℕ, List, Option, Some}
+use Rattle.jr_ports.specs.Folder.{File, AreDifferent, names_of}
+use Rattle.command_words.specs.declared.request.Request.{Request}
+use Rattle.program_answers.specs.declared.answer.Answer.{Answer}
+use Rattle.jrev_top.specs.Headline.{Outside, IsAnswer}
+
+-- the folder tells that it holds these files, and the input these bytes
+pub record Tells (files : List File) (input : List ℕ) (outside : Outside) : Type 0 where
+  pub told_files : outside.files ≡ Some files
+  pub told_input : outside.input ≡ Some input
+
+-- Two answers to one request over the same files, whose names differ, and the same input are the same, in whatever order the
+-- folder gave its names, and whatever was read of it before.
+abbrev pub RequestsHaveOneAnswer : Type 0
+RequestsHaveOneAnswer = (request : Option Request) (files : List File) (input : List ℕ) (outside another : Outside) (answer other : Answer) → AreDifferent (names_of files)
+    → Tells files input outside → Tells files input another → IsAnswer request outside answer → IsAnswer request another other → other ≡ answer
