@@ -20,7 +20,7 @@ use Rattle.section_laws.proofs.DeedLemmas.{CanRevoke}
 use Rattle.section_laws.proofs.ClaimLemmas.{none_some}
 use Rattle.section_laws.proofs.FactLemmas.{breaks}
 use Rattle.own_sections.proofs.WordLemmas.{depth_low, pinned_says, revoked_says}
-use Rattle.own_sections.proofs.DeedLemmas.{View, own_of, opening_of, IsTouch, Touch, stays, pinned_to, revoked, Deed, plain, goes_on, sees_revoked, sees_pinned, pins_own, undoes, touches, opens, opens_level, commits, closes_levels, ends_section}
+use Rattle.own_sections.proofs.ViewLemmas.{View, own_of, opening_of, IsTouch, Touch, stays, pinned_to, revoked, Deed, plain, goes_on, sees_revoked, sees_pinned, pins_own, undoes, touches, opens, opens_level, commits, closes_levels, ends_section}
 use Rattle.own_sections.proofs.OwnLemmas.{Own, elsewhere_stays}
 use Rattle.section_levels.specs.Levels.{revoked_by}
 use Rattle.section_levels.proofs.TurnLemmas.{Turn, calm_turn, word_of, pinned_as, zero_or_some, closed_word, open_word, open_pin, unrevoked, turned}

@@ -29,7 +29,7 @@ use Rattle.section_laws.proofs.ClaimLemmas.{none_some}
 use Rattle.section_laws.proofs.FactLemmas.{each}
 use Rattle.section_laws.proofs.RunLemmas.{get_some, act_at, along, Known, facts_at}
 use Rattle.section_laws.proofs.SectionLemmas.{sections_apart}
-use Rattle.own_sections.proofs.DeedLemmas.{view}
+use Rattle.own_sections.proofs.ViewLemmas.{view}
 use Rattle.own_sections.proofs.OwnLemmas.{Own, is_some}
 use Rattle.own_sections.proofs.SeenLemmas.{undoing_seen}
 use Rattle.own_sections.proofs.MoveLemmas.{bits_at, deed_here, unopened, own_at}

@@ -16,7 +16,7 @@ use Rattle.level_runs.specs.LevelRun.{LevelAct, calm, opens_one, closes_all_but,
 use Rattle.section_laws.proofs.WordLemmas.{exchanged, put_section}
 use Rattle.section_laws.proofs.ClaimLemmas.{none_some}
 use Rattle.own_sections.proofs.WordLemmas.{packed, pinned_says, deep_says, opened_says, committed_says, goes_on_says}
-use Rattle.own_sections.proofs.DeedLemmas.{View, own_of, opening_of, Deed, plain, goes_on, sees_revoked, sees_pinned, pins_own, undoes, touches, opens, opens_level, commits, closes_levels, ends_section}
+use Rattle.own_sections.proofs.ViewLemmas.{View, own_of, opening_of, Deed, plain, goes_on, sees_revoked, sees_pinned, pins_own, undoes, touches, opens, opens_level, commits, closes_levels, ends_section}
 use Rattle.own_sections.proofs.OwnLemmas.{Bits, OwnSays, Own, elsewhere_stays, own_packed, swapped, pin_low}
 use Rattle.section_levels.specs.Levels.{revoked_by}
 use Rattle.section_levels.proofs.RowLemmas.{IsOpening, LevelsGo, goes_out, goes_in, outermost_all}
