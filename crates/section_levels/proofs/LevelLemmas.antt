@@ -30,7 +30,7 @@ use Rattle.own_sections.proofs.WordLemmas.{depth_low, revoked_says}
 use Rattle.section_levels.specs.Levels.{IsLevelledRun, word_in, revoked_by, pinned_in, core_at, levels_in, revoked_in, depth_in, RunsInLevels, ThreadsRunInLevels, DoomedLevelsAreUnpinned}
 use Rattle.section_levels.proofs.RowLemmas.{LevelsGo, goes_out, goes_in}
 use Rattle.section_levels.proofs.TurnLemmas.{Between, calm_turn, unrevoked, turned}
-use Rattle.section_levels.proofs.RunLemmas.{TurnTo, Revokes, Counted, counted_at, turn_at, is_run, no_levels, goes, own_levels, other_levels, kept_there}
+use Rattle.section_levels.proofs.RunLemmas.{TurnTo, Revokes, Undoes, Counted, counted_at, turn_at, is_run, no_levels, goes, own_levels, other_levels, kept_there}
 
 -- ---- tests and lists
 
@@ -129,7 +129,7 @@ module _ {S : Type 0} (code : Code S) (b : Bounds) (first : S) (classes : ℕ) (
           let same : core_at c acts (suc n) ≡ core_at c acts n = at_end (suc n) (above (suc n) count (later n count (not_below n count is))) ∙ sym ended in
           subst (λ core. TurnTo code b first classes c acts run n z (core_at c acts n) core) (sym same)
           (calm_turn n ((core_at c acts n).levels z) ((core_at c acts n).levels z) (revoked_in c acts z n) (revoked_in c acts z n) (depth_in c acts z n) (depth_in c acts z n)
-          (Revokes code b first classes c acts run n z) refl refl (inr (same_size (depth_in c acts z n))) (λ m at. refl))
+          (Revokes code b first classes c acts run n z) (Undoes code b first classes c acts run n z) refl refl (inr (same_size (depth_in c acts z n))) (λ m at. refl))
 
   at_start : core_at c acts 0 ≡ c 0
   at_start = at_place 0 (omega arith)
@@ -151,6 +151,7 @@ module _ {S : Type 0} (code : Code S) (b : Bounds) (first : S) (classes : ℕ) (
     );
     pinned = λ n. record { rises = (total_turn n z).rises; above = λ m is. let by = (total_turn n z).by m is in (by.0, by.1); stays = (total_turn n z).stays };
     revokes = λ k n is. ((total_turn k z).by n is).2;
+    undoes = λ k n is. (total_turn k z).undone n is;
   }
 
 pub threads_run_in_levels : {S : Type 0} (code : Code S) → ThreadsRunInLevels code
