@@ -206,7 +206,7 @@ module _ {S : Type 0} (code : Code S) (first : S) (classes : ℕ) (orderly : IsO
     whole_of : {next : Next} {step : Step} → code.next th.local ≡ next → move_of code th next th.attempt ≡ Make step → NoRelease b th stands step → AreAtMost th.levels th.held
     whole_of is makes none = whole b th stands is makes none
 
-    -- behind the load that may be followed by a pin
+    -- after the load that may be followed by a pin
     to_pin_stands : (next : Next) → code.next th.local ≡ next → AreAtMost th.levels th.held → (IsWaitStep (behind_pin th next) next → 0 < th.section) → Keeps (goes (to_pin th next))
     to_pin_stands next is each some = by_if (λ g. Keeps (goes g)) (is_open th) (Fixed (own_pin th)) (behind_pin th next)
         (λ yes. goes_to b th stands (Fixed (own_pin th)) each (λ step. absurd step))

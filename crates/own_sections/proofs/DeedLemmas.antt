@@ -135,7 +135,7 @@ module _ {S : Type 0} (code : Code S) (b : Bounds) (th : ThreadState S) where
   abbrev After : Attempt → Step → StepAnswer → Type 0
   After g step a = Deed x (view code (record th { attempt = g })) step a
 
-  -- behind the load of a monitor, of a start word or of a class: where the own section is pinned first, and where it isn't
+  -- after the load of a monitor, of a start word or of a class: where the own section is pinned first, and where it isn't
   to_pin_goes : {step : Step} {a : StepAnswer} (next : Next) → code.next th.local ≡ next → th.levels < 2 ^ 8 → SectionsStay step a
       → is_leaving (Fixed (own_pin th)) next th.held ≡ false → is_leaving (behind_pin th next) next th.held ≡ false → After (to_pin th next) step a
   to_pin_goes {step} {a} next is low leaves pin_none behind_none =
@@ -161,7 +161,7 @@ module _ {S : Type 0} (code : Code S) (b : Bounds) (th : ThreadState S) where
 
   -- ---- each row is a deed
 
-  -- a load, behind which nothing of the section changes
+  -- a load after which nothing of the section changes
   found : {step : Step} {a : StepAnswer} {y : View} → SectionsStay step a → Keeps x y → y.undoing ≡ None → y.level ≡ 0 → y.leaving ≡ false → Deed x y step a
   found {y = y} leaves keeps none low leaving = plain leaves keeps none (zero_low y.level low) leaving
 

@@ -72,7 +72,7 @@ to_level_at levels revoked k (closes_all_but n) between = between
 to_level_at levels revoked k (is_revoked n) between = between
 to_level_at levels revoked k (is_undone n) between = between
 
--- an act behind which the section is being undone, as it wasn't before, revokes it
+-- an act after which the section is being undone, as it wasn't before, revokes it
 some_is : (m n : ℕ) → Some m ≡ Some n → m ≡ n
 some_is m n is = same_Some m n is
 
@@ -87,7 +87,7 @@ module _ {S : Type 0} (code : Code S) (b : Bounds) (first : S) (classes : ℕ) (
   abbrev count : ℕ
   count = length acts
 
-  -- ---- the cores, and those behind the last act
+  -- ---- the cores, and those after the last act
 
   at_here : (n : ℕ) → nat_lt n count ≡ true → core_at c acts n ≡ c n
   at_here n is = ap (λ t. c (if t then n else count)) is
@@ -105,7 +105,7 @@ module _ {S : Type 0} (code : Code S) (b : Bounds) (first : S) (classes : ℕ) (
       by_test true is = at_here n is
       by_test false is = at_end n is ∙ ap c (last n count low (not_below n count is))
 
-  -- ---- each act, and what comes behind the last
+  -- ---- each act, and what comes after the last
 
   total_turn : (n z : ℕ) → TurnTo code b first classes c acts run n z (core_at c acts n) (core_at c acts (suc n))
   total_turn n z = by_test (nat_lt n count) refl

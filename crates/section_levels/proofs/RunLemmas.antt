@@ -82,7 +82,7 @@ module _ {S : Type 0} (code : Code S) (b : Bounds) (first : S) (classes : ℕ) (
   TurnTo k z core next = Turn k (core.levels z) (next.levels z) (revoked_by (word_in (core.threads z) core.words)) (revoked_by (word_in (next.threads z) next.words))
       (pinned_in (core.threads z) core.words) (pinned_in (next.threads z) next.words) (Revokes k z) (Undoes k z)
 
-  -- a thread that is there before and behind
+  -- a thread that is there before and after
   turn_there : (k z : ℕ) (o q : Option (ThreadState S)) (x y : ThreadState S) (l m n : List ℕ) (w v : Words) → o ≡ Some x → q ≡ Some y → n ≡ m
       → Turn k l m (revoked_by (word_in (Some x) w)) (revoked_by (word_in (Some y) v)) (pinned_in (Some x) w) (pinned_in (Some y) v) (Revokes k z) (Undoes k z)
       → Turn k l n (revoked_by (word_in o w)) (revoked_by (word_in q v)) (pinned_in o w) (pinned_in q v) (Revokes k z) (Undoes k z)

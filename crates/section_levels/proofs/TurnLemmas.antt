@@ -23,7 +23,7 @@ use Rattle.section_levels.proofs.RowLemmas.{IsOpening, LevelsGo, goes_out, goes_
 
 -- ---- one act of a run of levels
 
--- as `LevelAt`, of the levels and the revocation before and behind the act
+-- as `LevelAt`, of the levels and the revocation before and after the act
 abbrev pub Between : ℕ → List ℕ → List ℕ → Option ℕ → Option ℕ → LevelAct → Type 0
 Between k l m r q calm = (m ≡ l) × (q ≡ r)
 Between k l m r q opens_one = (m ≡ k ∷ l) × (r ≡ None) × (q ≡ None)

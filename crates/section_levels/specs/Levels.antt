@@ -18,7 +18,7 @@ use Rattle.level_runs.specs.LevelRun.{LevelAct, is_revoked, is_undone, IsLevelRu
 use Rattle.run_threads.specs.Numbers.{AreNumbered}
 use Rattle.held_levels.specs.HeldLevels.{IsOrderlyRun}
 
--- The code goes in order, words and numbers are in range, threads stand at their numbers as the run begins, and no level is
+-- The code goes in order, words and numbers are in range, threads have their own numbers as the run begins, and no level is
 -- open.
 pub record IsLevelledRun {S : Type 0} (code : Code S) (b : Bounds) (first : S) (classes : ℕ) (c : ℕ → Core S) (acts : List Act) : Type 0 where
   pub ordered : IsOrderlyRun code b first classes c acts
