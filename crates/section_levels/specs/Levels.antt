@@ -76,8 +76,9 @@ pub record RunsInLevels {S : Type 0} (c : ℕ → Core S) (acts : List Act) (t :
   pub pinned : (n : ℕ) → PinnedAt (levels_in c acts t) (revoked_in c acts t) act (depth_in c acts t) n
   -- where it is revoked, that act revokes it
   pub revokes : (k n : ℕ) → act k ≡ is_revoked n → (th : ThreadState S) × ((c k).threads t ≡ Some th) × RevokesAt acts k th.section n
-  -- and where it is undone, the thread does it
+  -- and where it is undone, the thread notes that, and nowhere else
   pub undoes : (k n : ℕ) → act k ≡ is_undone n → UndoesAt c acts k t n
+  pub notes : (k s w : ℕ) → slice_get acts k ≡ Some (did t (MarkUndone s w) Done) → (n : ℕ) × (act k ≡ is_undone n)
 
 abbrev pub ThreadsRunInLevels : {S : Type 0} → Code S → Type 0
 ThreadsRunInLevels {S} code = (b : Bounds) (first : S) (classes : ℕ) (c : ℕ → Core S) (acts : List Act) → IsLevelledRun code b first classes c acts
