@@ -1,3 +1,4 @@
 pub mod HeldLemmas
+pub mod WaitLemmas
 pub mod RowLemmas
 pub mod StandLemmas

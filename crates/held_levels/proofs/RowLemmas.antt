@@ -14,22 +14,20 @@ use Rattle.op_core.specs.Orderly.{IsEnd, IsWait, IsRewake, CanStand, by_reply, I
 use Rattle.heap_words.specs.declared.areas.Area.{Area}
 use Rattle.heap_words.specs.declared.areas.Area.TheVariants.{Section}
 use Rattle.section_state.specs.SectionWord.{pinned_of, revoke_of, undone_of}
-use Rattle.write_log.specs.declared.Noted.{Noted}
 use Rattle.monitor_core.specs.Monitors.{monitor_section, monitor_depth, is_own}
 use Rattle.step_port.specs.declared.answer.StepAnswer.{StepAnswer}
 use Rattle.step_port.specs.declared.answer.StepAnswer.TheVariants.{Found, Lost}
 use Rattle.step_port.specs.declared.step.Step.{Step}
-use Rattle.step_port.specs.declared.step.Step.TheVariants.{LoadSection, LoadMonitor, Release, SetWait}
+use Rattle.step_port.specs.declared.step.Step.TheVariants.{LoadSection, Release, SetWait}
 use Rattle.step_port.specs.Steps.{place_of, effect_of}
 use Rattle.step_port.specs.Words.{CanAnswer}
 use Rattle.thread_automaton.specs.declared.Bounds.{Bounds}
-use Rattle.thread_automaton.specs.declared.Held.{Held}
 use Rattle.thread_automaton.specs.declared.Move.{Move}
 use Rattle.thread_automaton.specs.declared.Move.TheVariants.{Make}
 use Rattle.thread_automaton.specs.declared.Attempt.{Attempt}
-use Rattle.thread_automaton.specs.declared.Attempt.TheVariants.{Begin, Look, Checked, Fixed, Meets, Undoing, Full}
-use Rattle.thread_automaton.specs.ThreadState.{ThreadState, is_open, is_own_section, inside, mark_of, noted_since, with_depth_of, from_level}
-use Rattle.thread_automaton.specs.NextMove.{own_pin, deepened_since, undo_step, move_of}
+use Rattle.thread_automaton.specs.declared.Attempt.TheVariants.{Begin, Look, Checked, Fixed, Undoing}
+use Rattle.thread_automaton.specs.ThreadState.{ThreadState, is_open, is_own_section, inside, with_depth_of}
+use Rattle.thread_automaton.specs.NextMove.{own_pin, move_of}
 use Rattle.thread_automaton.specs.Changes.{Change, goes, has_to_wait, replies, knows, writes, deepens, prints, ends, answered, forgotten, with_level, with_levels, without_level, stood_at, section_at, without, changed}
 use Rattle.thread_automaton.specs.Checks.{behind_pin, to_pin}
 use Rattle.thread_automaton.specs.Monitors.{entry, take_for, needs_level}
@@ -41,65 +39,7 @@ use Rattle.automaton_rows.proofs.RowLemmas.{by_if}
 use Rattle.automaton_rows.proofs.FitLemmas.{last_step}
 use Rattle.held_levels.specs.HeldLevels.{AreAtMost, kept_by, RewakesInLevels}
 use Rattle.held_levels.proofs.HeldLemmas.{at_most_more, without_low, with_depth_low, level_low, highest_bounds, below_level, kept_low}
-
--- ---- tests
-
-above : (n : ℕ) → nat_lt 0 n ≡ true → 0 < n
-above n is = grind (arith, common_steps, nat_tests)
-
-not_zero : (n : ℕ) → nat_eq n 0 ≡ false → 0 < n
-not_zero n is = grind (arith, common_steps, nat_tests)
-
-at_most : (m n : ℕ) → nat_lt m n ≡ false → n ≤ m
-at_most m n is = grind (arith, common_steps, nat_tests)
-
-same_size : (n : ℕ) → n ≤ n
-same_size n = omega arith
-
--- ---- what is so of a thread
-
--- the last steps of a wait, in which its section is open
-abbrev pub IsWaitStep : Attempt → Next → Type 0
-IsWaitStep (Fixed (SetWait n w)) next = Unit {0}
-IsWaitStep (Fixed (Release q)) (Want (Wait r)) = Unit {0}
-IsWaitStep attempt next = ⊥
-
--- a reply that ends the thread's operation, and with it a wait or the thread
-abbrev pub IsLastReply : Reply → Next → Type 0
-IsLastReply Reply.Done (Want (Wait r)) = Unit {0}
-IsLastReply Reply.Done (Want (End x)) = Unit {0}
-IsLastReply reply next = ⊥
-
-abbrev IsSetWait : Move → Type 0
-IsSetWait (Make (SetWait n w)) = Unit {0}
-IsSetWait move = ⊥
-
-abbrev step_in : Move → Step
-step_in (Make step) = step
-step_in move = Step.DrawSection
-
-undo_waits_none : (s w : ℕ) (log : List Noted) (deepened taken : List Held) → IsSetWait (Make (undo_step s w log deepened taken)) → ⊥
-undo_waits_none s w (x ∷ log) deepened taken is = is
-undo_waits_none s w [] (h ∷ deepened) taken is = is
-undo_waits_none s w [] [] (h ∷ taken) is = is
-undo_waits_none s w [] [] [] is = is
-
--- a wait is noted where that was fixed
-set_wait : {S : Type 0} (code : Code S) (th : ThreadState S) (q w n : ℕ) (g : Attempt) → move_of code th (Want (Wait q)) g ≡ Make (SetWait n w) → IsWaitStep g (Want (Wait q))
-set_wait code th q w n g makes = by_kind g makes
-  where
-    wait_of : {move : Move} → move ≡ Make (SetWait n w) → IsSetWait move
-    wait_of is = subst IsSetWait (sym is) tt
-
-    by_kind : (g : Attempt) → move_of code th (Want (Wait q)) g ≡ Make (SetWait n w) → IsWaitStep g (Want (Wait q))
-    by_kind (Fixed step) is = subst (λ move. IsWaitStep (Fixed (step_in move)) (Want (Wait q))) (sym is) tt
-    by_kind (Meets s level) is = wait_of is
-    by_kind (Undoing x) is = undo_waits_none th.section x (noted_since (mark_of th (revoke_of x)).noted th.log) (deepened_since (mark_of th (revoke_of x)) th.held)
-        (from_level (revoke_of x) th.held) (wait_of is)
-    by_kind (Full limit) is = wait_of is
-    by_kind Look is = wait_of is
-    by_kind Begin is = by_if (λ move. move ≡ Make (SetWait n w) → ⊥) (is_open th) (Make (LoadSection th.section)) (Make (LoadMonitor q)) (λ yes same. wait_of same) (λ no same. wait_of same) is
-    by_kind Checked is = wait_of is
+use Rattle.held_levels.proofs.WaitLemmas.{above, not_zero, at_most, same_size, IsWaitStep, IsLastReply, set_wait}
 
 module _ {S : Type 0} (code : Code S) (first : S) (classes : ℕ) (orderly : IsOrderly code first classes) where
   -- a local state of its code, at which it isn't to take a monitor again after a wait
@@ -266,7 +206,7 @@ module _ {S : Type 0} (code : Code S) (first : S) (classes : ℕ) (orderly : IsO
     whole_of : {next : Next} {step : Step} → code.next th.local ≡ next → move_of code th next th.attempt ≡ Make step → NoRelease b th stands step → AreAtMost th.levels th.held
     whole_of is makes none = whole b th stands is makes none
 
-    -- behind the load that may be followed by a pin
+    -- after the load that may be followed by a pin
     to_pin_stands : (next : Next) → code.next th.local ≡ next → AreAtMost th.levels th.held → (IsWaitStep (behind_pin th next) next → 0 < th.section) → Keeps (goes (to_pin th next))
     to_pin_stands next is each some = by_if (λ g. Keeps (goes g)) (is_open th) (Fixed (own_pin th)) (behind_pin th next)
         (λ yes. goes_to b th stands (Fixed (own_pin th)) each (λ step. absurd step))

@@ -36,7 +36,7 @@ use Rattle.section_laws.proofs.DeedLemmas.{makes_it}
 use Rattle.section_laws.proofs.ClaimLemmas.{none_some}
 use Rattle.section_laws.proofs.FactLemmas.{each}
 use Rattle.section_laws.proofs.RunLemmas.{along, Known, facts_at}
-use Rattle.own_sections.proofs.DeedLemmas.{view}
+use Rattle.own_sections.proofs.ViewLemmas.{view}
 use Rattle.own_sections.proofs.OwnLemmas.{Own}
 use Rattle.own_sections.proofs.SeenLemmas.{undoing_seen, looked_pin}
 use Rattle.own_sections.proofs.MoveLemmas.{own_at}

@@ -1,4 +1,5 @@
 pub mod WordLemmas
+pub mod ViewLemmas
 pub mod DeedLemmas
 pub mod OwnLemmas
 pub mod MoveLemmas

@@ -33,7 +33,8 @@ use Rattle.section_laws.proofs.SectionLemmas.{sections_apart}
 use Rattle.own_sections.specs.OwnWords.{IsInBits, SeesUndoing, OwnWordsAreKnown}
 use Rattle.own_sections.specs.Moves.{Move, SectionsMove}
 use Rattle.own_sections.proofs.WordLemmas.{packed, pinned_low}
-use Rattle.own_sections.proofs.DeedLemmas.{View, view, undone_word, own_of, opening_of, Touch, stays, pinned_to, revoked, by_revoking, Deed, plain, goes_on, sees_revoked, sees_pinned, pins_own, undoes, touches, opens, opens_level, commits, closes_levels, ends_section, deed_of}
+use Rattle.own_sections.proofs.ViewLemmas.{View, view, undone_word, own_of, opening_of, Touch, stays, pinned_to, revoked, by_revoking, Deed, plain, goes_on, sees_revoked, sees_pinned, pins_own, undoes, touches, opens, opens_level, commits, closes_levels, ends_section}
+use Rattle.own_sections.proofs.DeedLemmas.{deed_of}
 use Rattle.own_sections.proofs.OwnLemmas.{Bits, OwnSays, Own, touch_keeps, is_some, own_steps}
 
 -- ---- what a step makes of the word of a section

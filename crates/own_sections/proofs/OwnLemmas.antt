@@ -18,7 +18,7 @@ use Rattle.section_laws.proofs.WordLemmas.{state_of_zero, exchanged, stays_at, p
 use Rattle.section_laws.proofs.ClaimLemmas.{none_some, found_is}
 use Rattle.own_sections.specs.OwnWords.{SaysOfOwn}
 use Rattle.own_sections.proofs.WordLemmas.{packed, small_packed, by_parts, state_low, pinned_low, depth_low, revoke_low, pinned_says, deep_says, opened_says, revoked_says, committed_says, goes_on_says}
-use Rattle.own_sections.proofs.DeedLemmas.{View, own_of, opening_of, KeepsLevels, Touch, stays, pinned_to, revoked, Deed, plain, goes_on, sees_revoked, sees_pinned, pins_own, undoes, touches, opens, opens_level, commits, closes_levels, ends_section}
+use Rattle.own_sections.proofs.ViewLemmas.{View, own_of, opening_of, KeepsLevels, Touch, stays, pinned_to, revoked, Deed, plain, goes_on, sees_revoked, sees_pinned, pins_own, undoes, touches, opens, opens_level, commits, closes_levels, ends_section}
 
 -- each number has 8 bits
 pub record Bits (x : View) : Type 0 where

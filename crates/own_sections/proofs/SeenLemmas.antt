@@ -13,7 +13,7 @@ use Rattle.thread_automaton.specs.ThreadState.{ThreadState}
 use Rattle.automaton_rows.specs.Fits.{AttemptFits, IsFit}
 use Rattle.section_laws.proofs.DeedLemmas.{above}
 use Rattle.section_laws.proofs.ClaimLemmas.{found_is}
-use Rattle.own_sections.proofs.DeedLemmas.{view, undone_word}
+use Rattle.own_sections.proofs.ViewLemmas.{view, undone_word}
 use Rattle.own_sections.proofs.OwnLemmas.{Own}
 
 module _ {S : Type 0} (code : Code S) (th : ThreadState S) (w : Words) (own : Own (view code th) w) where

@@ -10,7 +10,7 @@ use Rattle.core_runs.specs.Cores.{Core}
 use Rattle.core_runs.specs.Acts.{Act, did}
 use Rattle.section_laws.specs.Runs.{IsRun}
 
--- Each thread stands at its own number, which has 8 bits and is one of those that were drawn.
+-- Each thread is found by its own number, which has 8 bits and is one of those that were drawn.
 pub record AreNumbered {S : Type 0} (c : Core S) : Type 0 where
   pub own : (t : ℕ) (th : ThreadState S) → c.threads t ≡ Some th → th.number ≡ t
   pub drawn : (t : ℕ) (th : ThreadState S) → c.threads t ≡ Some th → t ≤ c.words (Control 4)

@@ -7,7 +7,7 @@ ghost use Rattle.run_threads.specs.Numbers.{ThreadsAreNumbered, ThreadsAreNew};
 
 use op_core::ThreadCode;
 
-/// Each thread stands at its own number, which was drawn and has 8 bits.
+/// Each thread is found by its own number, which was drawn and has 8 bits.
 pub fn threads_are_numbered<C: ThreadCode>()
     ensures { ThreadsAreNumbered C.code }
 {}

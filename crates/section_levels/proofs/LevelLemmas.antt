@@ -5,32 +5,36 @@ use Rattle.std.proofs.lemmas.Grind.{common_steps}
 use Rattle.std.proofs.lemmas.Bool.Decides.{nat_tests}
 use Rattle.std.proofs.lemmas.Option.{same_Some, slice_get_within}
 use Rattle.op_core.specs.ThreadCode.{Code}
-use Rattle.op_core.proofs.PointwiseLemmas.{same_or_other}
+use Rattle.op_core.proofs.PointwiseLemmas.{same_or_other, set_at-hit}
 use Rattle.heap_words.specs.declared.areas.Area.TheVariants.{Section}
-use Rattle.section_state.specs.SectionWord.{state_of, pinned_of, depth_of, revoked_of}
+use Rattle.section_state.specs.SectionWord.{state_of, pinned_of, depth_of, revoked_of, revoke_of}
 use Rattle.step_port.specs.declared.answer.StepAnswer.{StepAnswer}
 use Rattle.step_port.specs.declared.step.Step.{Step}
-use Rattle.step_port.specs.declared.step.Step.TheVariants.{Revoke, BreakLevel}
+use Rattle.step_port.specs.declared.step.Step.TheVariants.{MarkUndone, Revoke, BreakLevel}
 use Rattle.step_port.specs.Words.{Words}
 use Rattle.thread_automaton.specs.declared.Bounds.{Bounds}
 use Rattle.thread_automaton.specs.ThreadState.{ThreadState}
 use Rattle.automaton_rows.proofs.PinLemmas.{steps_caused}
-use Rattle.core_runs.specs.Cores.{Core}
+use Rattle.core_runs.specs.Cores.{Core, outermost, levels_by}
 use Rattle.core_runs.specs.Acts.{Act, quiet, did, beside, DidAt, ActAt, mover}
 use Rattle.core_runs.specs.Revoked.{RevokesAt, levels_from, IsDoomed}
 use Rattle.level_runs.specs.LevelRun.{LevelAct, calm, opens_one, closes_all_but, is_revoked, is_undone, LevelAt, In, IsDoomedAt, IsLevel}
 use Rattle.level_runs.proofs.LevelLemmas.{doomed_are_unpinned}
 use Rattle.section_laws.proofs.WordLemmas.{exchanged, put_section}
-use Rattle.section_laws.proofs.DeedLemmas.{CanRevoke, contended}
+use Rattle.section_laws.proofs.DeedLemmas.{CanRevoke, contended, above}
 use Rattle.section_laws.proofs.ClaimLemmas.{none_some}
 use Rattle.section_laws.proofs.FactLemmas.{breaks}
 use Rattle.section_laws.proofs.CoreRunLemmas.{none_there, in_front}
 use Rattle.section_laws.proofs.RunLemmas.{act_at, along, facts_at}
 use Rattle.own_sections.proofs.WordLemmas.{depth_low, revoked_says}
+use Rattle.thread_automaton.specs.Answers.{undone_at}
+use Rattle.own_sections.proofs.ViewLemmas.{undone_word}
+use Rattle.own_sections.proofs.SeenLemmas.{undoing_seen}
+use Rattle.own_sections.proofs.MoveLemmas.{own_at}
 use Rattle.section_levels.specs.Levels.{IsLevelledRun, word_in, revoked_by, pinned_in, core_at, levels_in, revoked_in, depth_in, RunsInLevels, ThreadsRunInLevels, DoomedLevelsAreUnpinned}
-use Rattle.section_levels.proofs.RowLemmas.{LevelsGo, goes_out, goes_in}
+use Rattle.section_levels.proofs.RowLemmas.{LevelsGo, goes_out, goes_in, length_outermost}
 use Rattle.section_levels.proofs.TurnLemmas.{Between, calm_turn, unrevoked, turned}
-use Rattle.section_levels.proofs.RunLemmas.{TurnTo, Revokes, Counted, counted_at, turn_at, is_run, no_levels, goes, own_levels, other_levels, kept_there}
+use Rattle.section_levels.proofs.RunLemmas.{TurnTo, Revokes, Undoes, Counted, counted_at, turn_at, is_run, no_levels, goes, own_levels, other_levels, kept_there}
 
 -- ---- tests and lists
 
@@ -72,7 +76,7 @@ to_level_at levels revoked k (closes_all_but n) between = between
 to_level_at levels revoked k (is_revoked n) between = between
 to_level_at levels revoked k (is_undone n) between = between
 
--- an act behind which the section is being undone, as it wasn't before, revokes it
+-- an act after which the section is being undone, as it wasn't before, revokes it
 some_is : (m n : ℕ) → Some m ≡ Some n → m ≡ n
 some_is m n is = same_Some m n is
 
@@ -87,7 +91,7 @@ module _ {S : Type 0} (code : Code S) (b : Bounds) (first : S) (classes : ℕ) (
   abbrev count : ℕ
   count = length acts
 
-  -- ---- the cores, and those behind the last act
+  -- ---- the cores, and those after the last act
 
   at_here : (n : ℕ) → nat_lt n count ≡ true → core_at c acts n ≡ c n
   at_here n is = ap (λ t. c (if t then n else count)) is
@@ -105,7 +109,7 @@ module _ {S : Type 0} (code : Code S) (b : Bounds) (first : S) (classes : ℕ) (
       by_test true is = at_here n is
       by_test false is = at_end n is ∙ ap c (last n count low (not_below n count is))
 
-  -- ---- each act, and what comes behind the last
+  -- ---- each act, and what comes after the last
 
   total_turn : (n z : ℕ) → TurnTo code b first classes c acts run n z (core_at c acts n) (core_at c acts (suc n))
   total_turn n z = by_test (nat_lt n count) refl
@@ -129,7 +133,7 @@ module _ {S : Type 0} (code : Code S) (b : Bounds) (first : S) (classes : ℕ) (
           let same : core_at c acts (suc n) ≡ core_at c acts n = at_end (suc n) (above (suc n) count (later n count (not_below n count is))) ∙ sym ended in
           subst (λ core. TurnTo code b first classes c acts run n z (core_at c acts n) core) (sym same)
           (calm_turn n ((core_at c acts n).levels z) ((core_at c acts n).levels z) (revoked_in c acts z n) (revoked_in c acts z n) (depth_in c acts z n) (depth_in c acts z n)
-          (Revokes code b first classes c acts run n z) refl refl (inr (same_size (depth_in c acts z n))) (λ m at. refl))
+          (Revokes code b first classes c acts run n z) (Undoes code b first classes c acts run n z) refl refl (inr (same_size (depth_in c acts z n))) (λ m at. refl))
 
   at_start : core_at c acts 0 ≡ c 0
   at_start = at_place 0 (omega arith)
@@ -141,6 +145,48 @@ module _ {S : Type 0} (code : Code S) (b : Bounds) (first : S) (classes : ℕ) (
       by_option None is = refl
       by_option (Some th) is = ap (λ (x : ThreadState S). revoked_by (word_in (Some x) (c 0).words)) ((is_run code b first classes c acts run).begins.threads z th is).3
 
+  -- an act that undoes a level, of levels that then are others
+  undone_act : (levels : ℕ → List ℕ) (revoked : ℕ → Option ℕ) (k n : ℕ) (act : LevelAct) → LevelAt levels revoked k act → revoked k ≡ Some n → (levels (suc k) ≡ levels k → ⊥)
+      → (m : ℕ) × (act ≡ is_undone m)
+  undone_act levels revoked k n calm at some other = absurd (other at.0)
+  undone_act levels revoked k n opens_one at some other = none_some n (sym at.1 ∙ some)
+  undone_act levels revoked k n (closes_all_but d) at some other = none_some n (sym at.1 ∙ some)
+  undone_act levels revoked k n (is_revoked d) at some other = none_some n (sym at.1 ∙ some)
+  undone_act levels revoked k n (is_undone d) at some other = (d, refl)
+
+  notes_undone : (z k s w : ℕ) → slice_get acts k ≡ Some (did z (MarkUndone s w) StepAnswer.Done) → (m : ℕ) × ((total_turn k z).act ≡ is_undone m)
+  notes_undone z k s w here =
+      let within = slice_get_within acts k (did z (MarkUndone s w) StepAnswer.Done) here in
+      let low : k ≤ length acts = omega (arith, within) in
+      let at = act_at code b c acts k (did z (MarkUndone s w) StepAnswer.Done) (is_run code b first classes c acts run).leads here in
+      let fits = (facts_at code b c acts (is_run code b first classes c acts run) k low).fit z at.from at.stands in
+      let cause = steps_caused code b at.from (MarkUndone s w) fits.attempt at.move in
+      let own = own_at code b c acts (is_run code b first classes c acts run) run.ordered.in_bits k low z at.from at.stands in
+      let some = above at.from.section cause.undoing.section in
+      let sees = (own.own some).sees cause.seen (ap undone_word cause.attempt) in
+      let deep = undoing_seen code at.from (c k).words own fits cause.seen cause.attempt in
+      let levels : (c (suc k)).levels z ≡ outermost (revoke_of cause.seen - 1) ((c k).levels z) =
+      ap (λ (core : Core S). core.levels z) at.leads ∙ set_at-hit (c k).levels z (levels_by k (undone_at at.from.attempt) ((c k).levels z))
+      ∙ ap (λ g. levels_by k (undone_at g) ((c k).levels z)) cause.attempt in
+      let counted = (counted_at code b first classes c acts run k low).there z at.from at.stands in
+      undone_act (levels_in c acts z) (revoked_in c acts z) k (revoke_of cause.seen) (total_turn k z).act
+      (to_level_at (levels_in c acts z) (revoked_in c acts z) k (total_turn k z).act (total_turn k z).between)
+      (ap (λ (core : Core S). revoked_by (word_in (core.threads z) core.words)) (at_place k low) ∙ ap (λ o. revoked_by (word_in o (c k).words)) at.stands
+      ∙ ap (λ d. revoked_by (if d then None else Some ((c k).words (Section at.from.section)))) (some_section at.from.section some)
+      ∙ ap (λ v. revoked_by (Some v)) sees.0 ∙ turned cause.seen sees.1)
+      (λ same. fewer (length ((c k).levels z)) (revoke_of cause.seen) at.from.levels at.from.pinned deep.0 deep.1 counted
+      (sym (length_outermost (revoke_of cause.seen - 1) ((c k).levels z) (few (revoke_of cause.seen) at.from.levels (length ((c k).levels z)) deep.1 counted))
+      ∙ ap length (sym levels) ∙ ap (λ (core : Core S). length (core.levels z)) (sym (at_place (suc k) within)) ∙ ap length same ∙ ap (λ (core : Core S). length (core.levels z)) (at_place k low)))
+    where
+      some_section : (n : ℕ) → 0 < n → nat_eq n 0 ≡ false
+      some_section n some = grind (arith, common_steps, nat_tests)
+
+      few : (r n l : ℕ) → r ≤ n → l ≡ n → r - 1 ≤ l
+      few r n l low is = omega (arith, low, is)
+
+      fewer : (l r n p : ℕ) → p < r → r ≤ n → l ≡ n → r - 1 ≡ l → ⊥
+      fewer l r n p deep low is same = omega (arith, deep, low, is, same)
+
   runs_in_levels : (z : ℕ) → RunsInLevels c acts z
   runs_in_levels z = record {
     act = λ n. (total_turn n z).act;
@@ -151,6 +197,8 @@ module _ {S : Type 0} (code : Code S) (b : Bounds) (first : S) (classes : ℕ) (
     );
     pinned = λ n. record { rises = (total_turn n z).rises; above = λ m is. let by = (total_turn n z).by m is in (by.0, by.1); stays = (total_turn n z).stays };
     revokes = λ k n is. ((total_turn k z).by n is).2;
+    undoes = λ k n is. (total_turn k z).undone n is;
+    notes = λ k s w here. notes_undone z k s w here;
   }
 
 pub threads_run_in_levels : {S : Type 0} (code : Code S) → ThreadsRunInLevels code

@@ -20,10 +20,10 @@ use Rattle.section_laws.proofs.DeedLemmas.{CanRevoke}
 use Rattle.section_laws.proofs.ClaimLemmas.{none_some}
 use Rattle.section_laws.proofs.FactLemmas.{breaks}
 use Rattle.own_sections.proofs.WordLemmas.{depth_low, pinned_says, revoked_says}
-use Rattle.own_sections.proofs.DeedLemmas.{View, own_of, opening_of, IsTouch, Touch, stays, pinned_to, revoked, Deed, plain, goes_on, sees_revoked, sees_pinned, pins_own, undoes, touches, opens, opens_level, commits, closes_levels, ends_section}
+use Rattle.own_sections.proofs.ViewLemmas.{View, own_of, opening_of, IsTouch, Touch, stays, pinned_to, revoked, Deed, plain, goes_on, sees_revoked, sees_pinned, pins_own, undoes, touches, opens, opens_level, commits, closes_levels, ends_section}
 use Rattle.own_sections.proofs.OwnLemmas.{Own, elsewhere_stays}
 use Rattle.section_levels.specs.Levels.{revoked_by}
-use Rattle.section_levels.proofs.TurnLemmas.{Turn, calm_turn, word_of, pinned_as, zero_or_some, closed_word, open_word, open_pin, unrevoked, turned}
+use Rattle.section_levels.proofs.TurnLemmas.{Turn, not_undone, calm_turn, word_of, pinned_as, zero_or_some, closed_word, open_word, open_pin, unrevoked, turned}
 
 -- the word stays, or is pinned deeper, or is revoked to a level
 pub data Other (R : ℕ → Type 0) (old new : ℕ) : Type 0 where
@@ -109,11 +109,11 @@ beside_word R step w s is revokes = absurd (true≢false (sym is))
 
 -- ---- the turn of a thread that makes no step
 
-pub other_turn : (z : View) (w v : Words) (k : ℕ) (l : List ℕ) (R : ℕ → Type 0) → (z.section ≡ 0 → l ≡ []) → length l ≡ z.levels → Own z w
+pub other_turn : (z : View) (w v : Words) (k : ℕ) (l : List ℕ) (R U : ℕ → Type 0) → (z.section ≡ 0 → l ≡ []) → length l ≡ z.levels → Own z w
     → (0 < z.section → Other R (w (Section z.section)) (v (Section z.section)))
-    → Turn k l l (revoked_by (word_of z w)) (revoked_by (word_of z v)) (pinned_as z w) (pinned_as z v) R
-other_turn z w v k l R empty counted own word = elim (zero_or_some z.section) [
-  | inl none ↦ calm_turn k l l _ _ _ _ R refl (closed_word z v none ∙ sym (closed_word z w none)) (inl (empty none)) (λ n is. none_some n (sym (closed_word z w none) ∙ is))
+    → Turn k l l (revoked_by (word_of z w)) (revoked_by (word_of z v)) (pinned_as z w) (pinned_as z v) R U
+other_turn z w v k l R U empty counted own word = elim (zero_or_some z.section) [
+  | inl none ↦ calm_turn k l l _ _ _ _ R U refl (closed_word z v none ∙ sym (closed_word z w none)) (inl (empty none)) (λ n is. none_some n (sym (closed_word z w none) ∙ is))
   | inr some ↦ by_word some (word some)
 ]
   where
@@ -153,14 +153,14 @@ other_turn z w v k l R empty counted own word = elim (zero_or_some z.section) [
     no_three : (n : ℕ) → n ≡ 1 → n ≡ 3 → ⊥
     no_three n one three = omega (arith, one, three)
 
-    by_word : 0 < z.section → Other R old new → Turn k l l (revoked_by (word_of z w)) (revoked_by (word_of z v)) (pinned_as z w) (pinned_as z v) R
+    by_word : 0 < z.section → Other R old new → Turn k l l (revoked_by (word_of z w)) (revoked_by (word_of z v)) (pinned_as z w) (pinned_as z v) R U
     by_word some (is_same is) =
         let same = d some old is ∙ sym (p some) in
-        calm_turn k l l _ _ _ _ R refl (q some old is ∙ sym (r some)) (inr (as_is (pinned_as z w) (pinned_as z v) same)) (λ n at. same)
+        calm_turn k l l _ _ _ _ R U refl (q some old is ∙ sym (r some)) (inr (as_is (pinned_as z w) (pinned_as z v) same)) (λ n at. same)
     by_word some (is_pinned n live deeper low is) =
         let now = pinned_says old n low in
         let none = r some ∙ unrevoked old (state_of old) refl (no_three (state_of old) live) in
-        calm_turn k l l _ _ _ _ R refl (q some (with_pinned old n) is ∙ unrevoked (with_pinned old n) (state_of old) now.1.0 (no_three (state_of old) live) ∙ sym none)
+        calm_turn k l l _ _ _ _ R U refl (q some (with_pinned old n) is ∙ unrevoked (with_pinned old n) (state_of old) now.1.0 (no_three (state_of old) live) ∙ sym none)
         (inr (up (pinned_as z w) (pinned_of old) n (pinned_as z v) (p some) deeper (d some (with_pinned old n) is ∙ now.1.3))) (λ m at. none_some m (sym none ∙ at))
     by_word some (is_turned n can is by) =
         let now = revoked_says old n (within n (depth_of old) can.2 (depth_low old)) in
@@ -178,6 +178,7 @@ other_turn z w v k l R empty counted own word = elim (zero_or_some z.section) [
           rises = inr (as_is (pinned_as z w) (pinned_as z v) same);
           by = λ m at. subst (λ i. (pinned_as z w < i) × (pinned_as z v ≡ pinned_as z w) × R i) (level_is at) (lower (pinned_as z w) (pinned_of old) n (p some) can.1, same, by);
           stays = λ m at. same;
+          undone = λ m at. not_undone (λ h. h) at;
         }
       where
         level_in : LevelAct → ℕ

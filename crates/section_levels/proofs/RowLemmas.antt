@@ -158,7 +158,7 @@ module _ {S : Type 0} (code : Code S) (b : Bounds) (th : ThreadState S) (k : ℕ
       subst (λ n. LevelsGo step k th.levels n levels (levels_by k (change_of code b th (code.next th.local) step a) levels))
       (sym (counted_levels (told code b th step a) (changed code th (change_of code b th (code.next th.local) step a)))) (levels_go row kept closed undoing)
 
--- as many are open behind it
+-- as many are open after it
 pub counted_after : (step : Step) (k before after : ℕ) (levels behind : List ℕ) → length levels ≡ before → LevelsGo step k before after levels behind → length behind ≡ after
 counted_after step k before after levels behind is (goes_out low kept) = ap length kept ∙ length_outermost after levels (fits after before (length levels) low is)
   where

@@ -8,11 +8,14 @@ use Rattle.op_core.specs.ThreadCode.{Code}
 use Rattle.op_core.specs.OrdinaryState.{set_at}
 use Rattle.op_core.proofs.PointwiseLemmas.{same_or_other, set_at-hit, set_at-other}
 use Rattle.heap_words.specs.declared.areas.Area.TheVariants.{Section}
+use Rattle.section_state.specs.SectionWord.{undone_of}
 use Rattle.step_port.specs.declared.answer.StepAnswer.{StepAnswer}
 use Rattle.step_port.specs.declared.step.Step.{Step}
-use Rattle.step_port.specs.declared.step.Step.TheVariants.{Revoke, BreakLevel, Split}
+use Rattle.step_port.specs.declared.step.Step.TheVariants.{Revoke, BreakLevel, Split, MarkUndone}
 use Rattle.step_port.specs.Steps.{effect_of}
-use Rattle.step_port.specs.Words.{Words, CanAnswer, words_after}
+use Rattle.step_port.specs.Words.{answer_of, Words, CanAnswer, words_after}
+use Rattle.thread_automaton.specs.declared.Attempt.{Attempt}
+use Rattle.thread_automaton.specs.declared.Attempt.TheVariants.{Undoing}
 use Rattle.thread_automaton.specs.declared.Bounds.{Bounds}
 use Rattle.thread_automaton.specs.declared.Move.TheVariants.{Make}
 use Rattle.thread_automaton.specs.ThreadState.{ThreadState, first_state}
@@ -29,13 +32,13 @@ use Rattle.section_laws.proofs.ClaimLemmas.{none_some}
 use Rattle.section_laws.proofs.FactLemmas.{each}
 use Rattle.section_laws.proofs.RunLemmas.{get_some, act_at, along, Known, facts_at}
 use Rattle.section_laws.proofs.SectionLemmas.{sections_apart}
-use Rattle.own_sections.proofs.DeedLemmas.{view}
+use Rattle.own_sections.proofs.ViewLemmas.{view, undone_word}
 use Rattle.own_sections.proofs.OwnLemmas.{Own, is_some}
 use Rattle.own_sections.proofs.SeenLemmas.{undoing_seen}
 use Rattle.own_sections.proofs.MoveLemmas.{bits_at, deed_here, unopened, own_at}
 use Rattle.run_threads.proofs.NumberLemmas.{threads_are_new}
 use Rattle.held_levels.proofs.StandLemmas.{closed_low}
-use Rattle.section_levels.specs.Levels.{IsLevelledRun, LevelsAreCounted, word_in, revoked_by, pinned_in}
+use Rattle.section_levels.specs.Levels.{IsLevelledRun, LevelsAreCounted, UndoesAt, word_in, revoked_by, pinned_in}
 use Rattle.section_levels.proofs.RowLemmas.{LevelsGo, levels_after, counted_after}
 use Rattle.section_levels.proofs.TurnLemmas.{Turn, calm_turn, own_turn}
 use Rattle.section_levels.proofs.OtherLemmas.{other_word, beside_word, other_turn}
@@ -45,6 +48,10 @@ is_zero n is = grind (arith, common_steps, nat_tests)
 
 equal_zero : (n : ℕ) → n ≡ 0 → nat_eq n 0 ≡ true
 equal_zero n is = grind (arith, common_steps, nat_tests)
+
+undoing_is : (g : Attempt) (v : ℕ) → undone_word g ≡ Some v → g ≡ Undoing v
+undoing_is (Undoing w) v is = ap Undoing (same_Some w v is)
+undoing_is g v is = none_some v is
 
 some_none : {A B : Type 0} (x : A) → Some x ≡ None → B
 some_none x is = none_some x (sym is)
@@ -66,19 +73,23 @@ module _ {S : Type 0} (code : Code S) (b : Bounds) (first : S) (classes : ℕ) (
   abbrev pub Revokes : ℕ → ℕ → ℕ → Type 0
   Revokes k z n = (th : ThreadState S) × ((c k).threads z ≡ Some th) × RevokesAt acts k th.section n
 
+  -- its own step undoes it
+  abbrev pub Undoes : ℕ → ℕ → ℕ → Type 0
+  Undoes k z n = UndoesAt c acts k z n
+
   -- from one core to another, as act number k
   abbrev pub TurnTo : ℕ → ℕ → Core S → Core S → Type 0
   TurnTo k z core next = Turn k (core.levels z) (next.levels z) (revoked_by (word_in (core.threads z) core.words)) (revoked_by (word_in (next.threads z) next.words))
-      (pinned_in (core.threads z) core.words) (pinned_in (next.threads z) next.words) (Revokes k z)
+      (pinned_in (core.threads z) core.words) (pinned_in (next.threads z) next.words) (Revokes k z) (Undoes k z)
 
-  -- a thread that is there before and behind
+  -- a thread that is there before and after
   turn_there : (k z : ℕ) (o q : Option (ThreadState S)) (x y : ThreadState S) (l m n : List ℕ) (w v : Words) → o ≡ Some x → q ≡ Some y → n ≡ m
-      → Turn k l m (revoked_by (word_in (Some x) w)) (revoked_by (word_in (Some y) v)) (pinned_in (Some x) w) (pinned_in (Some y) v) (Revokes k z)
-      → Turn k l n (revoked_by (word_in o w)) (revoked_by (word_in q v)) (pinned_in o w) (pinned_in q v) (Revokes k z)
+      → Turn k l m (revoked_by (word_in (Some x) w)) (revoked_by (word_in (Some y) v)) (pinned_in (Some x) w) (pinned_in (Some y) v) (Revokes k z) (Undoes k z)
+      → Turn k l n (revoked_by (word_in o w)) (revoked_by (word_in q v)) (pinned_in o w) (pinned_in q v) (Revokes k z) (Undoes k z)
   turn_there k z o q x y l m n w v at behind levels turn =
-      subst (λ p. Turn k l n (revoked_by (word_in p w)) (revoked_by (word_in q v)) (pinned_in p w) (pinned_in q v) (Revokes k z)) (sym at)
-      (subst (λ p. Turn k l n (revoked_by (word_in (Some x) w)) (revoked_by (word_in p v)) (pinned_in (Some x) w) (pinned_in p v) (Revokes k z)) (sym behind)
-      (subst (λ i. Turn k l i (revoked_by (word_in (Some x) w)) (revoked_by (word_in (Some y) v)) (pinned_in (Some x) w) (pinned_in (Some y) v) (Revokes k z)) (sym levels) turn))
+      subst (λ p. Turn k l n (revoked_by (word_in p w)) (revoked_by (word_in q v)) (pinned_in p w) (pinned_in q v) (Revokes k z) (Undoes k z)) (sym at)
+      (subst (λ p. Turn k l n (revoked_by (word_in (Some x) w)) (revoked_by (word_in p v)) (pinned_in (Some x) w) (pinned_in p v) (Revokes k z) (Undoes k z)) (sym behind)
+      (subst (λ i. Turn k l i (revoked_by (word_in (Some x) w)) (revoked_by (word_in (Some y) v)) (pinned_in (Some x) w) (pinned_in (Some y) v) (Revokes k z) (Undoes k z)) (sym levels) turn))
 
   empty : (l : List ℕ) → length l ≡ 0 → l ≡ []
   empty [] is = refl
@@ -218,8 +229,16 @@ module _ {S : Type 0} (code : Code S) (b : Bounds) (first : S) (classes : ℕ) (
       mover_turn =
           turn_there k t ((c k).threads t) (after t) at.from y ((c k).levels t) behind (set_at (c k).levels t behind t) (c k).words (words_after step (c k).words) at.stands own_there own_levels
           (own_turn (view code at.from) (view code y) (c k).words (bits_at code b c acts is_run run.ordered.in_bits k t at.from here_at at.stands) own k ((c k).levels t) behind
-          (counted.there t at.from at.stands) (no_levels at.from fits.kept) (no_levels y fits_after.kept) (Revokes k t)
-          (deed_here code b c acts is_run run.ordered.in_bits k within t step a here at own) at.answered goes)
+          (counted.there t at.from at.stands) (no_levels at.from fits.kept) (no_levels y fits_after.kept) (Revokes k t) (Undoes k t)
+          (deed_here code b c acts is_run run.ordered.in_bits k within t step a here at own) at.answered goes
+          (λ v undoing is. record {
+            th = at.from;
+            word = v;
+            stands = at.stands;
+            undoing = undoing_is at.from.attempt v undoing;
+            level = refl;
+            notes = here ∙ ap (λ st. Some (did t st a)) is ∙ ap (λ an. Some (did t (MarkUndone at.from.section (undone_of v)) an)) (at.answered ∙ ap (answer_of (c k).words) is);
+          }))
 
       -- a thread that isn't there has no section, and none that begins
       shut_after : (z : ℕ) → z ≢ t → (c k).threads z ≡ None → revoked_by (word_in (after z) (words_after step (c k).words)) ≡ None
@@ -238,11 +257,11 @@ module _ {S : Type 0} (code : Code S) (b : Bounds) (first : S) (classes : ℕ) (
       other_thread : (z : ℕ) → z ≢ t → (o : Option (ThreadState S)) → (c k).threads z ≡ o → TurnTo k z (c k) (core_after code b k (c k) t at.from step a)
       other_thread z other None is =
           let none : revoked_by (word_in ((c k).threads z) (c k).words) ≡ None = ap (λ o. revoked_by (word_in o (c k).words)) is in
-          calm_turn k ((c k).levels z) (set_at (c k).levels t behind z) _ _ _ _ (Revokes k z) (other_levels z other) (shut_after z other is ∙ sym none) (inl (counted.nobody z is))
+          calm_turn k ((c k).levels z) (set_at (c k).levels t behind z) _ _ _ _ (Revokes k z) (Undoes k z) (other_levels z other) (shut_after z other is ∙ sym none) (inl (counted.nobody z is))
           (λ n at_n. none_some n (sym none ∙ at_n))
       other_thread z other (Some zh) is =
           turn_there k z ((c k).threads z) (after z) zh zh ((c k).levels z) ((c k).levels z) (set_at (c k).levels t behind z) (c k).words (words_after step (c k).words) is (kept_there z zh other is) (other_levels z other)
-          (other_turn (view code zh) (c k).words (words_after step (c k).words) k ((c k).levels z) (Revokes k z)
+          (other_turn (view code zh) (c k).words (words_after step (c k).words) k ((c k).levels z) (Revokes k z) (Undoes k z)
           (λ none. empty ((c k).levels z) (counted.there z zh is ∙ no_levels zh (known.fit z zh is).kept none)) (counted.there z zh is) own_z
           (λ some. other_word (view code at.from) (view code y) (c k).words (Revokes k z) zh.section
           (λ same. other (sym (sections_apart code b c acts is_run k t z at.from zh here_at at.stands is (subst (λ n. 0 < n) (sym same) some) same)))
@@ -277,7 +296,7 @@ module _ {S : Type 0} (code : Code S) (b : Bounds) (first : S) (classes : ℕ) (
 
     quiet_turn : (t : ℕ) → QuietAt code b c k t → (z : ℕ) → TurnTo k z (c k) (c (suc k))
     quiet_turn t at z = subst (TurnTo k z (c k)) (sym at.leads)
-        (calm_turn k ((c k).levels z) ((c k).levels z) _ _ _ _ (Revokes k z) refl (ap revoked_by same_word) (inr (as_is _ _ same_pin)) (λ n is. same_pin))
+        (calm_turn k ((c k).levels z) ((c k).levels z) _ _ _ _ (Revokes k z) (Undoes k z) refl (ap revoked_by same_word) (inr (as_is _ _ same_pin)) (λ n is. same_pin))
       where
         as_is : (p d : ℕ) → d ≡ p → p ≤ d
         as_is p d is = omega (arith, is)
@@ -302,11 +321,11 @@ module _ {S : Type 0} (code : Code S) (b : Bounds) (first : S) (classes : ℕ) (
         → TurnTo k z (c k) (record (c k) { words = words_after step (c k).words })
     beside_thread t step a here at counted z None is =
         let none : (w : Words) → revoked_by (word_in ((c k).threads z) w) ≡ None = λ w. ap (λ o. revoked_by (word_in o w)) is in
-        calm_turn k ((c k).levels z) ((c k).levels z) _ _ _ _ (Revokes k z) refl (none (words_after step (c k).words) ∙ sym (none (c k).words)) (inl (counted.nobody z is))
+        calm_turn k ((c k).levels z) ((c k).levels z) _ _ _ _ (Revokes k z) (Undoes k z) refl (none (words_after step (c k).words) ∙ sym (none (c k).words)) (inl (counted.nobody z is))
         (λ n at_n. none_some n (sym (none (c k).words) ∙ at_n))
     beside_thread t step a here at counted z (Some zh) is =
         turn_there k z ((c k).threads z) ((c k).threads z) zh zh ((c k).levels z) ((c k).levels z) ((c k).levels z) (c k).words (words_after step (c k).words) is is refl
-        (other_turn (view code zh) (c k).words (words_after step (c k).words) k ((c k).levels z) (Revokes k z)
+        (other_turn (view code zh) (c k).words (words_after step (c k).words) k ((c k).levels z) (Revokes k z) (Undoes k z)
         (λ none. empty ((c k).levels z) (counted.there z zh is ∙ no_levels zh (known.fit z zh is).kept none)) (counted.there z zh is) (own_of_thread z zh is)
         (λ some. beside_word (Revokes k z) step (c k).words zh.section at.is
         (λ v n breaks done. (zh, is, (t, v, inr (here ∙ ap (λ st. Some (beside t st a)) breaks ∙ ap (λ an. Some (beside t (BreakLevel zh.section v n) an)) (at.answered ∙ done)))))))

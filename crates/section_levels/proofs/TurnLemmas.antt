@@ -8,7 +8,7 @@ use Rattle.section_state.specs.SectionWord.{state_of, pinned_of, revoke_of, with
 use Rattle.step_port.specs.declared.answer.StepAnswer.{StepAnswer}
 use Rattle.step_port.specs.declared.step.Effect.TheVariants.{Exchange}
 use Rattle.step_port.specs.declared.step.Step.{Step}
-use Rattle.step_port.specs.declared.step.Step.TheVariants.{OpenSection}
+use Rattle.step_port.specs.declared.step.Step.TheVariants.{MarkUndone, OpenSection}
 use Rattle.step_port.specs.Words.{Words, put_at, answer_to, answer_of, words_after}
 use Rattle.thread_automaton.specs.Changes.{section_at}
 use Rattle.core_runs.specs.Cores.{outermost}
@@ -16,14 +16,14 @@ use Rattle.level_runs.specs.LevelRun.{LevelAct, calm, opens_one, closes_all_but,
 use Rattle.section_laws.proofs.WordLemmas.{exchanged, put_section}
 use Rattle.section_laws.proofs.ClaimLemmas.{none_some}
 use Rattle.own_sections.proofs.WordLemmas.{packed, pinned_says, deep_says, opened_says, committed_says, goes_on_says}
-use Rattle.own_sections.proofs.DeedLemmas.{View, own_of, opening_of, Deed, plain, goes_on, sees_revoked, sees_pinned, pins_own, undoes, touches, opens, opens_level, commits, closes_levels, ends_section}
+use Rattle.own_sections.proofs.ViewLemmas.{View, own_of, opening_of, Deed, plain, goes_on, sees_revoked, sees_pinned, pins_own, undoes, touches, opens, opens_level, commits, closes_levels, ends_section}
 use Rattle.own_sections.proofs.OwnLemmas.{Bits, OwnSays, Own, elsewhere_stays, own_packed, swapped, pin_low}
 use Rattle.section_levels.specs.Levels.{revoked_by}
 use Rattle.section_levels.proofs.RowLemmas.{IsOpening, LevelsGo, goes_out, goes_in, outermost_all}
 
 -- ---- one act of a run of levels
 
--- as `LevelAt`, of the levels and the revocation before and behind the act
+-- as `LevelAt`, of the levels and the revocation before and after the act
 abbrev pub Between : ℕ → List ℕ → List ℕ → Option ℕ → Option ℕ → LevelAct → Type 0
 Between k l m r q calm = (m ≡ l) × (q ≡ r)
 Between k l m r q opens_one = (m ≡ k ∷ l) × (r ≡ None) × (q ≡ None)
@@ -31,30 +31,46 @@ Between k l m r q (closes_all_but n) = (m ≡ outermost n l) × (r ≡ None) × 
 Between k l m r q (is_revoked n) = (m ≡ l) × (r ≡ None) × (q ≡ Some n) × (0 < n) × (n ≤ length l)
 Between k l m r q (is_undone n) = (m ≡ outermost (n - 1) l) × (r ≡ Some n) × (q ≡ None)
 
-pub record Turn (k : ℕ) (l m : List ℕ) (r q : Option ℕ) (p d : ℕ) (Revokes : ℕ → Type 0) : Type 0 where
+pub record Turn (k : ℕ) (l m : List ℕ) (r q : Option ℕ) (p d : ℕ) (Revokes Undoes : ℕ → Type 0) : Type 0 where
   pub act : LevelAct
   pub between : Between k l m r q act
   pub rises : (l ≡ []) ⊎ (p ≤ d)
   pub by : (n : ℕ) → act ≡ is_revoked n → (p < n) × (d ≡ p) × Revokes n
   pub stays : (n : ℕ) → r ≡ Some n → d ≡ p
+  pub undone : (n : ℕ) → act ≡ is_undone n → Undoes n
 
 abbrev IsRevoked : LevelAct → Type 0
 IsRevoked (is_revoked n) = Unit {0}
 IsRevoked act = ⊥
 
-not_revoked : {A : Type 0} {act : LevelAct} {n : ℕ} → (IsRevoked act → ⊥) → act ≡ is_revoked n → A
+abbrev IsUndone : LevelAct → Type 0
+IsUndone (is_undone n) = Unit {0}
+IsUndone act = ⊥
+
+pub not_revoked : {A : Type 0} {act : LevelAct} {n : ℕ} → (IsRevoked act → ⊥) → act ≡ is_revoked n → A
 not_revoked other is = absurd (other (subst IsRevoked (sym is) tt))
 
-pub calm_turn : (k : ℕ) (l m : List ℕ) (r q : Option ℕ) (p d : ℕ) (R : ℕ → Type 0) → m ≡ l → q ≡ r → (l ≡ []) ⊎ (p ≤ d) → ((n : ℕ) → r ≡ Some n → d ≡ p) → Turn k l m r q p d R
-calm_turn k l m r q p d R same again up stays = record { act = calm; between = (same, again); rises = up; by = λ n is. not_revoked (λ h. h) is; stays = stays }
+pub not_undone : {A : Type 0} {act : LevelAct} {n : ℕ} → (IsUndone act → ⊥) → act ≡ is_undone n → A
+not_undone other is = absurd (other (subst IsUndone (sym is) tt))
+
+pub calm_turn : (k : ℕ) (l m : List ℕ) (r q : Option ℕ) (p d : ℕ) (R U : ℕ → Type 0) → m ≡ l → q ≡ r → (l ≡ []) ⊎ (p ≤ d) → ((n : ℕ) → r ≡ Some n → d ≡ p) → Turn k l m r q p d R U
+calm_turn k l m r q p d R U same again up stays =
+    record { act = calm; between = (same, again); rises = up; by = λ n is. not_revoked (λ h. h) is; stays = stays; undone = λ n is. not_undone (λ h. h) is }
 
 same_depth : (p d : ℕ) → d ≡ p → p ≤ d
 same_depth p d is = omega (arith, is)
 
 -- where nothing is being undone
-live_turn : (k : ℕ) (l m : List ℕ) (r q : Option ℕ) (p d : ℕ) (R : ℕ → Type 0) (act : LevelAct) → Between k l m r q act → (IsRevoked act → ⊥) → r ≡ None → (l ≡ []) ⊎ (p ≤ d) → Turn k l m r q p d R
-live_turn k l m r q p d R act between other none up =
-    record { act = act; between = between; rises = up; by = λ n is. not_revoked other is; stays = λ n is. none_some n (sym none ∙ is) }
+live_turn : (k : ℕ) (l m : List ℕ) (r q : Option ℕ) (p d : ℕ) (R U : ℕ → Type 0) (act : LevelAct) → Between k l m r q act → (IsRevoked act → ⊥) → (IsUndone act → ⊥) → r ≡ None
+    → (l ≡ []) ⊎ (p ≤ d) → Turn k l m r q p d R U
+live_turn k l m r q p d R U act between other unended none up = record {
+  act = act;
+  between = between;
+  rises = up;
+  by = λ n is. not_revoked other is;
+  stays = λ n is. none_some n (sym none ∙ is);
+  undone = λ n is. not_undone unended is;
+}
 
 -- ---- the section of a thread that is seen so
 
@@ -106,9 +122,9 @@ five_three n five three = omega (arith, five, three)
 -- ---- an act of the thread itself
 
 module _ (x y : View) (w : Words) (bits : Bits x) (own : Own x w) (k : ℕ) (l m : List ℕ) (counted : length l ≡ x.levels) (closed : x.section ≡ 0 → x.levels ≡ 0)
-    (closed_after : y.section ≡ 0 → y.levels ≡ 0) (R : ℕ → Type 0) where
+    (closed_after : y.section ≡ 0 → y.levels ≡ 0) (R U : ℕ → Type 0) where
   abbrev Turns : Words → Type 0
-  Turns v = Turn k l m (revoked_by (word_of x w)) (revoked_by (word_of y v)) (pinned_as x w) (pinned_as y v) R
+  Turns v = Turn k l m (revoked_by (word_of x w)) (revoked_by (word_of y v)) (pinned_as x w) (pinned_as y v) R U
 
   abbrev Goes : Step → Type 0
   Goes step = LevelsGo step k x.levels y.levels l m
@@ -144,23 +160,23 @@ module _ (x y : View) (w : Words) (bits : Bits x) (own : Own x w) (k : ℕ) (l m
   -- neither levels nor word change
   still : (v : Words) → y.section ≡ x.section → (0 < x.section → v (Section x.section) ≡ w (Section x.section)) → m ≡ l → Turns v
   still v section same levels = elim (zero_or_some x.section) [
-    | inl none ↦ calm_turn k l m _ _ _ _ R levels (closed_word y v (section ∙ none) ∙ sym (closed_word x w none)) (inl (empty none)) (λ n is. none_some n (sym (closed_word x w none) ∙ is))
+    | inl none ↦ calm_turn k l m _ _ _ _ R U levels (closed_word y v (section ∙ none) ∙ sym (closed_word x w none)) (inl (empty none)) (λ n is. none_some n (sym (closed_word x w none) ∙ is))
     | inr some ↦
         let word = w (Section x.section) in
         let pin : pinned_as y v ≡ pinned_as x w = open_pin y v x.section word some section (same some) ∙ sym (open_pin x w x.section word some refl refl) in
-        calm_turn k l m _ _ _ _ R levels (open_word y v x.section word some section (same some) ∙ sym (open_word x w x.section word some refl refl))
+        calm_turn k l m _ _ _ _ R U levels (open_word y v x.section word some section (same some) ∙ sym (open_word x w x.section word some refl refl))
         (inr (same_depth (pinned_as x w) (pinned_as y v) pin)) (λ n is. pin)
   ]
 
   -- the own word, which was live, becomes another that isn't revoked
   goes_live : (v : Words) (act : LevelAct) (new n : ℕ) → 0 < x.section → y.section ≡ x.section → state_of (w (Section x.section)) ≡ 1 → v (Section x.section) ≡ new → state_of new ≡ n → (n ≡ 3 → ⊥)
       → pinned_of (w (Section x.section)) ≤ pinned_of new → (revoked_by (word_of x w) ≡ None → revoked_by (word_of y v) ≡ None → Between k l m (revoked_by (word_of x w)) (revoked_by (word_of y v)) act)
-      → (IsRevoked act → ⊥) → Turns v
-  goes_live v act new n some section live at state other up between unturned =
+      → (IsRevoked act → ⊥) → (IsUndone act → ⊥) → Turns v
+  goes_live v act new n some section live at state other up between unturned unended =
       let word = w (Section x.section) in
       let none : revoked_by (word_of x w) ≡ None = open_word x w x.section word some refl refl ∙ unrevoked word 1 live (one_three 1 refl) in
       let none_after : revoked_by (word_of y v) ≡ None = open_word y v x.section new some section at ∙ unrevoked new n state other in
-      live_turn k l m _ _ _ _ R act (between none none_after) unturned none
+      live_turn k l m _ _ _ _ R U act (between none none_after) unturned unended none
       (inr (lift (pinned_as x w) (pinned_of word) (pinned_of new) (pinned_as y v) (open_pin x w x.section word some refl refl) up (open_pin y v x.section new some section at)))
     where
       lift : (p a c d : ℕ) → p ≡ a → a ≤ c → d ≡ c → p ≤ d
@@ -182,21 +198,22 @@ module _ (x y : View) (w : Words) (bits : Bits x) (own : Own x w) (k : ℕ) (l m
   same_size : (n : ℕ) → n ≤ n
   same_size n = omega arith
 
-  pub own_turn : {step : Step} {a : StepAnswer} → Deed x y step a → a ≡ answer_of w step → Goes step → Turns (words_after step w)
-  own_turn {step} (plain same keeps none low leaving) is go = still (words_after step w) keeps.2 (λ some. same.stay w is x.section) (same_levels keeps.3 go)
-  own_turn {step} (goes_on same keeps undoing again level leaving) is go = still (words_after step w) keeps.2 (λ some. same.stay w is x.section) (same_levels keeps.3 go)
-  own_turn {step} (sees_revoked three keeps undoing level leaving) is go = still (words_after step w) keeps.2 (λ some. refl) (same_levels keeps.3 go)
-  own_turn {step} (sees_pinned keeps pin calm_then) is go = still (words_after step w) keeps.2 (λ some. refl) (same_levels keeps.3 go)
-  own_turn {step} (pins_own some unpinned keeps pin none level leaving) is go =
+  pub own_turn : {step : Step} {a : StepAnswer} → Deed x y step a → a ≡ answer_of w step → Goes step
+      → ((v : ℕ) → x.undoing ≡ Some v → step ≡ MarkUndone x.section (undone_of v) → U (revoke_of v)) → Turns (words_after step w)
+  own_turn {step} (plain same keeps none low leaving) is go ends = still (words_after step w) keeps.2 (λ some. same.stay w is x.section) (same_levels keeps.3 go)
+  own_turn {step} (goes_on same keeps undoing again level leaving) is go ends = still (words_after step w) keeps.2 (λ some. same.stay w is x.section) (same_levels keeps.3 go)
+  own_turn {step} (sees_revoked three keeps undoing level leaving) is go ends = still (words_after step w) keeps.2 (λ some. refl) (same_levels keeps.3 go)
+  own_turn {step} (sees_pinned keeps pin calm_then) is go ends = still (words_after step w) keeps.2 (λ some. refl) (same_levels keeps.3 go)
+  own_turn {step} (pins_own some unpinned keeps pin none level leaving) is go ends =
       let p = own_packed x bits (pin_low x y w bits own some) in
       let now = pinned_says (own_of x) x.levels bits.levels in
       goes_live (words_after step w) calm (with_pinned (own_of x) x.levels) 1 some keeps.2 (own_live some (with_pinned (own_of x) x.levels) is) (swapped x y w bits own (with_pinned (own_of x) x.levels) is) (now.1.0 ∙ p.1.0) (one_three 1 refl)
       (own_pin some (with_pinned (own_of x) x.levels) x.levels is now.1.3 (lower (pinned_of (own_of x)) x.pinned x.levels p.1.3 unpinned))
-      (λ r q. (same_levels keeps.3 go, q ∙ sym r)) (λ h. h)
+      (λ r q. (same_levels keeps.3 go, q ∙ sym r)) (λ h. h) (λ h. h)
     where
       lower : (m n d : ℕ) → m ≡ n → n < d → m ≤ d
       lower m n d is low = omega (arith, is, low)
-  own_turn {step} (undoes {w = seen} undoing some same section levels pin calm_then) is go = by_depth (nat_le (revoke_of seen) 1) refl
+  own_turn {step} (undoes {w = seen} undoing some same section levels pin calm_then) is go ends = by_depth (nat_le (revoke_of seen) 1) refl
     where
       was : OwnSays x (w (Section x.section))
       was = own.own some
@@ -216,6 +233,13 @@ module _ (x y : View) (w : Words) (bits : Bits x) (own : Own x w) (k : ℕ) (l m
       out : m ≡ outermost (revoke_of seen - 1) l
       out = out_levels (revoke_of seen - 1) levels (λ opening more. opening) go
 
+      level_in : LevelAct → ℕ
+      level_in (is_undone n) = n
+      level_in act = revoke_of seen
+
+      undone_level : {n : ℕ} → is_undone (revoke_of seen) ≡ is_undone n → revoke_of seen ≡ n
+      undone_level is = ap level_in is
+
       turn : revoked_by (word_of y (put_at w (Section x.section) (undone_of seen))) ≡ None → pinned_as y (put_at w (Section x.section) (undone_of seen)) ≡ pinned_as x w
           → Turns (put_at w (Section x.section) (undone_of seen))
       turn q d = record {
@@ -224,6 +248,7 @@ module _ (x y : View) (w : Words) (bits : Bits x) (own : Own x w) (k : ℕ) (l m
         rises = inr (same_depth (pinned_as x w) (pinned_as y (put_at w (Section x.section) (undone_of seen))) d);
         by = λ n is. not_revoked (λ h. h) is;
         stays = λ n is. d;
+        undone = λ n is. subst U (undone_level is) (ends seen undoing refl);
       }
 
       low_one : (n : ℕ) → nat_le n 1 ≡ true → n - 1 ≡ 0
@@ -256,39 +281,39 @@ module _ (x y : View) (w : Words) (bits : Bits x) (own : Own x w) (k : ℕ) (l m
           let at = put_section w x.section (undone_of seen) in
           turn (open_word y (put_at w (Section x.section) (undone_of seen)) x.section (undone_of seen) some still_open at ∙ unrevoked (undone_of seen) 1 now.1.0 (one_three 1 refl))
           (open_pin y (put_at w (Section x.section) (undone_of seen)) x.section (undone_of seen) some still_open at ∙ now.1.3 ∙ sym p)
-  own_turn {step} (touches {s = s} {old = old} {new = new} place effect other touch by keeps calm_then) is go =
+  own_turn {step} (touches {s = s} {old = old} {new = new} place effect other touch by keeps calm_then) is go ends =
       still (words_after step w) keeps.2 (λ some. elsewhere_stays step w s x.section old new place effect (λ same. other some (sym same))) (same_levels keeps.3 go)
-  own_turn {step} (opens {s = s} shut some same section levels pin calm_then) is go =
+  own_turn {step} (opens {s = s} shut some same section levels pin calm_then) is go ends =
       let p = packed 1 x.number x.priority 0 1 0 (omega arith) bits.number bits.priority (omega arith) (omega arith) (omega arith) in
       let none = closed_word x w shut in
-      live_turn k l m _ _ _ _ R opens_one (
+      live_turn k l m _ _ _ _ R U opens_one (
         in_levels (levels ∙ next x.levels (closed shut)) go,
         none,
         open_word y (words_after (OpenSection s (opening_of x)) w) s (opening_of x) some section (put_section w s (opening_of x)) ∙ unrevoked (opening_of x) 1 p.0 (one_three 1 refl),
-      ) (λ h. h) none (inl (empty shut))
+      ) (λ h. h) (λ h. h) none (inl (empty shut))
     where
       next : (n : ℕ) → n ≡ 0 → 1 ≡ suc n
       next n is = omega (arith, is)
-  own_turn {step} (opens_level some room same section levels pin calm_then) is go =
+  own_turn {step} (opens_level some room same section levels pin calm_then) is go ends =
       let p = own_packed x bits (pin_low x y w bits own some) in
       let now = opened_says (own_of x) (subst (λ n. n < 255) (sym p.1.4) room) in
       goes_live (words_after step w) opens_one (opened_of (own_of x)) 1 some section (own_live some (opened_of (own_of x)) is) (swapped x y w bits own (opened_of (own_of x)) is) (now.1.0 ∙ p.1.0) (one_three 1 refl)
-      (own_pin some (opened_of (own_of x)) (pinned_of (own_of x)) is now.1.3 (same_size (pinned_of (own_of x)))) (λ r q. (in_levels levels go, r, q)) (λ h. h)
-  own_turn {step} (commits some keeps none level) is go =
+      (own_pin some (opened_of (own_of x)) (pinned_of (own_of x)) is now.1.3 (same_size (pinned_of (own_of x)))) (λ r q. (in_levels levels go, r, q)) (λ h. h) (λ h. h)
+  own_turn {step} (commits some keeps none level) is go ends =
       let now = committed_says (own_of x) in
       goes_live (words_after step w) calm (committed_of (own_of x)) 5 some keeps.2 (own_live some (committed_of (own_of x)) is) (swapped x y w bits own (committed_of (own_of x)) is) now.1.0 (five_three 5 refl)
-      (own_pin some (committed_of (own_of x)) (pinned_of (own_of x)) is now.1.3 (same_size (pinned_of (own_of x)))) (λ r q. (same_levels keeps.3 go, q ∙ sym r)) (λ h. h)
-  own_turn {step} (closes_levels {n = n} some high low same section levels pin calm_then) is go =
+      (own_pin some (committed_of (own_of x)) (pinned_of (own_of x)) is now.1.3 (same_size (pinned_of (own_of x)))) (λ r q. (same_levels keeps.3 go, q ∙ sym r)) (λ h. h) (λ h. h)
+  own_turn {step} (closes_levels {n = n} some high low same section levels pin calm_then) is go ends =
       let p = own_packed x bits (pin_low x y w bits own some) in
       let now = deep_says (own_of x) n low in
       goes_live (words_after step w) (closes_all_but n) (with_depth (own_of x) n) 1 some section (own_live some (with_depth (own_of x) n) is) (swapped x y w bits own (with_depth (own_of x) n) is) (now.1.0 ∙ p.1.0) (one_three 1 refl)
-      (own_pin some (with_depth (own_of x) n) (pinned_of (own_of x)) is now.1.3 (same_size (pinned_of (own_of x)))) (λ r q. (out_levels n levels (λ opening more. opening) go, r, q)) (λ h. h)
-  own_turn {step} (ends_section leaving stay same section pin calm_then) is go = elim (zero_or_some x.section) [
-    | inl none ↦ live_turn k l m _ _ _ _ R (closes_all_but 0) (out, closed_word x w none, closed_word y (words_after step w) section) (λ h. h) (closed_word x w none) (inl (empty none))
+      (own_pin some (with_depth (own_of x) n) (pinned_of (own_of x)) is now.1.3 (same_size (pinned_of (own_of x)))) (λ r q. (out_levels n levels (λ opening more. opening) go, r, q)) (λ h. h) (λ h. h)
+  own_turn {step} (ends_section leaving stay same section pin calm_then) is go ends = elim (zero_or_some x.section) [
+    | inl none ↦ live_turn k l m _ _ _ _ R U (closes_all_but 0) (out, closed_word x w none, closed_word y (words_after step w) section) (λ h. h) (λ h. h) (closed_word x w none) (inl (empty none))
     | inr some ↦
         let was = (own.own some).ends leaving in
         let none = open_word x w x.section (w (Section x.section)) some refl refl ∙ unrevoked (w (Section x.section)) 5 was.0 (five_three 5 refl) in
-        live_turn k l m _ _ _ _ R (closes_all_but 0) (out, none, closed_word y (words_after step w) section) (λ h. h) none
+        live_turn k l m _ _ _ _ R U (closes_all_but 0) (out, none, closed_word y (words_after step w) section) (λ h. h) (λ h. h) none
         (inr (same_depth (pinned_as x w) (pinned_as y (words_after step w)) (closed_pin y (words_after step w) section ∙ pin ∙ sym was.1 ∙ sym (open_pin x w x.section (w (Section x.section)) some refl refl))))
   ]
     where

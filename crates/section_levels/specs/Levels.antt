@@ -1,21 +1,24 @@
 -- The levels that each thread has open along a run.
-use Rattle.std.specs.Prelude.{◌≡◌, ◌<◌, ◌≤◌, ℕ, Option, None, Some, List, [], length, nat_eq, nat_lt, if◌then◌else◌}
+use Rattle.std.specs.Prelude.{◌≡◌, ◌<◌, ◌≤◌, ℕ, Option, None, Some, List, [], length, slice_get, nat_eq, nat_lt, if◌then◌else◌}
 use Rattle.op_core.specs.ThreadCode.{Code}
 use Rattle.heap_words.specs.declared.areas.Area.TheVariants.{Section}
 use Rattle.section_state.specs.declared.State.TheVariants.{Revoking}
-use Rattle.section_state.specs.SectionWord.{pinned_of, revoke_of}
+use Rattle.section_state.specs.SectionWord.{pinned_of, revoke_of, undone_of}
 use Rattle.monitor_core.specs.Contention.{is_in}
+use Rattle.step_port.specs.declared.answer.StepAnswer.TheVariants.{Done}
+use Rattle.step_port.specs.declared.step.Step.TheVariants.{MarkUndone}
 use Rattle.step_port.specs.Words.{Words}
+use Rattle.thread_automaton.specs.declared.Attempt.TheVariants.{Undoing}
 use Rattle.thread_automaton.specs.declared.Bounds.{Bounds}
 use Rattle.thread_automaton.specs.ThreadState.{ThreadState}
 use Rattle.core_runs.specs.Cores.{Core}
-use Rattle.core_runs.specs.Acts.{Act}
+use Rattle.core_runs.specs.Acts.{Act, did}
 use Rattle.core_runs.specs.Revoked.{RevokesAt, IsDoomed}
-use Rattle.level_runs.specs.LevelRun.{LevelAct, is_revoked, IsLevelRun, PinnedAt, IsLevel}
+use Rattle.level_runs.specs.LevelRun.{LevelAct, is_revoked, is_undone, IsLevelRun, PinnedAt, IsLevel}
 use Rattle.run_threads.specs.Numbers.{AreNumbered}
 use Rattle.held_levels.specs.HeldLevels.{IsOrderlyRun}
 
--- The code goes in order, words and numbers are in range, threads stand at their numbers as the run begins, and no level is
+-- The code goes in order, words and numbers are in range, threads have their own numbers as the run begins, and no level is
 -- open.
 pub record IsLevelledRun {S : Type 0} (code : Code S) (b : Bounds) (first : S) (classes : ℕ) (c : ℕ → Core S) (acts : List Act) : Type 0 where
   pub ordered : IsOrderlyRun code b first classes c acts
@@ -57,6 +60,15 @@ revoked_in c acts t n = revoked_by (word_in ((core_at c acts n).threads t) (core
 abbrev pub depth_in : {S : Type 0} → (ℕ → Core S) → List Act → ℕ → ℕ → ℕ
 depth_in c acts t n = pinned_in ((core_at c acts n).threads t) (core_at c acts n).words
 
+-- With act number k thread t, which is undoing its section to level n, notes it undone so far.
+pub record UndoesAt {S : Type 0} (c : ℕ → Core S) (acts : List Act) (k t n : ℕ) : Type 0 where
+  pub th : ThreadState S
+  pub word : ℕ
+  pub stands : (c k).threads t ≡ Some th
+  pub undoing : th.attempt ≡ Undoing word
+  pub level : n ≡ revoke_of word
+  pub notes : slice_get acts k ≡ Some (did t (MarkUndone th.section (undone_of word)) Done)
+
 -- The levels of thread t are a run of levels, and its section's pinned depth is as it has to be.
 pub record RunsInLevels {S : Type 0} (c : ℕ → Core S) (acts : List Act) (t : ℕ) : Type 0 where
   pub act : ℕ → LevelAct
@@ -64,6 +76,9 @@ pub record RunsInLevels {S : Type 0} (c : ℕ → Core S) (acts : List Act) (t :
   pub pinned : (n : ℕ) → PinnedAt (levels_in c acts t) (revoked_in c acts t) act (depth_in c acts t) n
   -- where it is revoked, that act revokes it
   pub revokes : (k n : ℕ) → act k ≡ is_revoked n → (th : ThreadState S) × ((c k).threads t ≡ Some th) × RevokesAt acts k th.section n
+  -- and where it is undone, the thread notes that, and nowhere else
+  pub undoes : (k n : ℕ) → act k ≡ is_undone n → UndoesAt c acts k t n
+  pub notes : (k s w : ℕ) → slice_get acts k ≡ Some (did t (MarkUndone s w) Done) → (n : ℕ) × (act k ≡ is_undone n)
 
 abbrev pub ThreadsRunInLevels : {S : Type 0} → Code S → Type 0
 ThreadsRunInLevels {S} code = (b : Bounds) (first : S) (classes : ℕ) (c : ℕ → Core S) (acts : List Act) → IsLevelledRun code b first classes c acts
