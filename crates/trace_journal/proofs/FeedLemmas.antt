@@ -1,5 +1,5 @@
 -- A reader goes on over the bytes of a text.
-use Rattle.std.proofs.Common.{◌≡◌, ℕ, zero, suc, ◌+◌, ◌<◌, ◌≤◌, ◌==◌, ◌&&◌, Bool, true, false, not, nat_lt, cond, List, [], ◌∷◌, ◌++◌, length, take, drop, get_or, Result, Ok, Err, refl, sym, ap, ◌∙◌, subst, arith, append-nil, append_assoc, add-one, inl, inr}
+use Rattle.std.proofs.Common.{◌≡◌, ℕ, suc, ◌+◌, ◌<◌, ◌≤◌, ◌==◌, ◌&&◌, Bool, true, false, not, nat_lt, cond, List, [], ◌∷◌, ◌++◌, length, take, get_or, Result, Ok, Err, refl, sym, ap, ◌∙◌, subst, arith, append-nil, append_assoc, add-one, inl, inr}
 use Rattle.std.proofs.lemmas.Bool.{lt-ltb, le-ltb, ltb-true, ltb-false, cases_Bool, and_parts, ne_eqb}
 use Rattle.std.proofs.lemmas.List.{take_all, take_more}
 use Rattle.trace_journal.specs.declared.item.JournalFault.{JournalFault}
@@ -9,7 +9,7 @@ use Rattle.trace_journal.specs.declared.state.JournalReader.{JournalReader}
 use Rattle.trace_journal.specs.declared.state.Stage.{Stage}
 use Rattle.trace_journal.specs.declared.state.Stage.TheVariants.{Head, Items, Closed, Failed}
 use Rattle.trace_journal.specs.Text.{Lines, before_first, onto, lines_of, is_inside}
-use Rattle.trace_journal.specs.Reading.{Read, AreReadFrom, of_version}
+use Rattle.trace_journal.specs.Reading.{Read}
 use Rattle.trace_journal.specs.Reader.{with_items, FromStage, ReadsOn, Feeds, LeadsTo, line_in}
 use Rattle.trace_journal.proofs.StageLemmas.{none_added}
 
@@ -22,7 +22,7 @@ not_true : (b : Bool) → not b ≡ true → b ≡ false
 not_true true e = absurd cc
 not_true false e = refl
 
-line_ends : (part rest : List ℕ) → is_inside part ≡ true → lines_of (part ++ 10 ∷ rest) ≡ record { ended = part ∷ (lines_of rest).ended; rest = (lines_of rest).rest }
+pub line_ends : (part rest : List ℕ) → is_inside part ≡ true → lines_of (part ++ 10 ∷ rest) ≡ record { ended = part ∷ (lines_of rest).ended; rest = (lines_of rest).rest }
 line_ends [] rest inside = refl
 line_ends (b ∷ part) rest inside =
     let k = and_parts (not (b == 10)) (is_inside part) inside in

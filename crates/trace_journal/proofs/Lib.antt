@@ -3,3 +3,4 @@ pub mod NumberLemmas
 pub mod SaidLemmas
 pub mod StageLemmas
 pub mod FeedLemmas
+pub mod LawLemmas

@@ -1,7 +1,7 @@
 -- A number is written in decimal digits, and read from them.
-use Rattle.std.proofs.Common.{◌≡◌, ℕ, zero, suc, ◌+◌, ◌-◌, ◌*◌, ◌<◌, ◌≤◌, ◌^◌, ◌==◌, Bool, true, false, not, ◌&&◌, cond, nat_le, List, [], ◌∷◌, ◌++◌, length, drop, get_or, Option, Some, None, refl, sym, ap, ◌∙◌, subst, arith, add-one, drop-cons}
+use Rattle.std.proofs.Common.{◌≡◌, ℕ, zero, suc, ◌+◌, ◌<◌, ◌≤◌, ◌^◌, ◌==◌, Bool, true, false, not, ◌&&◌, cond, nat_le, List, [], ◌∷◌, length, drop, get_or, Some, None, refl, sym, ap, ◌∙◌, arith, add-one, drop-cons}
 use Rattle.std.specs.Fmt.{decimal}
-use Rattle.std.proofs.lemmas.Bool.{and_parts, leb-true, le-leb, cases_Bool, ne_eqb, eqb-true}
+use Rattle.std.proofs.lemmas.Bool.{and_parts, leb-true, le-leb, ne_eqb}
 use Rattle.std.proofs.lemmas.Option.{same_Some}
 use Rattle.std.proofs.lemmas.Fmt.{decimal-digits_value, digits_value-decimal, digits_decimal, first_decimal, decimal_nonempty, decimal_digit}
 use Rattle.std.proofs.lemmas.Str.Parse.{IsDigitsTest, FoldsDigits, IsNumeralModel, numerals_by_fold}
@@ -39,11 +39,15 @@ lead_of : (n : ℕ) → n < 2 ^ 64 → get_or (decimal n) 0 0 ≡ 48 → length 
 lead_of zero h e = ap length (decimal_digit 0 (omega arith))
 lead_of (suc n) h e = absurd (let more = first_decimal (suc n) (omega arith) h in omega (arith, e, more))
 
+-- a number is written with no leading zero
+pub decimal_leads : (n : ℕ) → n < 2 ^ 64 → has_no_leading_zero (decimal n) ≡ true
+decimal_leads n h = led (decimal n) (decimal_nonempty n h) (lead_of n h)
+
 -- the digits of a number up to a limit are that number
 pub number_of : (limit n : ℕ) → limit < 2 ^ 64 → n ≤ limit → number_up_to limit (decimal n) ≡ Some n
 number_of limit n small le =
     let h : n < 2 ^ 64 = omega (arith, small, le) in
-    let lead : has_no_leading_zero (decimal n) ≡ true = led (decimal n) (decimal_nonempty n h) (lead_of n h) in
+    let lead : has_no_leading_zero (decimal n) ≡ true = decimal_leads n h in
     let digits : are_digits (decimal n) ≡ true = decimal_digits n h in
     let value : digits_value 0 (decimal n) ≡ n = digits_value-decimal numerals n h in
     let fits : nat_le n limit ≡ true = le-leb n limit le in

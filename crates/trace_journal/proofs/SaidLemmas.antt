@@ -1,8 +1,8 @@
 -- A line is read as what it says, and what is read of it is what it says.
-use Rattle.std.proofs.Common.{◌≡◌, ℕ, zero, suc, ◌+◌, ◌<◌, ◌≤◌, ◌^◌, ◌==◌, Bool, true, false, ◌&&◌, cond, nat_le, codes, List, [], ◌∷◌, ◌++◌, Option, Some, None, option_map, bytes_eq, refl, sym, ap, ◌∙◌, subst, arith, ◌⊎◌, inl, inr}
+use Rattle.std.proofs.Common.{◌≡◌, ℕ, zero, suc, ◌<◌, ◌≤◌, ◌^◌, ◌==◌, Bool, true, false, ◌&&◌, cond, nat_le, codes, List, ◌∷◌, ◌++◌, Option, Some, None, option_map, bytes_eq, refl, sym, ap, ◌∙◌, subst, arith, inl, inr}
 use Rattle.std.specs.Option.{option_and_then}
 use Rattle.std.specs.Fmt.{decimal}
-use Rattle.std.proofs.lemmas.Bool.{cases_Bool, and_parts, leb-true, le-leb, eqb-true, ne_eqb}
+use Rattle.std.proofs.lemmas.Bool.{cases_Bool, leb-true, le-leb, eqb-true, ne_eqb}
 use Rattle.std.proofs.lemmas.Option.{same_Some}
 use Rattle.std.proofs.lemmas.Slice.Eq.{bytes_eq-Decides}
 use Rattle.decimal_numbers.specs.Numbers.{are_digits, number_up_to}
@@ -15,7 +15,7 @@ use Rattle.op_core.specs.declared.Reply.TheVariants.{Class, Value, Made, Done, N
 use Rattle.trace_journal.specs.declared.item.Answered.{Answered}
 use Rattle.trace_journal.specs.declared.item.JournalItem.{JournalItem}
 use Rattle.trace_journal.specs.declared.item.JournalItem.TheVariants.{Event as event_item, Undone}
-use Rattle.trace_journal.specs.Parsing.{Cut, cut, u32_of, small_of, answered, of_none, of_one, init_reply, done_reply, of_word, of_three, with_three, with_word, with_one, answered_of, event_with, event_of, undone_words, undone_of, item_of, item_at}
+use Rattle.trace_journal.specs.Parsing.{cut, u32_of, small_of, answered, of_none, of_one, init_reply, done_reply, of_word, of_three, with_three, with_word, with_one, answered_of, event_with, event_of, undone_words, undone_of, item_of, item_at}
 use Rattle.trace_journal.specs.Spelling.{joined, event_words, event_line, undone_line, spelled, CanBeSaid, IsEventItem, IsItem, Says}
 use Rattle.trace_journal.proofs.CutLemmas.{uncut, uncut_cut, cut_digits, cut_last}
 use Rattle.trace_journal.proofs.NumberLemmas.{decimal_digits, number_of, number_is}

@@ -1,5 +1,5 @@
 -- Where a line of a journal leads.
-use Rattle.std.proofs.Common.{◌≡◌, ℕ, ◌+◌, ◌<◌, ◌≤◌, ◌^◌, ◌==◌, ◌&&◌, Bool, true, false, nat_lt, cond, codes, bytes_eq, Option, Some, None, List, [], ◌∷◌, ◌++◌, drop, Result, Ok, Err, refl, sym, ap, ◌∙◌, subst, arith, inl, inr, append-nil}
+use Rattle.std.proofs.Common.{◌≡◌, ℕ, ◌+◌, ◌<◌, ◌^◌, ◌&&◌, Bool, true, false, nat_lt, cond, codes, bytes_eq, Option, Some, None, List, [], ◌∷◌, ◌++◌, drop, Result, Ok, Err, refl, sym, ap, ◌∙◌, subst, arith, inl, inr, append-nil}
 use Rattle.std.specs.Fmt.{decimal}
 use Rattle.std.proofs.lemmas.Bool.{lt-ltb, ltb-true, false_from_ne_true, cond_both, cases_Bool, eqb-true, eq-eqb}
 use Rattle.std.proofs.lemmas.Fmt.{decimal_digit}
@@ -15,7 +15,7 @@ use Rattle.trace_journal.specs.declared.state.Stage.TheVariants.{Head, Items, Cl
 use Rattle.trace_journal.specs.Parsing.{Cut, cut, u32_of, version_at, head_at, is_number, ends_at}
 use Rattle.trace_journal.specs.Spelling.{Says, head_line, end_line}
 use Rattle.trace_journal.specs.Text.{Lines}
-use Rattle.trace_journal.specs.Reading.{Read, GoesOn, AreRead, AreReadFrom, IsHead, IsKnown, Closes, of_version, with_item, events_with}
+use Rattle.trace_journal.specs.Reading.{Read, GoesOn, AreRead, IsHead, IsKnown, Closes, of_version, with_item, events_with}
 use Rattle.trace_journal.specs.Reader.{with_items, FromStage, LeadsTo}
 use Rattle.trace_journal.proofs.CutLemmas.{uncut, uncut_cut}
 use Rattle.trace_journal.proofs.NumberLemmas.{number_of, number_is}

@@ -3,3 +3,4 @@ pub mod Parsing
 pub mod Text
 pub mod Reading
 pub mod Reader
+pub mod Laws

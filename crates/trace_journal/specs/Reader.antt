@@ -1,5 +1,5 @@
 -- What a reader makes of the rest of a text.
-use Rattle.std.specs.Prelude.{◌≡◌, ℕ, ◌+◌, Bool, nat_lt, List, [], ◌∷◌, ◌++◌, length, take, Result, Ok, Err}
+use Rattle.std.specs.Prelude.{◌≡◌, ℕ, ◌+◌, Bool, nat_lt, List, ◌∷◌, ◌++◌, length, take, Result, Ok, Err}
 use Rattle.trace_journal.specs.declared.item.JournalFault.{JournalFault}
 use Rattle.trace_journal.specs.declared.item.JournalItem.{JournalItem}
 use Rattle.trace_journal.specs.declared.state.JournalReader.{JournalReader}

@@ -1,12 +1,12 @@
 -- What a text is read as: a journal, or the first line that is wrong.
-use Rattle.std.specs.Prelude.{◌≡◌, ℕ, ◌+◌, ◌⊎◌, Bool, true, false, MatchBool, if◌then◌else◌, nat_lt, List, [], ◌∷◌, ◌++◌, length, take, codes, Result, Ok, Err}
+use Rattle.std.specs.Prelude.{◌≡◌, ℕ, ◌+◌, ◌⊎◌, Bool, true, false, MatchBool, if◌then◌else◌, nat_lt, List, [], ◌∷◌, length, take, codes, Result, Ok, Err}
 use Rattle.decimal_numbers.specs.Numbers.{are_digits, has_no_leading_zero}
 use Rattle.trace_journal.specs.declared.item.JournalFault.{JournalFault}
 use Rattle.trace_journal.specs.declared.item.JournalFault.TheVariants.{Line, Version, TooMany}
 use Rattle.trace_journal.specs.declared.item.JournalItem.{JournalItem}
 use Rattle.trace_journal.specs.declared.item.JournalLimits.{JournalLimits}
 use Rattle.trace_journal.specs.Spelling.{Says, joined, head_line, end_line}
-use Rattle.trace_journal.specs.Text.{Lines, lines_of, events_in}
+use Rattle.trace_journal.specs.Text.{lines_of, events_in}
 
 -- a journal that was read
 pub record Read : Type 0 where

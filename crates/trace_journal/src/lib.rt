@@ -4,6 +4,7 @@
 mod cut;
 mod head;
 mod item;
+pub mod laws;
 mod parse;
 mod reader;
 mod spell;

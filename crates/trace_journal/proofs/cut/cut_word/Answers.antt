@@ -1,4 +1,4 @@
-use Rattle.std.proofs.Common.{◌≡◌, ◌+◌, suc, take, drop, List, [], ◌∷◌, length, None, Some, sym, ap, ◌∙◌, add-one, arith, refl}
+use Rattle.std.proofs.Common.{◌≡◌, suc, take, drop, [], None, Some, sym, ap, ◌∙◌, add-one, arith}
 use Rattle.std.proofs.lemmas.List.{take_all, drop_all}
 use Rattle.trace_journal.specs.Parsing as spec
 use Rattle.trace_journal.proofs.CutLemmas.{behind, moves, cut_at, word_at_end}

@@ -1,4 +1,4 @@
-use Rattle.std.proofs.Common.{◌≡◌, take}
+use Rattle.std.proofs.Common.{take}
 use Rattle.trace_journal.specs.Reader.{Feeds}
 use Rattle.trace_journal.proofs.state.JournalReader.feed.Given as goal
 
