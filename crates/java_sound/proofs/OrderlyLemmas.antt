@@ -12,7 +12,7 @@ use Rattle.op_core.specs.declared.Reply.TheVariants.{Done}
 use Rattle.op_core.specs.declared.Next.{Next}
 use Rattle.op_core.specs.declared.Next.TheVariants.{Silent, Want, Ended}
 use Rattle.op_core.specs.Replies.{Fits}
-use Rattle.op_core.specs.Orderly.{IsEnd, IsWait, IsRewake, CanStand, at_first, by_silent, by_reply, by_start, IsOrderly}
+use Rattle.op_core.specs.Orderly.{IsWait, IsRewake, CanStand, at_first, by_silent, by_reply, by_start, IsOrderly}
 use Rattle.java_rows.specs.Plan.{Plan, want, silently, calls, ready, over, stuck}
 use Rattle.java_rows.specs.Program.{is_of_file}
 use Rattle.java_rows.specs.Thread.{Local, java_code, next_of, silent_of, reply_of, child_of}

@@ -1,5 +1,5 @@
 //! Type soundness of Java programs, from three hypotheses on their classes, operands and numbers (`Accepted`, `HasRoom`,
-//! `ClassesFollow`), which are still owed: that linking and verification give them isn't proved yet. Laws alone.
+//! `ClassesFollow`), of which the last is still owed: that linking and verification give it isn't proved yet. Laws alone.
 #![tactic(auto)]
 
 mod laws;

@@ -1,16 +1,15 @@
 -- Classes go up, and their numbers are words.
-use Rattle.std.proofs.Common.{◌≡◌, ◌≢◌, ◌<◌, ◌≤◌, ◌+◌, ◌-◌, ◌*◌, ◌^◌, ◌==◌, ◌&&◌, ◌||◌, ℕ, zero, suc, Bool, true, false, cond, nat_eq, nat_le, nat_lt, Option, None, Some, List, [], ◌∷◌, ◌++◌, length, slice_get, Contains, flat_map, inl, inr, refl, sym, ap, subst, ◌∙◌, arith, if◌then◌else◌}
+use Rattle.std.proofs.Common.{◌≡◌, ◌<◌, ◌≤◌, ◌+◌, ◌-◌, ◌*◌, ◌^◌, ◌==◌, ◌&&◌, ◌||◌, ℕ, zero, suc, Bool, true, false, cond, nat_eq, nat_le, nat_lt, Option, None, Some, List, ◌++◌, length, Contains, flat_map, refl, sym, ap, subst, ◌∙◌, arith, if◌then◌else◌}
 use Rattle.std.specs.Prelude.{unwrap_or, option_map, option_and_then, sum_by}
 use Rattle.std.specs.List.{list_any, range_with_len}
 use Rattle.std.specs.Option.{option_map_or}
-use Rattle.std.proofs.lemmas.Bool.{and_parts, leb-true, le-leb}
+use Rattle.std.proofs.lemmas.Bool.{and_parts, leb-true}
 use Rattle.std.proofs.lemmas.Option.{same_Some, none-some}
 use Rattle.std.proofs.lemmas.List.Elements.{Contains-append_left}
 use Rattle.access_flags.specs.declared.TheConstants.{INTERFACE, PRIVATE, ABSTRACT}
 use Rattle.access_flags.specs.Flags.{has}
 use Rattle.builtin_facts.proofs.NativeLaws.{numbers as built_in}
 use Rattle.builtin_facts.proofs.ThrowableLaws.{throwable as built_in_throwable}
-use Rattle.builtin_world.specs.Laws.{is_throwable}
 use Rattle.builtin_world.specs.Library.{library}
 use Rattle.builtin_world.specs.declared.number.TheConstants.{COUNT, OBJECT, THROWABLE}
 use Rattle.code_decode.specs.declared.code.ClassUnit.{ClassUnit}
@@ -19,26 +18,25 @@ use Rattle.link_types.specs.declared.types.ElementType.{ElementType}
 use Rattle.link_types.specs.declared.types.ElementType.TheVariants as elements
 use Rattle.link_types.specs.declared.types.ObjectType.{ObjectType}
 use Rattle.link_types.specs.declared.types.ObjectType.TheVariants.{Class, Other, Array}
-use Rattle.link_types.specs.Subtypes.{is_object_below, is_element_below, is_object_element}
+use Rattle.link_types.specs.Subtypes.{is_object_below, is_element_below}
 use Rattle.link_rules.specs.Classes.{NamedMember, class_has, classes_of}
 use Rattle.link_rules.specs.FixedObjects.{class_object_size, first_free, system_out_object}
 use Rattle.link_rules.specs.Layout.{static_words}
 use Rattle.link_rules.specs.Members.{Declared, method_id, selected, signature_of}
 use Rattle.link_rules.specs.Methods.{implemented, method_named, select_member, selection_start}
-use Rattle.link_rules.specs.Names.{ProgramNames, array_numbered, class_count, is_class_number, program_names, type_named, type_numbered}
+use Rattle.link_rules.specs.Names.{array_numbered, class_count, is_class_number, program_names, type_named, type_numbered}
 use Rattle.link_rules.specs.Supers.{is_class_below, superclasses, superinterfaces}
 use Rattle.link_rules.proofs.Looked.{selected_fits}
 use Rattle.link_rules.proofs.Numbers.{class_count_is}
 use Rattle.link_rules.proofs.Objects.{range_more}
 use Rattle.link_rules.proofs.Subclasses.{subclasses_ordered}
-use Rattle.link_rules.proofs.Arrays.{from_flat_map}
 use Rattle.type_rules.specs.Environments.{hierarchy_of}
-use Rattle.java_rows.specs.Program.{is_of_file, is_subclass, method_has, select}
-use Rattle.soundness_senses.specs.Runs.{MayStandFor, seen_class, seen_element, seen_type}
+use Rattle.java_rows.specs.Program.{is_subclass, method_has, select}
+use Rattle.soundness_senses.specs.Runs.{MayStandFor, seen_element, seen_type}
 use Rattle.linked_operands.specs.Sound.{IsSound}
 use Rattle.linked_operands.proofs.ClassNumbers.{type_of_class}
 use Rattle.linked_operands.proofs.Hierarchy.{found_any, object_above}
-use Rattle.linked_operands.proofs.Methods.{both_true, from_map}
+use Rattle.linked_operands.proofs.Methods.{both_true}
 use Rattle.sound_programs.specs.ClassFacts.{ClassesGoUp, NumbersAreWords}
 
 throwable_is_class : (us : List ClassUnit) → class_has (classes_of us) THROWABLE INTERFACE ≡ false

@@ -1,5 +1,5 @@
 -- From acceptance alone.
-use Rattle.std.proofs.Common.{◌≡◌, ◌<◌, ℕ, true, false, cond, Option, None, Some, List, [], ◌∷◌, ◌++◌, length, map, inl, inr, codes, refl, sym, ap, subst, ◌∙◌}
+use Rattle.std.proofs.Common.{◌≡◌, ◌<◌, ℕ, false, cond, List, [], ◌∷◌, ◌++◌, length, map, codes, refl, sym, ap, subst, ◌∙◌}
 use Rattle.access_flags.specs.declared.TheConstants.{STATIC}
 use Rattle.access_flags.specs.Flags.{has}
 use Rattle.builtin_world.specs.Library.{library}
@@ -8,7 +8,6 @@ use Rattle.class_names.specs.Reading.{spells_class_name, split_at_semicolon, bas
 use Rattle.class_names.specs.Kinds.{kinds_within}
 use Rattle.code_decode.specs.declared.code.ClassUnit.{ClassUnit}
 use Rattle.link_types.specs.declared.operands.MethodId.{MethodId}
-use Rattle.link_types.specs.declared.methods.MethodBody.TheVariants as bodies
 use Rattle.link_types.specs.declared.types.ElementType.TheVariants as elements
 use Rattle.link_types.specs.declared.types.ObjectType.TheVariants.{Class, Array}
 use Rattle.link_types.specs.declared.types.ValueType.TheVariants as values
@@ -19,7 +18,6 @@ use Rattle.op_core.specs.Orderly.{IsOrderly}
 use Rattle.type_rules.specs.declared.types.VerificationType.TheVariants.{Object, UninitThis}
 use Rattle.type_rules.specs.Environment.{type_of_value}
 use Rattle.type_rules.specs.Environments.{is_constructor, receiver_values, words_of_values}
-use Rattle.java_rows.specs.Program.{body_of}
 use Rattle.java_rows.specs.Thread.{java_code, first_state}
 use Rattle.soundness_senses.specs.Accepted.{IsMain}
 use Rattle.soundness_senses.specs.Fits.{CodeOf}

@@ -1,5 +1,5 @@
 -- Objects have few words.
-use Rattle.std.proofs.Common.{◌≡◌, ◌≢◌, ◌<◌, ◌≤◌, ◌+◌, ◌*◌, ◌^◌, ℕ, Bool, true, false, cond, Option, None, Some, List, length, map, nat_le, bytes_eq, codes, inl, inr, refl, sym, ap, subst, ◌∙◌, arith}
+use Rattle.std.proofs.Common.{◌≡◌, ◌≢◌, ◌<◌, ◌≤◌, ◌+◌, ◌*◌, ◌^◌, ℕ, Bool, true, false, cond, Option, None, Some, List, length, map, nat_le, bytes_eq, codes, inl, inr, refl, ap, ◌∙◌, arith}
 use Rattle.std.specs.List.{range_with_len}
 use Rattle.std.specs.Option.{option_map_or}
 use Rattle.std.proofs.lemmas.Bool.{cases_lt, leb-true}
@@ -10,7 +10,7 @@ use Rattle.class_layout.proofs.RowLaws.{super_is_small, no_words}
 use Rattle.code_decode.specs.declared.code.ClassUnit.{ClassUnit}
 use Rattle.code_laws.proofs.FileLaws.{small}
 use Rattle.link_rules.specs.Classes.{classes_of, fields_of, member_of_file, superclass_of}
-use Rattle.link_rules.specs.Layout.{array_words, built_in_words, instance_words, object_words, own_words}
+use Rattle.link_rules.specs.Layout.{array_words, built_in_words, instance_words, own_words}
 use Rattle.link_rules.specs.Names.{program_names, array_numbered}
 use Rattle.link_rules.proofs.Fields.{library_stays, library_words_are, words_of_file}
 use Rattle.link_rules.proofs.Numbers.{in_library, is_file}

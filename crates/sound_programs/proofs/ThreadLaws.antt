@@ -1,5 +1,5 @@
 -- Objects of Threads have the words of a Thread.
-use Rattle.std.proofs.Common.{◌≡◌, ◌≢◌, ◌⊎◌, ◌<◌, ◌≤◌, ◌+◌, ◌-◌, ◌^◌, ◌==◌, ◌||◌, ℕ, zero, suc, Bool, true, false, cond, nat_eq, nat_le, Option, None, Some, List, [], ◌∷◌, ◌++◌, length, fold, slice_get, Contains, flat_map, bytes_eq, inl, inr, refl, sym, ap, subst, ◌∙◌, arith}
+use Rattle.std.proofs.Common.{◌≡◌, ◌≢◌, ◌<◌, ◌≤◌, ◌+◌, ◌-◌, ◌^◌, ◌==◌, ◌||◌, ℕ, suc, Bool, true, false, cond, nat_eq, nat_le, Option, None, Some, List, [], ◌∷◌, ◌++◌, length, slice_get, Contains, flat_map, bytes_eq, inl, inr, refl, sym, ap, subst, ◌∙◌, arith}
 use Rattle.std.specs.Prelude.{unwrap_or, option_map}
 use Rattle.std.specs.List.{list_any, position_from}
 use Rattle.std.specs.Option.{option_map_or}
@@ -16,9 +16,8 @@ use Rattle.builtin_world.specs.Library.{library}
 use Rattle.builtin_world.specs.declared.number.TheConstants.{OBJECT, CLASS, THREAD}
 use Rattle.access_flags.specs.declared.TheConstants.{INTERFACE}
 use Rattle.code_decode.specs.declared.code.ClassUnit.{ClassUnit}
-use Rattle.link_types.specs.declared.types.ObjectType.{ObjectType}
-use Rattle.link_types.specs.declared.types.ObjectType.TheVariants.{Class, Other, Array}
-use Rattle.link_rules.specs.Arrays.{array_names, with_elements, arrays_always, arrays_of_unit, put_in_order}
+use Rattle.link_types.specs.declared.types.ObjectType.TheVariants.{Class, Other}
+use Rattle.link_rules.specs.Arrays.{array_names, with_elements, arrays_always, arrays_of_unit}
 use Rattle.link_rules.specs.Classes.{NamedClass, class_has, class_number, classes_of, is_array_name, superclass_of}
 use Rattle.link_rules.specs.Descriptors.{named_kind}
 use Rattle.link_rules.specs.FixedObjects.{first_free}
@@ -32,7 +31,7 @@ use Rattle.link_rules.proofs.Numbers.{class_count_is}
 use Rattle.link_rules.proofs.Upward.{superclasses_step}
 use Rattle.op_core.specs.OrdinaryState.{Object}
 use Rattle.java_sound.specs.Sound.{HasRoom}
-use Rattle.soundness_senses.specs.Runs.{IsThread, MayStandFor, ObjectFits, seen_type}
+use Rattle.soundness_senses.specs.Runs.{ObjectFits, seen_type}
 use Rattle.linked_operands.specs.Sound.{IsSound}
 use Rattle.linked_operands.proofs.ClassNumbers.{type_of_class}
 use Rattle.linked_operands.proofs.Hierarchy.{object_above, superinterfaces_are}
