@@ -10,6 +10,8 @@ mod loading;
 #[cfg(test)]
 mod making;
 #[cfg(test)]
+mod naming;
+#[cfg(test)]
 mod picking;
 #[cfg(test)]
 mod programs;

@@ -78,12 +78,12 @@ end
 );
 
 /// A run of `load`, and what is wanted of it.
-struct Load {
-    main: &'static str,
-    files: &'static [File],
-    status: u8,
-    out: &'static str,
-    err: &'static str,
+pub struct Load {
+    pub main: &'static str,
+    pub files: &'static [File],
+    pub status: u8,
+    pub out: &'static str,
+    pub err: &'static str,
 }
 
 const LOADED: [Load; 13] = [
@@ -192,7 +192,12 @@ const LOADED: [Load; 13] = [
     },
 ];
 
-fn is_loaded<R: Abort + Threads + Sync>(rt: &R, alloc: Global, load: &Load) -> Result<bool, Fail> {
+/// Whether `load` says of the files what is wanted.
+pub fn is_loaded<R: Abort + Threads + Sync>(
+    rt: &R,
+    alloc: Global,
+    load: &Load,
+) -> Result<bool, Fail> {
     let files = owned_files(rt, alloc, load.files)?;
     let seen = run_over(rt, alloc, &["load", "D", load.main], files, "", NO_FAULTS)?;
     Ok(
