@@ -1,8 +1,8 @@
 -- Texts and journals: each text is read in one way, and a journal is read of its own text alone.
-use Rattle.std.proofs.Common.{◌≡◌, ℕ, ◌+◌, ◌<◌, ◌≤◌, ◌^◌, ◌==◌, ◌&&◌, Bool, true, false, not, nat_le, nat_lt, MatchBool, cond, codes, List, [], ◌∷◌, ◌++◌, length, map, take, drop, Some, None, Result, Ok, Err, refl, sym, ap, ◌∙◌, subst, arith, inl, inr, append-nil, append_assoc}
+use Rattle.std.proofs.Common.{◌≡◌, ℕ, suc, ◌+◌, ◌<◌, ◌≤◌, ◌^◌, ◌==◌, ◌&&◌, Bool, true, false, not, nat_le, nat_lt, MatchBool, cond, codes, List, [], ◌∷◌, ◌++◌, length, map, take, drop, Some, None, Result, Ok, Err, refl, sym, ap, ◌∙◌, subst, arith, inl, inr, append-nil, append_assoc}
 use Rattle.std.specs.List.{AllByRecursion, concat}
 use Rattle.std.specs.Fmt.{decimal}
-use Rattle.std.proofs.lemmas.Bool.{cases_Bool, and_parts, lt-ltb, le-ltb, ltb-false, leb-true, eqb-true, ne_eqb}
+use Rattle.std.proofs.lemmas.Bool.{cases_Bool, and_parts, lt-ltb, le-ltb, ltb-true, ltb-false, leb-true, eqb-true, ne_eqb}
 use Rattle.std.proofs.lemmas.List.{take_all}
 use Rattle.std.proofs.lemmas.Option.{same_Some}
 use Rattle.std.proofs.lemmas.Fmt.{decimal_injective}
@@ -14,11 +14,12 @@ use Rattle.op_core.specs.declared.Reply.TheVariants.{Class, Value, Made, Done, N
 use Rattle.trace_journal.specs.declared.item.JournalFault.{JournalFault}
 use Rattle.trace_journal.specs.declared.item.JournalFault.TheVariants.{Line, Version, TooMany}
 use Rattle.trace_journal.specs.declared.item.JournalItem.{JournalItem}
+use Rattle.trace_journal.specs.declared.item.JournalLimits.{JournalLimits}
 use Rattle.trace_journal.specs.declared.item.JournalItem.TheVariants.{Event as event_item, Undone}
 use Rattle.trace_journal.specs.Parsing.{cut, item_at}
 use Rattle.trace_journal.specs.Spelling.{joined, event_words, spelled, head_line, end_line, CanBeSaid, IsItem, Says}
 use Rattle.trace_journal.specs.Text.{Lines, before_first, onto, lines_of, ended, is_inside, events_in, text_lines, text_of}
-use Rattle.trace_journal.specs.Reading.{Read, GoesOn, AreRead, AreReadFrom, IsHead, IsKnown, Closes, of_version, with_item, events_with}
+use Rattle.trace_journal.specs.Reading.{IsRead, Read, GoesOn, AreRead, AreReadFrom, IsHead, IsKnown, Closes, of_version, with_item, events_with}
 use Rattle.trace_journal.specs.Laws.{TextsHaveOneReading, ReadingsAreJournals, JournalsReadBack}
 use Rattle.trace_journal.proofs.FeedLemmas.{line_ends}
 use Rattle.trace_journal.proofs.SaidLemmas.{read_back}
@@ -198,6 +199,29 @@ lines_of_read past version most count events (line ∷ lines) rest items (inr (i
     (λ its g. lines_of_read past version most (count + 1) (events_with events h.0) lines rest its g) h.1 h.2
 lines_of_read past version most count events (line ∷ lines) rest items (inr (inr h)) = absurd (let no : Ok items ≡ Err (Line (count + 2)) = h.2 in cc)
 
+few_goes_on : (few : Bool) (most count : ℕ) (item : JournalItem) (items : List JournalItem) (AreOthers : Result (List JournalItem) JournalFault → Type 0) → few ≡ nat_lt count most
+    → ((its : List JournalItem) → count + 1 ≤ most → AreOthers (Ok its) → count + 1 + length its ≤ most)
+    → MatchBool few ((others : Result (List JournalItem) JournalFault) × AreOthers others × (Ok items ≡ with_item item others)) (Ok items ≡ Err (TooMany (count + 2)))
+    → count + length items ≤ most
+few_goes_on true most count item items AreOthers is others h =
+    let k = with_is item items h.0 h.2 in
+    let less : count < most = ltb-true count most (sym is) in
+    let le : count + 1 + length k.0 ≤ most = others k.0 (omega (arith, less)) (subst AreOthers k.1 h.1) in
+    let longer : length items ≡ suc (length k.0) = ap length k.2 in
+    omega (arith, le, longer)
+few_goes_on false most count item items AreOthers is others h = absurd cc
+
+few_read : (past : Bool) (version most count events : ℕ) (lines : List (List ℕ)) (rest : List ℕ) (items : List JournalItem) → count ≤ most
+    → AreRead past version most count events lines rest (Ok items) → count + length items ≤ most
+few_read past version most count events [] rest items le e = absurd cc
+few_read past version most count events (line ∷ lines) rest items le (inl h) =
+    let none : length items ≡ 0 = ap length (closes_is past (count + 3) lines rest items h.1).3 in
+    omega (arith, le, none)
+few_read past version most count events (line ∷ lines) rest items le (inr (inl h)) =
+    few_goes_on (nat_lt count most) most count h.0 items (AreRead past version most (count + 1) (events_with events h.0) lines rest) refl
+    (λ its less g. few_read past version most (count + 1) (events_with events h.0) lines rest its less g) h.2
+few_read past version most count events (line ∷ lines) rest items le (inr (inr h)) = absurd (let no : Ok items ≡ Err (Line (count + 2)) = h.2 in cc)
+
 version_is : (version : ℕ) (others : Result (List JournalItem) JournalFault) (read : Read) → Ok read ≡ of_version version others
     → (items : List JournalItem) × (others ≡ Ok items) × (read ≡ record { version = version; items = items })
 version_is version (Ok items) read e = (items, refl, ap (λ (r : Result Read JournalFault). elim r [ Ok x ↦ x | Err y ↦ read ]) e)
@@ -225,6 +249,20 @@ from_whole past most (line ∷ lines) rest read (inl h) =
     })
 from_whole past most (line ∷ lines) rest read (inr (inl h)) = absurd (let no : Ok read ≡ Err Version = h.3 in cc)
 from_whole past most (line ∷ lines) rest read (inr (inr h)) = absurd (let no : Ok read ≡ Err (Line 1) = h.1 in cc)
+
+few_from : (past : Bool) (most : ℕ) (lines : List (List ℕ)) (rest : List ℕ) (read : Read) → AreReadFrom past most lines rest (Ok read) → length read.items ≤ most
+few_from past most [] rest read e = absurd cc
+few_from past most (line ∷ lines) rest read (inl h) =
+    let k = version_is h.0 h.1 read h.5 in
+    let le : 0 + length k.0 ≤ most = few_read past h.0 most 0 0 lines rest k.0 (omega arith) (subst (AreRead past h.0 most 0 0 lines rest) k.1 h.4) in
+    let same : length read.items ≡ length k.0 = ap (λ (r : Read). length r.items) k.2 in
+    omega (arith, le, same)
+few_from past most (line ∷ lines) rest read (inr (inl h)) = absurd (let no : Ok read ≡ Err Version = h.3 in cc)
+few_from past most (line ∷ lines) rest read (inr (inr h)) = absurd (let no : Ok read ≡ Err (Line 1) = h.1 in cc)
+
+-- as many items as there may be, at most
+pub few_items : (limits : JournalLimits) (text : List ℕ) (read : Read) → IsRead limits text (Ok read) → length read.items ≤ limits.items
+few_items limits text read h = few_from _ limits.items _ _ read h.read
 
 pub readings_are_journals : ReadingsAreJournals
 readings_are_journals limits text read h =

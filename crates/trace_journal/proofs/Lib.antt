@@ -4,3 +4,4 @@ pub mod SaidLemmas
 pub mod StageLemmas
 pub mod FeedLemmas
 pub mod LawLemmas
+pub mod JournalLemmas

@@ -1,12 +1,16 @@
 -- What a text is read as: a journal, or the first line that is wrong.
 use Rattle.std.specs.Prelude.{◌≡◌, ℕ, ◌+◌, ◌⊎◌, Bool, true, false, MatchBool, if◌then◌else◌, nat_lt, List, [], ◌∷◌, length, take, codes, Result, Ok, Err}
 use Rattle.decimal_numbers.specs.Numbers.{are_digits, has_no_leading_zero}
+use Rattle.trace_journal.specs.declared.item.Journal.{Journal}
 use Rattle.trace_journal.specs.declared.item.JournalFault.{JournalFault}
 use Rattle.trace_journal.specs.declared.item.JournalFault.TheVariants.{Line, Version, TooMany}
 use Rattle.trace_journal.specs.declared.item.JournalItem.{JournalItem}
 use Rattle.trace_journal.specs.declared.item.JournalLimits.{JournalLimits}
+use Rattle.trace_journal.specs.declared.item.JournalRefusal.{JournalRefusal}
+use Rattle.trace_journal.specs.declared.item.JournalRefusal.TheVariants.{Fault, NoMemory}
+use Rattle.trace_journal.specs.declared.item.TheConstants.{LARGEST}
 use Rattle.trace_journal.specs.Spelling.{Says, joined, head_line, end_line}
-use Rattle.trace_journal.specs.Text.{lines_of, events_in}
+use Rattle.trace_journal.specs.Text.{lines_of, events_in, undos_in, places_in}
 
 -- a journal that was read
 pub record Read : Type 0 where
@@ -74,3 +78,16 @@ AreReadFrom past most (line ∷ lines) rest found =
 -- A text is read as a journal within these limits, or has this fault first.
 pub record IsRead (limits : JournalLimits) (text : List ℕ) (found : Result Read JournalFault) : Type 0 where
   pub read : AreReadFrom (nat_lt limits.bytes (length text)) limits.items (lines_of (take limits.bytes text)).ended (lines_of (take limits.bytes text)).rest found
+
+-- a journal of this version and of these items
+pub record IsJournalOf (journal : Journal) (read : Read) : Type 0 where
+  pub version : journal.version ≡ read.version
+  pub events : journal.events ≡ events_in read.items
+  pub undos : journal.undos ≡ undos_in 0 read.items
+  pub places : journal.places ≡ places_in 2 read.items
+
+-- what a text comes to as a whole, where memory doesn't run out
+abbrev pub ComesTo : List ℕ → Result Journal JournalRefusal → Type 0
+ComesTo text (Ok journal) = (read : Read) × IsRead LARGEST text (Ok read) × IsJournalOf journal read
+ComesTo text (Err (Fault fault)) = IsRead LARGEST text (Err fault)
+ComesTo text (Err NoMemory) = Unit {0}

@@ -44,6 +44,12 @@ undos_in n [] = []
 undos_in n (event_item e ∷ items) = undos_in (n + 1) items
 undos_in n (Undone t l words ∷ items) = record { after = n; thread = t; level = l; words = words } ∷ undos_in n items
 
+-- the number of the line of each event, where the first item is in line n
+abbrev pub places_in : ℕ → List JournalItem → List ℕ
+places_in n [] = []
+places_in n (event_item e ∷ items) = n ∷ places_in (n + 1) items
+places_in n (Undone t l k ∷ items) = places_in (n + 1) items
+
 -- the text of a journal, line by line
 abbrev pub text_lines : ℕ → List JournalItem → List (List ℕ)
 text_lines version items = head_line version ∷ map spelled items ++ end_line (length (events_in items)) ∷ []

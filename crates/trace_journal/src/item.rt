@@ -1,6 +1,6 @@
 //! What the lines of a journal say.
 
-use op_core::{Event, Op, Reply};
+use op_core::{Event, NoMemory, Op, Reply, Rows, Undo};
 
 /// What a line between the first and the last says.
 #[derive(Clone, Copy)]
@@ -52,3 +52,47 @@ pub const LARGEST: JournalLimits = JournalLimits {
     items: 4_194_304,
     bytes: 268_435_456,
 };
+
+/// A journal that was read.
+#[derive(Drop)]
+pub struct Journal {
+    /// 1 or 2.
+    pub version: u8,
+    /// The steps of the execution, in order.
+    pub events: Rows<Event>,
+    /// What was undone, in order.
+    pub undos: Rows<Undo>,
+    /// The line of each event, counted from 1.
+    pub places: Rows<u32>,
+}
+
+/// Why a text isn't read.
+#[derive(Clone, Copy)]
+pub enum JournalRefusal {
+    /// It is no journal.
+    Fault(JournalFault),
+    /// Memory ran out.
+    NoMemory,
+}
+
+impl From<JournalFault> for JournalRefusal {
+    ghost use Rattle.std.specs.Prelude.{◌≡◌};
+    ghost use Rattle.trace_journal.specs.declared.item.JournalRefusal.{JournalRefusal};
+
+    ghost from_gives = { λ fault refusal. refusal ≡ JournalRefusal.Fault fault };
+
+    fn from(fault: JournalFault) -> Self {
+        JournalRefusal::Fault(fault)
+    }
+}
+
+impl From<NoMemory> for JournalRefusal {
+    ghost use Rattle.std.specs.Prelude.{◌≡◌};
+    ghost use Rattle.trace_journal.specs.declared.item.JournalRefusal.{JournalRefusal};
+
+    ghost from_gives = { λ _ refusal. refusal ≡ JournalRefusal.NoMemory };
+
+    fn from(_error: NoMemory) -> Self {
+        JournalRefusal::NoMemory
+    }
+}

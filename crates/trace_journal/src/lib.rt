@@ -4,13 +4,15 @@
 mod cut;
 mod head;
 mod item;
+mod journal;
 pub mod laws;
 mod parse;
 mod reader;
 mod spell;
 mod state;
 
-pub use item::{JournalFault, JournalItem, JournalLimits, LARGEST};
+pub use item::{Journal, JournalFault, JournalItem, JournalLimits, JournalRefusal, LARGEST};
+pub use journal::read_journal;
 pub use parse::item_in;
 pub use spell::{push_end, push_head, push_item};
 pub use state::JournalReader;

@@ -15,7 +15,7 @@ use op_core::NoMemory;
 use std::alloc::Global;
 
 // Puts one more at the end of a row, which stays as it was after an error.
-fn add<T: Drop>(row: &mut Vec<T>, one: T) -> Result<(), NoMemory>
+pub(crate) fn add<T: Drop>(row: &mut Vec<T>, one: T) -> Result<(), NoMemory>
     ensures added { OnOk result (row.new.items ≡ row.old.items ++ one ∷ []) }
     ensures err { OnErr result (row.new.items ≡ row.old.items) }
 {
