@@ -1,5 +1,5 @@
 -- A text that is read as a whole.
-use Rattle.std.proofs.Common.{◌≡◌, List, [], ◌++◌, ℕ, Result, Ok, Err, refl, sym, ap, ◌∙◌, subst, append-nil}
+use Rattle.std.proofs.Common.{◌≡◌, List, [], ℕ, Result, Ok, Err, sym, ap, subst, append-nil}
 use Rattle.trace_journal.specs.declared.item.JournalFault.{JournalFault}
 use Rattle.trace_journal.specs.declared.item.JournalItem.{JournalItem}
 use Rattle.trace_journal.specs.declared.item.TheConstants.{LARGEST}

@@ -5,3 +5,4 @@ pub mod StageLemmas
 pub mod FeedLemmas
 pub mod LawLemmas
 pub mod JournalLemmas
+pub mod WritingLemmas

@@ -50,9 +50,23 @@ places_in n [] = []
 places_in n (event_item e ∷ items) = n ∷ places_in (n + 1) items
 places_in n (Undone t l k ∷ items) = places_in (n + 1) items
 
+-- the undos that come first, after n events, and then what comes of the others
+abbrev pub undos_first : (List Undo → List JournalItem) → ℕ → List Undo → List JournalItem
+undos_first rest n [] = rest []
+undos_first rest n (u ∷ undos) = if u.after == n then Undone u.thread u.level u.words ∷ undos_first rest n undos else rest (u ∷ undos)
+
+-- the items of events and undos: each undo before the event whose number it has; n events come before
+abbrev pub merged : ℕ → List Event → List Undo → List JournalItem
+merged n [] undos = undos_first (λ _. []) n undos
+merged n (e ∷ events) undos = undos_first (λ others. event_item e ∷ merged (n + 1) events others) n undos
+
 -- the text of a journal, line by line
 abbrev pub text_lines : ℕ → List JournalItem → List (List ℕ)
 text_lines version items = head_line version ∷ map spelled items ++ end_line (length (events_in items)) ∷ []
 
 abbrev pub text_of : ℕ → List JournalItem → List ℕ
 text_of version items = concat (map ended (text_lines version items))
+
+-- the lines of items
+abbrev pub lines_with : List JournalItem → List ℕ
+lines_with items = concat (map ended (map spelled items))

@@ -1,4 +1,4 @@
-use Rattle.std.proofs.Common.{◌≡◌, ◌≤◌, length, subst, sym}
+use Rattle.std.proofs.Common.{◌≤◌, length, subst, sym}
 use Rattle.trace_journal.specs.declared.item.TheConstants.{LARGEST}
 use Rattle.trace_journal.proofs.LawLemmas.{few_items}
 use Rattle.trace_journal.proofs.journal.read_journal.Goals as goal
