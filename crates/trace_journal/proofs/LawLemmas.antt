@@ -7,7 +7,9 @@ use Rattle.std.proofs.lemmas.List.{take_all}
 use Rattle.std.proofs.lemmas.Option.{same_Some}
 use Rattle.std.proofs.lemmas.Fmt.{decimal_injective}
 use Rattle.decimal_numbers.specs.Numbers.{is_digit, are_digits}
+use Rattle.op_core.specs.declared.Event.{Event}
 use Rattle.op_core.specs.declared.Op.{Op}
+use Rattle.op_core.specs.Replies.{Fits}
 use Rattle.op_core.specs.declared.Op.TheVariants as ops
 use Rattle.op_core.specs.declared.Reply.{Reply}
 use Rattle.op_core.specs.declared.Reply.TheVariants.{Class, Value, Made, Done, NotOwner, Woken, Number, Already, Ready, Bad, Claimed}
@@ -389,3 +391,12 @@ journals_read_back limits read small known all few short =
     let lines : lines_of (take limits.bytes text) ≡ record { ended = text_lines read.version read.items; rest = [] }
     = ap lines_of takes ∙ lines_back (text_lines read.version read.items) (text_inside read known all (omega (arith, few, small))) in
     record { read = subst (λ x. x) (λ i. AreReadFrom (sym fits i) limits.items (sym lines i).ended (sym lines i).rest (Ok read)) (whole_read limits.items read known all few) }
+
+all_fit : (version : ℕ) (items : List JournalItem) → AllByRecursion (IsItem version) items → AllByRecursion (λ (e : Event). Fits e.op e.reply) (events_in items)
+all_fit version [] all = tt
+all_fit version (event_item e ∷ items) all = (all.0.said.fits, all_fit version items all.1)
+all_fit version (Undone t l k ∷ items) all = all_fit version items all.1
+
+-- in the events of a journal each reply fits its operation
+pub events_fit : (version : ℕ) (items : List JournalItem) (events : List Event) → events ≡ events_in items → AllByRecursion (IsItem version) items → AllByRecursion (λ (e : Event). Fits e.op e.reply) events
+events_fit version items events is all = subst (AllByRecursion (λ (e : Event). Fits e.op e.reply)) (sym is) (all_fit version items all)

@@ -1,6 +1,9 @@
 -- What a text is read as: a journal, or the first line that is wrong.
 use Rattle.std.specs.Prelude.{◌≡◌, ℕ, ◌+◌, ◌⊎◌, Bool, true, false, MatchBool, if◌then◌else◌, nat_lt, List, [], ◌∷◌, length, take, codes, Result, Ok, Err}
+use Rattle.std.specs.List.{AllByRecursion}
 use Rattle.decimal_numbers.specs.Numbers.{are_digits, has_no_leading_zero}
+use Rattle.op_core.specs.declared.Event.{Event}
+use Rattle.op_core.specs.Replies.{Fits}
 use Rattle.trace_journal.specs.declared.item.Journal.{Journal}
 use Rattle.trace_journal.specs.declared.item.JournalFault.{JournalFault}
 use Rattle.trace_journal.specs.declared.item.JournalFault.TheVariants.{Line, Version, TooMany}
@@ -79,12 +82,13 @@ AreReadFrom past most (line ∷ lines) rest found =
 pub record IsRead (limits : JournalLimits) (text : List ℕ) (found : Result Read JournalFault) : Type 0 where
   pub read : AreReadFrom (nat_lt limits.bytes (length text)) limits.items (lines_of (take limits.bytes text)).ended (lines_of (take limits.bytes text)).rest found
 
--- a journal of this version and of these items
+-- a journal of this version and of these items, in whose events each reply fits its operation
 pub record IsJournalOf (journal : Journal) (read : Read) : Type 0 where
   pub version : journal.version ≡ read.version
   pub events : journal.events ≡ events_in read.items
   pub undos : journal.undos ≡ undos_in 0 read.items
   pub places : journal.places ≡ places_in 2 read.items
+  pub fit : AllByRecursion (λ (e : Event). Fits e.op e.reply) journal.events
 
 -- what a text comes to as a whole, where memory doesn't run out
 abbrev pub ComesTo : List ℕ → Result Journal JournalRefusal → Type 0

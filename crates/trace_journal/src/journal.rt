@@ -1,6 +1,8 @@
 //! A journal that is read as a whole.
 
 ghost use Rattle.std.specs.Prelude.{◌≡◌, ◌≤◌, length, Ok, Err, IfOk};
+ghost use Rattle.std.specs.List.{AllByRecursion};
+ghost use Rattle.trace_journal.specs.Spelling.{IsItem};
 ghost use Rattle.trace_journal.specs.Text.{events_in, undos_in, places_in};
 ghost use Rattle.trace_journal.specs.Reading.{IsRead, IsJournalOf, ComesTo};
 ghost use Rattle.trace_journal.specs.declared.item.JournalFault.{JournalFault};
@@ -92,7 +94,8 @@ fn read_items(alloc: Global, text: &[u8]) -> Result<ItemsRead, JournalRefusal>
 
 // The journal of these items.
 fn journal_of(alloc: Global, version: u8, items: &[JournalItem]) -> Result<Journal, NoMemory>
-    requires { length items.now ≤ 4194304 }
+    requires few { length items.now ≤ 4194304 }
+    requires all { AllByRecursion (IsItem version) items.now }
     ensures { IfOk result (λ journal. IsJournalOf journal (record { version = version; items = items.now })) }
 {
     let events = events_of(alloc, items)?;
