@@ -115,7 +115,6 @@ fn journal_of(alloc: Global, version: u8, items: &[JournalItem]) -> Result<Journ
 ///
 /// `Fault` exactly where the text is no journal within these limits, with its first fault; `NoMemory` where memory runs out
 /// alone.
-
 pub fn read_journal(alloc: Global, text: &[u8]) -> Result<Journal, JournalRefusal>
     ensures { ComesTo text.now result }
 {
