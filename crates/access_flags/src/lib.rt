@@ -19,7 +19,7 @@ pub const PROTECTED: u16 = 0x0004;
 /// Belongs to its class and not to an object.
 pub const STATIC: u16 = 0x0008;
 
-/// A class has no subclasses, a field isn't written behind its initializer, a method isn't overridden.
+/// A class has no subclasses, a field isn't written after its initializer, a method isn't overridden.
 pub const FINAL: u16 = 0x0010;
 
 /// A method runs under a monitor.

@@ -95,7 +95,7 @@ there_too x xs ys same =
     let found = summed_there (once x) ys (omega (arith, sums, one)) in
     subst (Contains ys) (sym (same_once x found.0 found.2)) found.1
 
--- the first text, or one behind it
+-- the first text, or a later one
 head_or_later : (x y : List ℕ) (ys : List (List ℕ)) → Ascends (y ∷ ys) → Contains (y ∷ ys) x → (comes x y ≡ false → y ≡ x) → y ≡ x
 head_or_later x y ys up (zero, below, at) not_before = at
 head_or_later x y ys up (suc k, below, at) not_before = not_before (up.0 x (k, omega (arith, below), at))

@@ -5,7 +5,7 @@ use Rattle.command_words.specs.declared.request.Request.{Request}
 use Rattle.program_answers.specs.declared.answer.Answer.{Answer}
 use Rattle.jrev_top.specs.Headline.{Outside, IsAnswer}
 
--- the folder tells that it holds these files, and the input these bytes
+-- what is outside says that the folder holds these files, and that the input is these bytes
 pub record Tells (files : List File) (input : List ℕ) (outside : Outside) : Type 0 where
   pub told_files : outside.files ≡ Some files
   pub told_input : outside.input ≡ Some input

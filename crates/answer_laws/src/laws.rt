@@ -2,7 +2,7 @@
 
 ghost use Rattle.answer_laws.specs.OneAnswer.{RequestsHaveOneAnswer};
 
-/// Over a folder and an input that tell what they hold, a request has one answer.
+/// Given a folder and an input that say what they hold, a request has one answer.
 pub fn requests_have_one_answer()
     ensures { RequestsHaveOneAnswer }
 {}

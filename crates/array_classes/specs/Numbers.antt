@@ -16,7 +16,7 @@ use Rattle.array_classes.specs.declared.arrays.ArrayNumbers.{ArrayNumbers}
 abbrev pub AreNamed : List NamedClass → Type 0
 AreNamed cs = (c : ℕ) → IsBase cs (Class c) → IsClassName (name_of cs c)
 
--- the array types that a program uses, with those of their elements, are numbered behind its classes
+-- the array types that a program uses, with those of their elements, are numbered after its classes
 pub record AreNumbersOf (us : List ClassUnit) (numbers : ArrayNumbers) : Type 0 where
   pub order_is : IsOrderOf us numbers.order
   pub most : List ℕ

@@ -22,7 +22,7 @@ use link_types::ElementType;
 use pool_types::PoolTypes;
 use std::alloc::{AllocError, Global};
 
-/// Array types by their numbers, which are behind those of the classes. Whose they are is said by `AreNumbersOf`.
+/// Array types by their numbers, which follow those of the classes. `AreNumbersOf` says which program they belong to.
 #[derive(Drop)]
 pub struct ArrayNumbers {
     order: BaseOrder,
@@ -39,7 +39,7 @@ fn base_at(bases: &[ElementType], place: u32) -> Option<ElementType>
 }
 
 impl ArrayNumbers {
-    /// The array types of a linked program. It fails for want of memory alone.
+    /// The array types of a linked program. It fails only when memory runs out.
     pub fn new(alloc: Global, supers: &Supers<'_>, types: &PoolTypes) -> Result<Self, AllocError>
         requires few { length supers.now ≤ 1024 }
         requires decoded { AreUnits supers.now }
@@ -79,7 +79,8 @@ impl ArrayNumbers {
         }
     }
 
-    /// The number of the array class of so many dimensions of the base at a place.
+    /// The number of the array class that has `dimensions` dimensions, and the base at `place` as its innermost
+    /// elements.
     fn number_at(&self, dimensions: u8, place: u32) -> Option<u32>
         ensures { (us : List ClassUnit) (base : List ℕ) → AreNumbersOf us self.now → slice_get (base_texts us self.now.order) place ≡ Some base →
             result ≡ array_number (program_names us) (array_text dimensions base) }

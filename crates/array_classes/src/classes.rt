@@ -20,10 +20,10 @@ use link_types::{ElementType, ObjectType};
 use pool_types::PoolTypes;
 use std::alloc::{AllocError, Global};
 
-/// The array classes of a linked program with their numbers, behind those of the classes: what newarray and anewarray
-/// make, what checkcast and instanceof name, what owns a member that is named, the array of the arguments of `main`,
-/// and the array classes of all their elements. Whose they are is said by `AreArraysOf`; the readers take no memory and
-/// no time to speak of.
+/// The array classes of a linked program with their numbers, which follow those of the classes: those that newarray and
+/// anewarray make, that checkcast and instanceof name, and that own a member that is named; the array of the arguments
+/// of `main`; and the array classes of all their elements. `AreArraysOf` says which program they belong to; the readers
+/// take no memory, and next to no time.
 #[derive(Drop)]
 pub struct ArrayClasses {
     numbers: ArrayNumbers,
@@ -47,7 +47,7 @@ fn class_in(base: ElementType) -> Option<u32>
 }
 
 impl ArrayClasses {
-    /// The array classes of a linked program. One look at each instruction. It fails for want of memory alone.
+    /// The array classes of a linked program. Each instruction is looked at once. It fails only when memory runs out.
     pub fn new(alloc: Global, supers: &Supers<'_>, types: &PoolTypes) -> Result<Self, AllocError>
         requires few { length supers.now ≤ 1024 }
         requires decoded { AreUnits supers.now }

@@ -12,7 +12,7 @@ use Rattle.array_order.specs.Order.{array_text, StandInOrder, AreBases, arrays_o
 use Rattle.array_order.proofs.Texts.{Before, by_less, by_rest}
 use Rattle.array_order.proofs.Sorting.{all_sorted, same_in_order, joined_in_order}
 
--- ---- arrays of so many dimensions
+-- ---- arrays with a given number of dimensions
 
 later : (b : List ℕ) (bases : List (List ℕ)) (n : ℕ) (most : List ℕ) (base : List ℕ) (m : ℕ) → HasMost bases most base m → HasMost (b ∷ bases) (n ∷ most) base m
 later b bases n most base m h = record { place = suc h.place; base_there = h.base_there; most_there = h.most_there }
@@ -115,7 +115,7 @@ has_from bases most (suc n) d e y low high h = elim (cases_lt d e) [
       Contains-append_left (arrays_of_dimensions bases most d) (arrays_from bases most n (suc d)) y (subst (λ x. Contains (arrays_of_dimensions bases most x) y) is h)
 ]
 
--- fewer dimensions stand first
+-- fewer dimensions come first
 fewer_first : (d e : ℕ) (letter : ℕ) (rest y : List ℕ) → d < e → letter < 91 → Before (array_text d (letter ∷ rest)) (array_text e y)
 fewer_first d zero letter rest y less low = absurd (omega arith)
 fewer_first zero (suc e) letter rest y less low = by_less letter 91 rest (array_text e y) low

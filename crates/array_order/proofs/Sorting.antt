@@ -61,7 +61,7 @@ same_in_order (x ∷ xs) (y ∷ ys) one other there back =
       | inr later ↦ later
     ]
 
--- lists in order behind each other
+-- two lists in order, one after the other
 pub joined_in_order : (xs ys : List (List ℕ)) → StandInOrder xs → StandInOrder ys → ((x y : List ℕ) → Contains xs x → Contains ys y → Before x y) → StandInOrder (xs ++ ys)
 joined_in_order [] ys one other before = other
 joined_in_order (x ∷ xs) ys one other before = (

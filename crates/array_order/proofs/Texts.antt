@@ -18,7 +18,7 @@ pub by_rest : (a : ℕ) (x y : List ℕ) → is_before (a ∷ x) (a ∷ y) ≡ i
 by_rest a x y =
     ap (λ t. t || (a == a && is_before x y)) (not_less a a (omega arith)) ∙ ap (λ t. t && is_before x y) (eq-eqb a a refl)
 
--- how the first bytes stand
+-- how the first bytes compare
 pub first_bytes : (a b : ℕ) (x y : List ℕ) → Before (a ∷ x) (b ∷ y) → (a < b) ⊎ ((a ≡ b) × Before x y)
 first_bytes a b x y before = elim (cases_order a b) [
   | inl same ↦ inr (same, sym (by_rest a x y) ∙ ap (λ c. is_before (a ∷ x) (c ∷ y)) same ∙ before)
@@ -51,7 +51,7 @@ through (a ∷ x) (b ∷ y) (c ∷ z) one two = elim (first_bytes a b x y one) [
   ]
 ]
 
--- of two texts one stands before the other, or they are one
+-- of two texts one comes before the other, or they are the same
 pub sides : (x y : List ℕ) → Before x y ⊎ ((x ≡ y) ⊎ Before y x)
 sides [] [] = inr (inl refl)
 sides [] (b ∷ y) = inl refl
@@ -73,7 +73,7 @@ sides (a ∷ x) (b ∷ y) = elim (cases_order a b) [
       ]
     ]
 
--- what is neither before a text nor that text is behind it
+-- a text that neither comes before another nor is the same comes after it
 pub behind : (x y : List ℕ) → is_before x y ≡ false → bytes_eq x y ≡ false → Before y x
 behind x y no_before no_same = elim (sides x y) [
   | inl before ↦ absurd (true≢false (sym before ∙ no_before))

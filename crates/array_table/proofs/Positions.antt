@@ -7,7 +7,7 @@ use Rattle.std.proofs.lemmas.List.{append-nil}
 use Rattle.std.proofs.lemmas.Option.{none-some}
 use Rattle.array_table.specs.Places.{place_of, places_of_dimensions, places_from, is_place}
 
--- behind others, none of which passes
+-- the position of an item after others, none of which passes the test
 pub position_behind : {X : Type 0} (test : X → Bool) (n : ℕ) (xs ys : List X) → position_from test n xs ≡ None → position_from test n (xs ++ ys) ≡ position_from test (n + length xs) ys
 position_behind test n [] ys e = (let same : n ≡ n + 0 = omega arith in ap (λ m. position_from test m ys) same)
 position_behind test n (x ∷ xs) ys e = elim (test x) as (λ b. cond b (Some n) (position_from test (n + 1) xs) ≡ None → cond b (Some n) (position_from test (n + 1) (xs ++ ys)) ≡ position_from test (n + suc (length xs)) ys) [

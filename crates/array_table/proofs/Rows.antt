@@ -1,4 +1,4 @@
--- The arrays of so many dimensions, one base after the other.
+-- The arrays with a given number of dimensions, one base after another.
 use Rattle.std.proofs.Common.{◌≡◌, ◌≢◌, ◌⊎◌, ℕ, zero, suc, ◌+◌, ◌<◌, ◌≤◌, ◌==◌, ◌&&◌, Bool, true, false, cond, nat_le, List, [], ◌∷◌, ◌++◌, length, take, slice_get, Option, None, Some, inl, inr, refl, sym, ap, subst, ◌∙◌, append_assoc, zero-add, arith}
 use Rattle.std.specs.Option.{option_map, option_flatten}
 use borrow.Author.Tests.{ne_eqb, eq-eqb}
@@ -24,7 +24,7 @@ some_or_none : {X : Type 0} (o : Option X) → (o ≡ None) ⊎ ((x : X) × (o �
 some_or_none None = inl refl
 some_or_none (Some x) = inr (x, refl)
 
--- one base more, which has an array of so many dimensions or not
+-- one more base, which has an array with d dimensions or doesn't
 row_more : (start d n m : ℕ) (xs : List ℕ) (row more : List (Option ℕ)) → length xs ≡ n → IsRowOf start d xs row
     → more ≡ row ++ cond (nat_le d m) (Some (start + length (places_of_dimensions 0 xs d))) None ∷ [] → IsRowOf start d (xs ++ m ∷ []) more
 row_more start d n m xs row more size is push = record {
@@ -38,7 +38,7 @@ row_more start d n m xs row more size is push = record {
     shifted : Option ℕ → Option ℕ
     shifted o = option_map (λ i. start + i) o
 
-    -- a base behind these has no number yet
+    -- a base after these has no number yet
     none_yet : (base : ℕ) → n ≤ base → (o : Option ℕ) → number_in (places_of_dimensions 0 xs d) d base ≡ o → o ≡ None
     none_yet base le None e = refl
     none_yet base le (Some i) e =

@@ -62,7 +62,7 @@ rows_more most n old new row rows more first places is push = record {
           (slice_get_past (rows ++ row ∷ []) d (let count = first.count in let push = length_push rows row in omega (arith, ne)) ∙ sym (slice_get_past rows d (let count = first.count in omega arith)))
     ]
 
-    -- none of so many dimensions was there
+    -- no array with n + 1 dimensions was there
     none_yet : (base : ℕ) → number_in old (suc n) base ≡ None
     none_yet base = sym (first.numbers (suc n) base) ∙ ap (option_and_then (λ (r : List (Option ℕ)). kept_in_row r base)) (slice_get_past rows n (let count = first.count in omega arith))
 

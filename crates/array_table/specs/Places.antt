@@ -6,7 +6,7 @@ use Rattle.array_table.specs.declared.place.ArrayPlace.{ArrayPlace}
 abbrev pub place_of : ℕ → ℕ → ArrayPlace
 place_of d base = record { dimensions = d; base = base }
 
--- the arrays of so many dimensions, of the bases from a place on that have as many at least
+-- the arrays with d dimensions, one for each base, from a place on, whose most dimensions are at least d
 abbrev pub places_of_dimensions : ℕ → List ℕ → ℕ → List ArrayPlace
 places_of_dimensions base [] d = []
 places_of_dimensions base (m ∷ most) d =
@@ -16,7 +16,7 @@ unfoldable pub places_from : List ℕ → ℕ → ℕ → List ArrayPlace
 places_from most zero d = []
 places_from most (suc n) d = places_of_dimensions 0 most d ++ places_from most n (suc d)
 
--- the arrays of bases that have so many dimensions at most: fewer dimensions first
+-- the arrays of bases, from 1 dimension up to the most of each base: fewer dimensions first
 unfoldable pub places_in_order : List ℕ → List ArrayPlace
 places_in_order most = places_from most 255 1
 

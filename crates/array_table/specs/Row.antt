@@ -1,4 +1,4 @@
--- The numbers of the arrays of so many dimensions, by their bases.
+-- The numbers of the arrays with a given number of dimensions, by their bases.
 use Rattle.std.specs.Prelude.{◌≡◌, ℕ, ◌+◌, Option, List, length, slice_get, option_map}
 use Rattle.std.specs.Option.{option_flatten}
 use Rattle.array_table.specs.Places.{places_of_dimensions, number_in}

@@ -1,4 +1,4 @@
-//! The arrays of so many dimensions.
+//! The arrays with a given number of dimensions.
 
 ghost use Rattle.std.specs.Prelude.{◌≡◌, ◌<◌, ◌≤◌, ◌+◌, ◌^◌, ◌++◌, ℕ, OnOk, IfOk, length};
 ghost use Rattle.array_table.specs.Places.{places_of_dimensions};
@@ -8,7 +8,7 @@ use crate::place::ArrayPlace;
 use rows::Rows;
 use std::alloc::{AllocError, Global};
 
-/// Puts the arrays of so many dimensions behind others, and gives their numbers by their bases.
+/// Appends the arrays with `dimensions` dimensions to `places`, and gives their numbers by their bases.
 pub fn dimension_row(
     alloc: Global,
     places: &mut Vec<ArrayPlace>,

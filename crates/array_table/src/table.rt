@@ -34,8 +34,8 @@ fn number_in_rows(rows: &[Rows<Option<u32>>], dimensions: u8, base: u32) -> Opti
 }
 
 impl ArrayTable {
-    /// The arrays of bases by their places, each of so many dimensions at most; 0 where there are none. It fails for
-    /// want of memory alone.
+    /// The arrays of bases by their places. `most` says for each base how many dimensions its arrays have at most; 0
+    /// where it has no arrays. It fails only when memory runs out.
     pub fn new(alloc: Global, most: &[u8]) -> Result<Self, AllocError>
         requires { length most.now < 2 ^ 12 }
         ensures { IfOk result (λ table. IsTableOf most.now table) }

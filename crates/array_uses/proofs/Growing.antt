@@ -143,7 +143,7 @@ none_most us order most is = subst (IsMost us order []) (sym is) (record {
   };
 })
 
--- what is made of one item more, behind others
+-- what is made of one more item, after others
 pub more_items : {X : Type 0} (us : List ClassUnit) (order : BaseOrder) (f : X → List (List ℕ)) (before : List (List ℕ)) (xs : List X) (i : ℕ) (x : X) (old new : List ℕ) → slice_get xs i ≡ Some x
     → IsMost us order (before ++ flat_map f (take i xs)) old → MostGrows us order old new (f x) → IsMost us order (before ++ flat_map f (take (i + 1) xs)) new
 more_items us order f before xs i x old new at is grows =

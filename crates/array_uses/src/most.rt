@@ -11,7 +11,7 @@ use array_kinds::ArrayKind;
 use base_order::BaseOrder;
 use std::alloc::{AllocError, Global};
 
-/// No arrays, of so many bases.
+/// No arrays, for `count` bases.
 pub fn none_used(alloc: Global, count: usize) -> Result<Vec<u8>, AllocError>
     ensures { IfOk result (λ most. most.items ≡ replicate count 0) }
 {

@@ -103,9 +103,9 @@ fn add_unit(most: &mut Vec<u8>, types: &PoolTypes, order: &BaseOrder, file: u32,
     }
 }
 
-/// For each base in its order, how many dimensions the arrays of it have at most that each program has, or that
-/// instructions of this one make, test or name as the owner of a member; 0 where there are none. One look at each
-/// instruction. It fails for want of memory alone.
+/// For each base in its order, the most dimensions of those arrays of it that each program has, or that instructions of
+/// this one make, test or name as the owner of a member; 0 where there are none. Each instruction is looked at once. It
+/// fails only when memory runs out.
 pub fn most_dimensions(
     alloc: Global,
     supers: &Supers<'_>,

@@ -11,7 +11,7 @@ gives_only view (Ok x) pool wanted is = ap (with_pool pool) is
 gives_only view (Err NoMemory) pool wanted is = tt
 gives_only view (Err Refused) pool wanted is = ap (with_pool pool) is
 
--- the same behind a use
+-- the same after a use
 pub gives_behind : {X Y A : Type 0} (view : X → Y) (r : Result X BodyRefusal) (first : Option (List Constant × A)) (pool : List Constant) (a : A) (wanted : A → Option Y)
     → first ≡ Some (pool, a) → Finds view r (wanted a) → Gives view r pool pool (λ p. next_of first (λ b. only (wanted b)))
 gives_behind view (Ok x) first pool a wanted made is = rw made (ap (with_pool pool) is)

@@ -49,7 +49,7 @@ index_below (interface_method class name descriptor) pool index at = slice_get_w
 pub short_index : (item : Item) (pool : List Constant) (index : ℕ) → length pool < 2 ^ 16 → IsItemAt pool index item → index < 2 ^ 16
 short_index item pool index count at = omega (arith, index_below item pool index at, count)
 
--- A use that a class file has room for: the item stands at its index, which has two bytes.
+-- A use that a class file has room for: the item is at its index, which has two bytes.
 pub record Used (item : Item) (old : List Constant) (x : List Constant × ℕ) : Type 0 where
   pub keeps : Keeps old x.0
   pub at : IsItemAt x.0 x.1 item
@@ -67,7 +67,7 @@ used_is item pool x e =
     } in
     subst (λ (y : List Constant × ℕ). Used item pool y) (sym got.1) here
 
--- it stands there in each pool that comes of it
+-- it is still there in each pool that extends this one
 pub used_at : (item : Item) (old last : List Constant) (x : List Constant × ℕ) → Used item old x → Extends x.0 last → IsItemAt last x.1 item
 used_at item old last x is more = item_stays item x.0 last x.1 more is.at
 

@@ -121,7 +121,7 @@ lookup_shape marks label cases x e =
     let q = found_parts (each (case_of marks) cases) (λ found. Some (LookupSwitch p.value found)) x p.next_is in
     is_made (LookupSwitch p.value q.value) x q.next_is ∙ ap (λ (n : ℕ). shapes.LookupSwitch n) (each_length (case_of marks) cases q.value q.first_is)
 
--- an operand behind one use of the pool
+-- an operand after one use of the pool
 behind_use : (first : Option (List Constant × ℕ)) (make : ℕ → Operands ℕ) (s : Shape) (x : List Constant × Operands ℕ) → ((n : ℕ) → shape (make n) ≡ s) → next_of first (λ n. only (Some (make n))) ≡ Some x → shape x.1 ≡ s
 behind_use first make s x each e =
     let p = parts_of first (λ n. only (Some (make n))) x e in

@@ -1,4 +1,4 @@
--- Labels stand where the code is as long.
+-- The offset of a label is the length of the code before it.
 use Rattle.std.proofs.Common.{◌≡◌, ℕ, ◌+◌, ◌^◌, ◌<◌, Bool, true, false, ◌&&◌, cond, ltb, List, [], ◌∷◌, ◌++◌, length, Option, Some, None, refl, sym, ap, subst, ◌∙◌, arith, length-append, bytes_eq}
 use Rattle.std.specs.List.{AllByRecursion}
 use Rattle.std.proofs.lemmas.Bool.{and_parts}
@@ -156,7 +156,7 @@ marks_behind marks (n ∷ front) rest name old pool x room e others =
     let one : marks_from (length old.code) (n ∷ front ++ rest) name ≡ marks_from (offset_behind (length old.code) n.line) (front ++ rest) name = rw (goes, others.0) refl in
     one ∙ ap (λ (at : ℕ). marks_from at (front ++ rest) name) (sym grows.length_is) ∙ marks_behind marks front rest name p.made.1 p.made.0 x grows.room p.next_is others.1
 
--- a label stands where the code is as long
+-- the offset of a label is the length of the code before it
 pub label_stands : (marks : Marks) (front rest : List Numbered) (numbered : Numbered) (name : List ℕ) (old : MadeBody) (pool : List Constant) (x : List Constant × MadeBody) → old.code ≡ []
     → steps marks front old pool ≡ Some x → AllByRecursion (λ n. is_label name n.line ≡ false) front → numbered.line ≡ Some (kinds.Label name)
     → marks_from 0 (front ++ numbered ∷ rest) name ≡ Some (record { line = numbered.number; offset = length x.1.code })

@@ -36,7 +36,7 @@ pub record MadeBody : Type 0 where
   pub locals : ℕ
   pub code : List ℕ
   pub handlers : List RawHandler
-  -- the index of the name of the stack map, and its frames one behind the other
+  -- the index of the name of the stack map, and its frames one after another
   pub map_name : Option ℕ
   pub frames : List ℕ
   pub frame_count : ℕ
@@ -82,7 +82,7 @@ is_in_range at (LookupSwitch default cases) = is_lookup_in_range at default case
 is_in_range at (InterfaceCall index count) = known tt
 is_in_range at (NewArray element) = known tt
 
--- an instruction behind the others; the code has at most 65,535 bytes (JVMS 4.7.3)
+-- the code with one more instruction at its end; it has at most 65,535 bytes (JVMS 4.7.3)
 unfoldable pub code_with : Written ℕ → List ℕ → Option (List ℕ)
 code_with written code =
     if (is_in_range (length code) written.operands).holds && nat_lt (length (code ++ instruction_bytes (length code) written)) (2 ^ 16)
@@ -139,8 +139,8 @@ unfoldable pub map_name_of : Option ℕ → Making ℕ
 map_name_of (Some name) = only (Some name)
 map_name_of None = used (text (codes "StackMapTable"))
 
--- A frame stands behind those before it, at most 65,535 of them with as many types in each list. Its delta counts from
--- the least offset that it may have (JVMS 4.7.4).
+-- A frame comes after those before it. There are at most 65,535 frames, with at most 65,535 types in each list. Its
+-- delta counts from the least offset that it may have (JVMS 4.7.4).
 unfoldable pub put_frame : ℕ → List VerificationType → List VerificationType → MadeBody → Option MadeBody
 put_frame name locals stack body =
     let at = length body.code in
@@ -162,7 +162,7 @@ with_frame marks locals stack body = do
 
 -- ---- lines
 
--- whether a label stands at this line for the first time
+-- whether this line is the first one of a label
 abbrev pub is_first_at : ℕ → Option Mark → Bool
 is_first_at number None = false
 is_first_at number (Some mark) = mark.line == number
@@ -178,7 +178,7 @@ step_of marks number _ body = only None
 abbrev pub step : Marks → Numbered → MadeBody → Making MadeBody
 step marks numbered body = step_of marks numbered.number numbered.line body
 
--- lines of a body, one behind the other
+-- lines of a body, one after another
 abbrev pub steps : Marks → List Numbered → MadeBody → Making MadeBody
 steps marks [] body = only (Some body)
 steps marks (numbered ∷ lines) body = do

@@ -1,4 +1,4 @@
--- The labels of a body, and the offsets at which they stand.
+-- The labels of a body, and their offsets.
 use Rattle.std.specs.Prelude.{ℕ, ◌+◌, min, Bool, true, false, if◌then◌else◌, List, [], ◌∷◌, length, Option, Some, None, bytes_eq}
 use Rattle.assembler_lines.specs.declared.line.Line.{Line}
 use Rattle.assembler_lines.specs.declared.line.Line.TheVariants.{End, Label, Instruction}
@@ -26,7 +26,7 @@ abbrev pub is_far : Form → Bool
 is_far (forms.FarBranch test) = true
 is_far _ = false
 
--- what the size of an instruction depends on, by its form and whether wide stands before it (JVMS 6.5)
+-- what the size of an instruction depends on, by its form and whether wide comes before it (JVMS 6.5)
 abbrev pub shape_of : Form → Bool → Operands → Shape
 shape_of form wide said.None = shapes.Fixed 1
 shape_of form wide (said.Number n) = shapes.Fixed (if has_one_byte form then 2 else 3)
@@ -50,7 +50,7 @@ abbrev pub behind_row : ℕ → Option table.Instruction → Operation → ℕ
 behind_row at None operation = at
 behind_row at (Some row) operation = capped (at + size at (shape_of row.form operation.is_wide operation.operands))
 
--- the offset behind a line that stands at an offset: only instructions have bytes
+-- the offset after a line that begins at an offset: only instructions have bytes
 abbrev pub offset_behind : ℕ → Option Line → ℕ
 offset_behind at (Some (Instruction operation)) = behind_row at (row_numbered operation.number) operation
 offset_behind at _ = at
@@ -67,7 +67,7 @@ is_label name _ = false
 abbrev pub Marks : Type 0
 Marks = List ℕ → Option Mark
 
--- A label stands at the first line of its name before the end of the body.
+-- A label is at the first line of its name before the end of the body.
 abbrev pub marks_from : ℕ → List Numbered → Marks
 marks_from at [] name = None
 marks_from at (numbered ∷ lines) name =
@@ -80,6 +80,6 @@ abbrev pub first_mark : Option Mark → Option Mark → Option Mark
 first_mark (Some mark) other = Some mark
 first_mark None other = other
 
--- the labels of the lines behind the one that begins the body
+-- the labels of the lines after the one that begins the body
 abbrev pub marks_in : List Numbered → Marks
 marks_in lines = marks_from 0 lines

@@ -44,7 +44,7 @@ abbrev pub next_of : {A B : Type 0} → Option (List Constant × A) → (A → M
 next_of None f = None
 next_of (Some x) f = f x.1 x.0
 
--- one making, and behind it one that takes what it made
+-- one making, followed by one that takes what it made
 infixl 10 ◌>>=◌
 abbrev pub ◌>>=◌ : {A B : Type 0} → Making A → (A → Making B) → Making B
 first >>= next = λ pool. next_of (first pool) next
@@ -61,7 +61,7 @@ only o = λ pool. with_pool pool o
 unfoldable pub used : Item → Making ℕ
 used item pool = if (has_room (use_of item pool).0).holds then Some (use_of item pool) else None
 
--- each of some items, one behind the other
+-- each of some items, one after another
 abbrev pub each_made : {A B : Type 0} → (A → Making B) → List A → Making (List B)
 each_made make [] = only (Some [])
 each_made make (a ∷ items) = do

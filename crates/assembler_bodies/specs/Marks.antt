@@ -13,7 +13,7 @@ use Rattle.assembler_bodies.specs.Labels.{Marks, is_label}
 abbrev pub mark_in : {Z : Type 0} → BTreeMap (Vec ℕ Z) Mark → Marks
 mark_in marks name = get_by (λ key. slice_cmp nat_cmp name key.items) marks
 
--- the mark of a name at a line that stands at an offset
+-- the mark of a name at a line that begins at an offset
 abbrev pub mark_at : ℕ → Numbered → Marks
 mark_at offset numbered name = if is_label name numbered.line then Some (record { line = numbered.number; offset = offset }) else None
 

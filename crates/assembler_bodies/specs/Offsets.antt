@@ -35,7 +35,7 @@ case_of marks said = do
   target ← offset_of marks said.label
   Some (record { key = said.key; target = target })
 
--- an int that has room in so many bits
+-- an int that fits in w bits with its sign
 unfoldable pub narrow : Width → ℤ → Option ℤ
 narrow w n = if (fits_signed w n).holds then Some n else None
 

@@ -10,8 +10,8 @@ use Rattle.code_write.specs.Frame.{Placed, frames_bytes, least_behind}
 use Rattle.assembler_bodies.specs.Labels.{shape_of}
 use Rattle.assembler_bodies.specs.Body.{MadeBody}
 
--- The instruction stands at the present offset with its operands in range, and takes as many bytes as its labels were
--- counted with. Nothing else changes.
+-- The instruction is at the present offset with its operands in range, and takes as many bytes as were counted for it
+-- when the labels got their offsets. Nothing else changes.
 pub record Puts (operation : Operation) (old new : MadeBody) : Type 0 where
   pub row : Instruction
   pub numbered : row_numbered operation.number ≡ Some row
@@ -21,12 +21,12 @@ pub record Puts (operation : Operation) (old new : MadeBody) : Type 0 where
   pub put : new ≡ record old { code = old.code ++ instruction_bytes (length old.code) (record { number = operation.number; operands = operands }) }
   pub room : length new.code < 2 ^ 16
 
--- instructions one behind the other, the first at this offset, each with its operands in range
+-- instructions one after another, the first at this offset, each with its operands in range
 abbrev pub AreInRange : ℕ → List (Written ℕ) → Type 0
 AreInRange at [] = Unit {0}
 AreInRange at (w ∷ others) = IsInRange at w.operands × AreInRange (at + length (instruction_bytes at w)) others
 
--- The code is instructions, and the stack map full frames, each one behind the other.
+-- The code is instructions, one after another, and the stack map is full frames, one after another.
 pub record IsMadeOf (body : MadeBody) : Type 0 where
   pub instructions : List (Written ℕ)
   pub code_is : body.code ≡ code_bytes 0 instructions

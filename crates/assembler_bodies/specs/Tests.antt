@@ -1,4 +1,5 @@
--- Tests of facts, each with what it tells: so a fact is said once, where it belongs, and is tested where something is made by it.
+-- Tests of facts, each with the fact that it decides: so a fact is stated once, where it belongs, and is tested where
+-- something is made by it.
 use Rattle.std.specs.Prelude.{◌<◌, ◌^◌, ℕ, ℤ, pos, negsuc, Bool, true, ◌&&◌, nat_lt, List, [], ◌∷◌, FitsSigned, Decides}
 use Rattle.std.specs.Int.{Width}
 use Rattle.std.specs.List.{All, AllByRecursion}
@@ -26,7 +27,7 @@ both p q = record { holds = p.holds && q.holds; tells = Decides-and p.holds q.ho
 abbrev pub less : (a b : ℕ) → Test (a < b)
 less a b = record { holds = nat_lt a b; tells = Decides-ltb a b }
 
--- a number has room in so many bits with its sign
+-- a number fits in w bits with its sign
 abbrev pub fits_signed : (w : Width) (n : ℤ) → Test (FitsSigned w n)
 fits_signed w (pos n) = like (λ h. record { sfits = h }) (λ h. h.sfits) (less n (2 ^ hbits w))
 fits_signed w (negsuc n) = like (λ h. record { sfits = h }) (λ h. h.sfits) (less n (2 ^ hbits w))

@@ -45,7 +45,7 @@ pub struct Body {
     handlers: Vec<RawHandler>,
     /// The index of the name StackMapTable, from the first frame on.
     map_name: Option<u16>,
-    /// The frames one behind the other.
+    /// The frames one after another.
     frames: Vec<u8>,
     frame_count: u16,
     /// The least offset that the next frame may have.
@@ -73,7 +73,7 @@ impl Model for Body {
     ghost invariant = { λ b. (length b.code.items < 2 ^ 16) × (length b.handlers.items < 2 ^ 16) × (b.least ≤ 2 ^ 16) };
 }
 
-/// Puts an instruction behind the others. An error leaves the code as it was.
+/// Appends an instruction. An error leaves the code as it was.
 #[tactic(auto, unfolding(crate::specs::Body::code_with))]
 fn put_code(code: &mut Vec<u8>, written: &Written<u32>) -> Result<(), BodyRefusal>
     requires { length code.old.items < 2 ^ 16 }
@@ -96,7 +96,7 @@ fn put_code(code: &mut Vec<u8>, written: &Written<u32>) -> Result<(), BodyRefusa
     }
 }
 
-/// Puts a frame behind the others. An error leaves them as they were.
+/// Appends a frame. An error leaves the frames as they were.
 fn put_whole_frame(
     frames: &mut Vec<u8>,
     delta: u16,
@@ -156,7 +156,7 @@ fn caught(pool: &mut PoolMaker, class: Option<&[u8]>) -> Result<u16, BodyRefusal
     }
 }
 
-/// Whether a label stands at this line for the first time.
+/// Whether this line is the first one of a label.
 fn is_first(labels: &Labels, number: u32, name: &[u8]) -> bool
     ensures { result ≡ is_first_at number (marks_of labels.now name.now) }
 {
@@ -248,7 +248,7 @@ impl Body {
         self.put_handler(RawHandler { from, to, at, kind })
     }
 
-    /// Puts a frame at the present offset behind the others.
+    /// Appends a frame at the present offset.
     #[tactic(auto, unfolding(crate::specs::Body::put_frame))]
     fn put_frame(
         &mut self,
@@ -293,9 +293,9 @@ impl Body {
     }
 
     /// Makes one line of the body, given the labels of the body: a label, an instruction, a handler or a frame.
-    /// `Refused` comes exactly where the line may not stand there, as any other line may not and a label behind the
-    /// first of its name; where a label that it names is absent, or a distance has no room; and where a class file
-    /// has no room for what it makes. An error leaves the body as it was, and may leave more entries in the pool.
+    /// `Refused` comes exactly where the line is not allowed there, as no other line is, nor a label after the first of
+    /// its name; where a label that it names is absent, or a distance doesn't fit; and where a class file has no room
+    /// for what it makes. An error leaves the body as it was, and may leave more entries in the pool.
     pub fn line(
         &mut self,
         pool: &mut PoolMaker,

@@ -13,12 +13,12 @@ use instructions::{Form, row};
 use std::alloc::{AllocError, Global};
 use std::collections::BTreeMap;
 
-/// Where a label stands.
+/// Where a label is.
 #[derive(Clone, Copy)]
 pub struct Mark {
     /// The number of its line.
     pub line: u32,
-    /// The offset of the code behind it.
+    /// The offset of the code after it.
     pub offset: u32,
 }
 
@@ -42,7 +42,7 @@ pub(crate) fn is_far(form: Form) -> bool
     matches!(form, Form::FarBranch(_))
 }
 
-/// How many targets a shape has; one that can't have so many is above all sizes with fewer.
+/// How many targets a shape has, up to 2^32 - 1: with that many, the offset after it is the highest there is anyway.
 fn count(targets: usize) -> u32
     ensures { result ≡ capped targets }
 {
@@ -70,7 +70,7 @@ fn shape_of(form: Form, is_wide: bool, operands: &Operands) -> Shape
     }
 }
 
-/// The offset behind an instruction at an offset.
+/// The offset after an instruction at an offset.
 fn behind_instruction(at: u32, operation: &Operation) -> u32
     ensures { result ≡ behind_row at (row_numbered operation.now.number) operation.now }
 {
@@ -84,7 +84,7 @@ fn behind_instruction(at: u32, operation: &Operation) -> u32
     }
 }
 
-/// The offset behind a line at an offset.
+/// The offset after a line at an offset.
 fn offset_behind(at: u32, line: &Option<Line>) -> u32
     ensures { result ≡ offset_behind at line.now }
 {
@@ -153,7 +153,7 @@ fn marks_of(alloc: Global, lines: &[Numbered]) -> Result<BTreeMap<Vec<u8>, Mark>
 }
 
 impl Labels {
-    /// The labels of the lines behind the one that begins a body, up to the first `end` or the last line. Each has
+    /// The labels of the lines after the one that begins a body, up to the first `end` or the last line. Each has
     /// its first line, and the offset at which its instruction begins; no offset is above 2^32 - 1.
     pub fn of(alloc: Global, lines: &[Numbered]) -> Result<Self, AllocError>
         ensures { IfOk result (λ labels. marks_of labels ≡ marks_in lines.now) }
@@ -162,7 +162,7 @@ impl Labels {
         Ok(Labels { marks })
     }
 
-    /// Where the label of a name stands, if there is one.
+    /// Where the label of a name is, if there is one.
     pub fn mark(&self, name: &[u8]) -> Option<Mark>
         ensures { result ≡ marks_of self.now name.now }
     {

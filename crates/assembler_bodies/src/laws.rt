@@ -11,7 +11,7 @@ ghost use Rattle.assembler_bodies.specs.Labels.{Marks, is_label, marks_in};
 ghost use Rattle.assembler_bodies.specs.Body.{MadeBody, begun, steps, with_instruction};
 ghost use Rattle.assembler_bodies.specs.Put.{IsMadeOf, Puts};
 
-/// A line that is an instruction puts that instruction behind the code.
+/// A line that is an instruction appends that instruction to the code.
 pub fn instructions_are_put()
     ensures { (marks : Marks) (operation : Operation) (old new : MadeBody) (pool after : List Constant) →
         with_instruction marks operation old pool ≡ Some (after, new) → Puts operation old new }
@@ -25,7 +25,7 @@ pub fn labels_stand_at_their_code()
         marks_in (front ++ numbered ∷ rest) name ≡ Some (record { line = numbered.number; offset = length body.code }) }
 {}
 
-/// The code of a body is instructions one behind the other, each with its operands in range, and its stack map is full
+/// The code of a body is instructions one after another, each with its operands in range, and its stack map is full
 /// frames.
 pub fn bodies_are_instructions_and_frames()
     ensures { (marks : Marks) (room : Room) (lines : List Numbered) (body : MadeBody) (pool after : List Constant) →

@@ -10,7 +10,7 @@ use std::alloc::{AllocError, AllocFailed};
 /// Why nothing was made of a line.
 #[derive(Clone, Copy)]
 pub enum BodyRefusal {
-    /// The line may not stand there, or a class file has no room for what it makes.
+    /// The line is not allowed there, or a class file has no room for what it makes.
     Refused,
     /// There was no memory.
     NoMemory,

@@ -235,7 +235,7 @@ with_takes : (keyword : List ℕ) (words : List Word) (line : Line) → line_wit
 with_takes keyword [] line e = single_takes keyword line e
 with_takes keyword (w ∷ words) line e = keyword_takes keyword (w ∷ words) line e
 
--- what a first word that is no mnemonic, and the words behind it, say
+-- what a first word that is not a mnemonic, and the words after it, say
 abbrev line_at : List Word → Option Line
 line_at words = plain_at words >>= line_with
 

@@ -12,7 +12,7 @@ escaped_no_unit b unit e =
       | inr f ↦ f
     ]
 
--- a piece that stands at the front is read
+-- a piece at the front is read
 pub piece_again : (piece : List ℕ) (unit : ℕ) (rest : List ℕ) → IsPiece piece unit → piece_at (piece ++ rest) ≡ Some (unit, rest)
 piece_again [] unit rest h = absurd h
 piece_again (a ∷ []) unit rest h = rw (h.0, h.1) refl

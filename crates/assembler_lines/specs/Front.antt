@@ -22,7 +22,7 @@ abbrev pub Gives : {X Y : Type 0} → (X → Y) → Result X LineRefusal → Opt
 Gives view (Ok x) read = read ≡ Some (view x)
 Gives view (Err refusal) read = Fails refusal read
 
--- the plain word at the front, and the words behind it
+-- the plain word at the front, and the words after it
 abbrev pub plain_at : List Word → Option (List ℕ × List Word)
 plain_at [] = None
 plain_at (Plain name ∷ words) = Some (name, words)
@@ -32,7 +32,7 @@ abbrev pub only : {A : Type 0} → A × List Word → Option A
 only (a, []) = Some a
 only (a, word ∷ words) = None
 
--- the plain word that stands alone
+-- the plain word, where it is the only word
 abbrev pub only_plain : List Word → Option (List ℕ)
 only_plain words = plain_at words >>= only
 
@@ -40,7 +40,7 @@ abbrev pub only_word : List Word → Option Word
 only_word [] = None
 only_word (word ∷ words) = only (word, words)
 
--- the words behind one that is known
+-- the words after one that is known
 abbrev pub behind : List ℕ → List Word → Option (List Word)
 behind text words = plain_at words >>= λ first. if bytes_eq first.0 text then Some first.1 else None
 
@@ -52,8 +52,8 @@ abbrev pub each : {X : Type 0} → (Word → Option X) → List Word → Option 
 each read [] = Some []
 each read (word ∷ words) = read word >>= λ x. each read words >>= λ others. Some (x ∷ others)
 
--- What a function returned is what is said, of which there is one, and where nothing is said so it is malformed;
--- want of memory may come anywhere.
+-- A function returned what is said, of which there is only one, or that the words are malformed where nothing is said;
+-- memory may run out anywhere.
 pub record Answers {Y : Type 0} (Says : Y → Type 0) (result : Result Y LineRefusal) : Type 0 where
   pub found : IfOk result Says
   pub only : (y : Y) → Says y → MatchResult result (λ found. found ≡ y) (λ refusal. refusal ≡ NoMemory)

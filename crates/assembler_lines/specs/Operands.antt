@@ -110,13 +110,13 @@ SaysWideOperands _ words made = ⊥
 
 -- ---- instructions
 
--- the words behind the mnemonic of an instruction
+-- the words after the mnemonic of an instruction
 pub record IsOperation (row : Instruction) (words : List Word) (operation : Operation) : Type 0 where
   pub number : operation.number ≡ row.number
   pub narrow : operation.is_wide ≡ false
   pub operands : SaysOperands row.form words operation.operands
 
--- the words behind wide: the mnemonic of the instruction that is widened, and its operands
+-- the words after wide: the mnemonic of the instruction that is widened, and its operands
 pub record IsWideOperation (words : List Word) (operation : Operation) : Type 0 where
   pub mnemonic : List ℕ
   pub others : List Word
@@ -127,11 +127,11 @@ pub record IsWideOperation (words : List Word) (operation : Operation) : Type 0 
   pub wide : operation.is_wide ≡ true
   pub operands : SaysWideOperands row.form others operation.operands
 
--- The words behind the mnemonic of a row of the table.
+-- The words after the mnemonic of a row of the table.
 abbrev pub SaysOperation : Instruction → List Word → Operation → Type 0
 SaysOperation row words operation = IsOperation row words operation ⊎ ((row.form ≡ forms.Wide) × IsWideOperation words operation)
 
--- A mnemonic of the table, and what stands behind it.
+-- A mnemonic of the table, and what comes after it.
 pub record IsInstruction (words : List Word) (operation : Operation) : Type 0 where
   pub mnemonic : List ℕ
   pub others : List Word

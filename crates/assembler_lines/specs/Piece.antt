@@ -41,7 +41,7 @@ IsPiece (a ∷ b ∷ c ∷ d ∷ e ∷ []) unit = ⊥
 IsPiece (a ∷ b ∷ c ∷ d ∷ e ∷ f ∷ []) unit = (a ≡ 92) × (b ≡ 117) × IsHexUnit c d e f unit
 IsPiece (a ∷ b ∷ c ∷ d ∷ e ∷ f ∷ g ∷ bytes) unit = ⊥
 
--- The bytes are pieces, one behind the other, of these code units.
+-- The bytes are pieces, one after another, of these code units.
 abbrev pub ArePieces : List ℕ → List ℕ → Type 0
 ArePieces bytes [] = bytes ≡ []
 ArePieces bytes (unit ∷ units) = (piece : List ℕ) × (rest : List ℕ) × (bytes ≡ piece ++ rest) × IsPiece piece unit × ArePieces rest units

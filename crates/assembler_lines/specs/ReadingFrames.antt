@@ -9,7 +9,7 @@ use Rattle.assembler_lines.specs.declared.line.Line.{Line}
 use Rattle.assembler_lines.specs.declared.line.Line.TheVariants.{Frame}
 use Rattle.assembler_lines.specs.Front.{◌>>=◌, each}
 
--- the label behind new:
+-- the label after new:
 abbrev pub new_label : List ℕ → Option (List ℕ)
 new_label written = if nat_lt 4 (length written) && bytes_eq (take 4 written) (codes "new:") then Some (drop 4 written) else None
 
@@ -34,7 +34,7 @@ abbrev pub item_of : Word → Option FrameItem
 item_of (Plain written) = if bytes_eq written (codes "/") then None else Some (named_item written)
 item_of (Quoted units) = None
 
--- what stands before the first slash, and behind it
+-- what comes before the first slash, and what comes after it
 unfoldable pub split_at_slash : List Word → Option (List Word × List Word)
 split_at_slash [] = None
 split_at_slash (word ∷ words) = if is_slash word then Some ([], words) else option_map (λ x. (word ∷ x.0, x.1)) (split_at_slash words)

@@ -32,7 +32,7 @@ implements_at words = do
   name ← only_plain words
   Some (Implements name)
 
--- the flags, the name and the descriptor of a member, and the words behind them
+-- the flags, the name and the descriptor of a member, and the words after them
 unfoldable pub header_at : List Word → Option (ℕ × List ℕ × List ℕ × List Word)
 header_at words = do
   written ← plain_at words
@@ -119,7 +119,7 @@ keyword_line keyword words =
     else if bytes_eq keyword (codes "frame") then frame_at words
     else None
 
--- the line of a first word that is no mnemonic, and of the words behind it
+-- the line of a first word that is not a mnemonic, and of the words after it
 abbrev pub line_with : List ℕ × List Word → Option Line
 line_with (keyword, []) = word_line keyword
 line_with (keyword, word ∷ words) = keyword_line keyword (word ∷ words)

@@ -23,7 +23,7 @@ abbrev pub none_at : List Word → Option Operands
 none_at [] = Some operands.None
 none_at (word ∷ words) = None
 
--- the plain word that stands alone, read so
+-- the plain word, where it is the only word, read in this way
 abbrev pub one_at : {A : Type 0} → (List ℕ → Option A) → (A → Operands) → List Word → Option Operands
 one_at read make words = only_plain words >>= λ written. read written >>= λ x. Some (make x)
 
@@ -107,7 +107,7 @@ wide_operands_at (forms.Local access) words = one_at (number_up_to 65535) (λ n.
 wide_operands_at forms.Increment words = increment_at 65535 32767 words
 wide_operands_at _ words = None
 
--- the instruction behind wide
+-- the instruction after wide
 unfoldable pub wide_at : List Word → Option Operation
 wide_at words = do
   mnemonic ← plain_at words

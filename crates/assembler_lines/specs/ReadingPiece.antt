@@ -18,7 +18,7 @@ abbrev pub escape_at : List ℕ → Option (ℕ × List ℕ)
 escape_at [] = None
 escape_at (b ∷ rest) = if b == 117 then hex_digits rest else option_map (λ unit. (unit, rest)) (escaped b)
 
--- the code unit whose piece stands at the front, and what stands behind it
+-- the code unit of the piece at the front, and what comes after the piece
 abbrev pub piece_at : List ℕ → Option (ℕ × List ℕ)
 piece_at [] = None
 piece_at (a ∷ rest) = if stands_for_itself a then Some (a, rest) else if a == 92 then escape_at rest else None

@@ -28,7 +28,7 @@ table_switch_at words = do
   labels ← each plain_name default.1
   if is_int (highest_key low (length labels)) then Some (TableSwitch low default.0 labels) else None
 
--- the key and the label at the front, and the words behind them
+-- the key and the label at the front, and the words after them
 unfoldable pub case_at : List Word → Option (LabelledCase × List Word)
 case_at words = do
   written ← plain_at words

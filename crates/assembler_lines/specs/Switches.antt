@@ -13,7 +13,7 @@ use Rattle.decimal_numbers.specs.Numbers.{integer_up_to}
 abbrev pub IsKey : List ℕ → ℤ → Type 0
 IsKey written key = integer_up_to 2147483647 written ≡ Some key
 
--- the highest of so many keys, of which this is the lowest
+-- the highest of count consecutive keys, of which this is the lowest
 abbrev pub highest_key : ℤ → ℕ → ℤ
 highest_key low count = low +ℤ pos count -ℤ pos 1
 
@@ -28,7 +28,7 @@ pub record SaysTableSwitch (words : List Word) (made : Operands) : Type 0 where
   pub high_is : FitsSigned w32 (highest_key low (length labels))
   pub made_is : made ≡ TableSwitch low default labels
 
--- keys, each with the label behind it
+-- keys, each with the label after it
 abbrev pub AreCases : List Word → List LabelledCase → Type 0
 AreCases words [] = words ≡ []
 AreCases words (case ∷ cases) =

@@ -24,7 +24,7 @@ abbrev pub Spells : List ℕ → Word → Type 0
 Spells bytes (Plain text) = (text ≡ encoded bytes) × IsPlain bytes
 Spells bytes (Quoted units) = (pieces : List ℕ) × (bytes ≡ 34 ∷ (pieces ++ 34 ∷ [])) × ArePieces pieces units
 
--- One space stands between two words.
+-- One space separates two words.
 abbrev pub AreWords : List ℕ → List Word → Type 0
 AreWords text [] = ⊥
 AreWords text (word ∷ []) = Spells text word

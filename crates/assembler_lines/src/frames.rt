@@ -11,7 +11,7 @@ use crate::word::{LineRefusal, Word};
 use rows::{Bytes, Rows};
 use std::alloc::{AllocError, Global};
 
-/// The label behind `new:`.
+/// The label after `new:`.
 fn new_label(written: &[u8]) -> Option<&[u8]>
     ensures { MatchOption result (new_label written.now ≡ None) (λ label. new_label written.now ≡ Some label.now) }
 {
@@ -79,7 +79,7 @@ fn items(alloc: Global, words: &[Word]) -> Result<Rows<FrameItem>, LineRefusal>
     Ok(items)
 }
 
-/// What stands before the first slash, and behind it.
+/// What comes before the first slash, and what comes after it.
 fn split_at_slash(words: &[Word]) -> Option<(&[Word], &[Word])>
     ensures { MatchOption result (split_at_slash words.now ≡ None) (λ x. split_at_slash words.now ≡ Some (x.0.now, x.1.now)) }
 {
@@ -91,7 +91,7 @@ fn split_at_slash(words: &[Word]) -> Option<(&[Word], &[Word])>
     None
 }
 
-/// The frame of the words behind `frame`.
+/// The frame of the words after `frame`.
 #[tactic(auto, unfolding(crate::specs::ReadingFrames::frame_at))]
 pub(crate) fn frame_line(alloc: Global, words: &[Word]) -> Result<Line, LineRefusal>
     ensures { Gives (λ line. line) result (frame_at words.now) }

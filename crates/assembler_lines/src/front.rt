@@ -13,7 +13,7 @@ pub(crate) fn is_text(bytes: &[u8], text: &[u8]) -> bool
     bytes == text
 }
 
-/// The plain word at the front, and the words behind it.
+/// The plain word at the front, and the words after it.
 pub(crate) fn first_plain(words: &[Word]) -> Result<(&[u8], &[Word]), LineRefusal>
     ensures { Gives (λ x. (x.0.now, x.1.now)) result (plain_at words.now) }
 {
@@ -23,7 +23,7 @@ pub(crate) fn first_plain(words: &[Word]) -> Result<(&[u8], &[Word]), LineRefusa
     }
 }
 
-/// The plain word that stands alone.
+/// The plain word, where it is the only word.
 pub(crate) fn only_plain(words: &[Word]) -> Result<&[u8], LineRefusal>
     ensures { Gives (λ name. name.now) result (only_plain words.now) }
 {
@@ -35,7 +35,7 @@ pub(crate) fn only_plain(words: &[Word]) -> Result<&[u8], LineRefusal>
     }
 }
 
-/// The word that stands alone.
+/// The word, where it is the only one.
 pub(crate) fn only_word(words: &[Word]) -> Result<&Word, LineRefusal>
     ensures { Gives (λ word. word.now) result (only_word words.now) }
 {
@@ -45,7 +45,7 @@ pub(crate) fn only_word(words: &[Word]) -> Result<&Word, LineRefusal>
     }
 }
 
-/// The words behind one that is known.
+/// The words after one that is known.
 pub(crate) fn behind<'a>(text: &[u8], words: &'a [Word]) -> Result<&'a [Word], LineRefusal>
     ensures { Gives (λ rest. rest.now) result (behind text.now words.now) }
 {

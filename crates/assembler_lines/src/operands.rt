@@ -247,7 +247,7 @@ pub(crate) fn row_of(mnemonic: &[u8]) -> Option<Row>
     }
 }
 
-/// The instruction behind wide.
+/// The instruction after wide.
 #[tactic(auto, unfolding(crate::specs::ReadingOperands::wide_at))]
 fn wide_operation(words: &[Word]) -> Result<Operation, LineRefusal>
     ensures { Reads result (wide_at words.now) }
@@ -277,7 +277,7 @@ fn narrow_operation(alloc: Global, row: Row, words: &[Word]) -> Result<Operation
     })
 }
 
-/// The instruction of a row whose mnemonic stands before the words.
+/// The instruction of a row, given the words after its mnemonic.
 pub(crate) fn operation(alloc: Global, row: Row, words: &[Word]) -> Result<Operation, LineRefusal>
     ensures { Answers (SaysOperation (shown_row row) words.now) result }
 {

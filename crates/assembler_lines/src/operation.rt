@@ -44,7 +44,7 @@ pub enum Operands {
         default: Bytes,
         labels: Rows<Bytes>,
     },
-    /// The keys may stand in any order.
+    /// The keys may be in any order.
     LookupSwitch {
         default: Bytes,
         cases: Rows<LabelledCase>,

@@ -24,7 +24,7 @@ fn hex_value(byte: u8) -> Option<u16>
     }
 }
 
-/// The code unit of four hexadecimal digits, and what stands behind them.
+/// The code unit of four hexadecimal digits, and what comes after them.
 fn hex_digits(bytes: &[u8]) -> Option<(u16, &[u8])>
     ensures { MatchOption result (hex_digits bytes.now ≡ None) (λ x. hex_digits bytes.now ≡ Some (x.0, x.1.now)) }
 {
@@ -39,7 +39,7 @@ fn hex_digits(bytes: &[u8]) -> Option<(u16, &[u8])>
     Some((first * 4096 + second * 256 + third * 16 + fourth, rest))
 }
 
-/// The code unit of what stands behind a backslash, and what stands behind that.
+/// The code unit of an escape whose backslash is read, and what comes after the escape.
 fn escape(bytes: &[u8]) -> Option<(u16, &[u8])>
     ensures { MatchOption result (escape_at bytes.now ≡ None) (λ x. escape_at bytes.now ≡ Some (x.0, x.1.now)) }
 {
@@ -52,7 +52,7 @@ fn escape(bytes: &[u8]) -> Option<(u16, &[u8])>
     }
 }
 
-/// The code unit of the piece at the front, and what stands behind the piece.
+/// The code unit of the piece at the front, and what comes after the piece.
 pub(crate) fn next_piece(bytes: &[u8]) -> Option<(u16, &[u8])>
     ensures { MatchOption result (piece_at bytes.now ≡ None) (λ x. piece_at bytes.now ≡ Some (x.0, x.1.now)) }
 {

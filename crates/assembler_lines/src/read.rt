@@ -58,7 +58,7 @@ fn implements_line(alloc: Global, words: &[Word]) -> Result<Line, LineRefusal>
     Ok(Line::Implements(name))
 }
 
-/// The flags, the name and the descriptor of a member, and the words behind them.
+/// The flags, the name and the descriptor of a member, and the words after them.
 #[tactic(auto, unfolding(crate::specs::ReadingLine::header_at))]
 fn header(words: &[Word]) -> Result<(u16, &[u8], &[u8], &[Word]), LineRefusal>
     ensures { Gives (λ x. (x.0, x.1.now, x.2.now, x.3.now)) result (header_at words.now) }
@@ -249,7 +249,7 @@ fn word_line(alloc: Global, word: &[u8]) -> Result<Line, LineRefusal>
     }
 }
 
-/// The line of a keyword and the words behind it.
+/// The line of a keyword and the words after it.
 #[tactic(auto, unfolding(crate::specs::ReadingLine::keyword_line))]
 fn keyword_line(alloc: Global, keyword: &[u8], words: &[Word]) -> Result<Line, LineRefusal>
     ensures { Gives (λ line. line) result (keyword_line keyword.now words.now) }
@@ -273,7 +273,7 @@ fn keyword_line(alloc: Global, keyword: &[u8], words: &[Word]) -> Result<Line, L
     }
 }
 
-/// The line of a first word that is no mnemonic, and of the words behind it.
+/// The line of a first word that is not a mnemonic, and of the words after it.
 fn other_line(alloc: Global, first: &[u8], rest: &[Word]) -> Result<Line, LineRefusal>
     ensures { Gives (λ line. line) result (line_with (first.now, rest.now)) }
 {

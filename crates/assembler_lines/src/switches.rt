@@ -41,7 +41,7 @@ fn labels(alloc: Global, words: &[Word]) -> Result<Rows<Bytes>, LineRefusal>
     Ok(labels)
 }
 
-/// Whether the highest of so many keys is an int.
+/// Whether the highest of `count` consecutive keys from `low` on is an int.
 fn is_highest_key_int(low: i32, count: usize) -> bool
     ensures { result ≡ is_int (highest_key low count) }
 {
@@ -69,7 +69,7 @@ pub(crate) fn table_switch(alloc: Global, words: &[Word]) -> Result<Operands, Li
     })
 }
 
-/// The key and the label at the front, and the words behind them.
+/// The key and the label at the front, and the words after them.
 #[tactic(auto, unfolding(crate::specs::ReadingSwitches::case_at))]
 fn case(alloc: Global, words: &[Word]) -> Result<(LabelledCase, &[Word]), LineRefusal>
     ensures { Gives (λ x. (x.0, x.1.now)) result (case_at words.now) }
@@ -94,7 +94,7 @@ fn cases(alloc: Global, words: &[Word]) -> Result<Rows<LabelledCase>, LineRefusa
     Ok(cases)
 }
 
-/// The operands of lookupswitch. The keys may stand in any order.
+/// The operands of lookupswitch. The keys may be in any order.
 #[tactic(auto, unfolding(crate::specs::ReadingSwitches::lookup_switch_at))]
 pub(crate) fn lookup_switch(alloc: Global, words: &[Word]) -> Result<Operands, LineRefusal>
     ensures { Gives (λ operands. operands) result (lookup_switch_at words.now) }

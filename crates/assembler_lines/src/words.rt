@@ -15,7 +15,7 @@ use class_names::put_unit;
 use rows::{Bytes, Rows};
 use std::alloc::{AllocError, Global};
 
-/// What stands behind a byte that stands at the front.
+/// What comes after a byte at the front.
 fn after_byte(byte: u8, bytes: &[u8]) -> Option<&[u8]>
     ensures { MatchOption result ((rest : List ℕ) → bytes.now ≢ byte ∷ rest) (λ rest. bytes.now ≡ byte ∷ rest.now) }
 {
@@ -23,7 +23,7 @@ fn after_byte(byte: u8, bytes: &[u8]) -> Option<&[u8]>
     if *first == byte { Some(rest) } else { None }
 }
 
-/// The code units of a quoted text whose first quote is read, and what stands behind its last one.
+/// The code units of a quoted text whose first quote is read, and what comes after its last one.
 fn quoted_text(alloc: Global, bytes: &[u8]) -> Result<(Rows<u16>, &[u8]), LineRefusal>
     ensures found { IfOk result (λ x. IsQuotedBefore bytes.now x.0 x.1.now) }
     ensures only { (units rest : List ℕ) → IsQuotedBefore bytes.now units rest →
@@ -47,7 +47,7 @@ fn is_plain_byte(byte: u8) -> bool
     byte <= 127 && !matches!(byte, b' ' | b'\n')
 }
 
-/// How many characters of a plain word stand at the front.
+/// How many characters at the front are those of a plain word.
 fn plain_len(bytes: &[u8]) -> usize
     ensures value { result ≡ prefix_len is_plain_byte bytes.now }
     ensures bound { result ≤ length bytes.now }
@@ -69,7 +69,7 @@ fn plain_text(alloc: Global, word: &[u8]) -> Result<Bytes, AllocError>
     Ok(Bytes::from_vec(text))
 }
 
-/// The quoted text whose first quote is read, and what stands behind it.
+/// The quoted text whose first quote is read, and what comes after it.
 fn quoted_word(alloc: Global, bytes: &[u8]) -> Result<(Word, &[u8]), LineRefusal>
     ensures found { IfOk result (λ x. StandsBefore (34 ∷ bytes.now) x.0 x.1.now) }
     ensures only { (word : Word) (rest : List ℕ) → StandsBefore (34 ∷ bytes.now) word rest →
@@ -79,7 +79,7 @@ fn quoted_word(alloc: Global, bytes: &[u8]) -> Result<(Word, &[u8]), LineRefusal
     Ok((Word::Quoted(units), after))
 }
 
-/// The plain word at the front, and what stands behind it.
+/// The plain word at the front, and what comes after it.
 fn plain_word(alloc: Global, bytes: &[u8]) -> Result<(Word, &[u8]), LineRefusal>
     requires { (rest : List ℕ) → bytes.now ≢ 34 ∷ rest }
     ensures found { IfOk result (λ x. StandsBefore bytes.now x.0 x.1.now) }
@@ -95,7 +95,7 @@ fn plain_word(alloc: Global, bytes: &[u8]) -> Result<(Word, &[u8]), LineRefusal>
     Ok((Word::Plain(text), rest))
 }
 
-/// The word at the front, and what stands behind it.
+/// The word at the front, and what comes after it.
 fn next_word(alloc: Global, bytes: &[u8]) -> Result<(Word, &[u8]), LineRefusal>
     ensures found { IfOk result (λ x. StandsBefore bytes.now x.0 x.1.now) }
     ensures only { (word : Word) (rest : List ℕ) → StandsBefore bytes.now word rest → IsEnd rest →

@@ -37,7 +37,7 @@ position-pushed test k (x ∷ pool) c other =
       | false ↦ step
     ]
 
--- an entry with an index stands at it
+-- an entry with an index is at that index
 pub index_is_at : (c : Constant) (k : ℕ) (pool : List Constant) (n : ℕ) → position_from (λ e. is_same e c) k pool ≡ Some n → (j : ℕ) × (n ≡ k + j) × (slice_get pool j ≡ Some c)
 index_is_at c k [] n e = absurd cc
 index_is_at c k (x ∷ pool) n e = by_cases (index_is_at c (k + 1) pool n) (cases_Bool (is_same x c))
@@ -58,7 +58,7 @@ stands_at_index c pool n e =
     let is : n ≡ found.0 = omega (arith, found.1) in
     rw is found.2
 
--- an entry without an index stands nowhere
+-- an entry without an index is not in the pool
 none_is_same : (test : Constant → Bool) (k : ℕ) (pool : List Constant) (i : ℕ) (c : Constant) → slice_get pool i ≡ Some c → position_from test k pool ≡ None → test c ≡ false
 none_is_same test k [] i c at none = absurd cc
 none_is_same test k (x ∷ pool) zero c at none =
@@ -101,7 +101,7 @@ in_slots true c d (suc (suc i)) entry at = absurd cc
 in_slots false c d zero entry at = (refl, cc)
 in_slots false c d (suc i) entry at = absurd cc
 
--- where an entry of the longer pool stands
+-- where an entry of the longer pool is
 pub in_pushed : (pool : List Constant) (c d : Constant) (i : ℕ) → is_gap d ≡ false → slice_get (pool ++ slots c) i ≡ Some d → (slice_get pool i ≡ Some d) ⊎ ((i ≡ length pool) × (d ≡ c))
 in_pushed [] c d i entry at = inr (in_slots (is_wide c) c d i entry at)
 in_pushed (x ∷ pool) c d zero entry at = inl at

@@ -1,4 +1,4 @@
--- Uses, one behind the other.
+-- Uses, one after another.
 use Rattle.std.proofs.Common.{◌≡◌, ℕ, List, [], ◌++◌, length, Option, Some, None, Result, Ok, Err, IsErrAnd, slice_get, false, refl, sym, ap, subst, ◌∙◌, append_assoc}
 use Rattle.std.proofs.lemmas.List.{append-nil}
 use Rattle.class_walk.specs.declared.class.Constant.{Constant}
@@ -28,7 +28,7 @@ pub entry_new : (c : Constant) (pool : List Constant) → index_of c pool ≡ No
 unfolding entry
 entry_new c pool is = ap (λ (o : Option ℕ). again_or_new o c pool) is
 
--- the entry stands at its index
+-- the entry is at its index
 pub entry_is_at : (c : Constant) (pool : List Constant) → slice_get (entry c pool).0 (entry c pool).1 ≡ Some c
 entry_is_at c pool = by_cases (index_of c pool) refl
   where

@@ -7,12 +7,12 @@ use Rattle.assembler_pool.specs.declared.key.Key.{Key}
 use Rattle.assembler_pool.specs.Key.{constant_of}
 use Rattle.assembler_pool.specs.Uses.{index_of}
 
--- no entry stands at two indices
+-- no entry is at two indices
 abbrev pub AreDifferent : List Constant → Type 0
 AreDifferent pool =
     (i j : ℕ) (c : Constant) → slice_get pool i ≡ Some c → slice_get pool j ≡ Some c → is_gap c ≡ false → i ≡ j
 
--- whether a gap is due behind these entries
+-- whether a gap is due after these entries
 abbrev pub is_gap_due : Bool → List Constant → Bool
 is_gap_due due [] = due
 is_gap_due due (c ∷ cs) = is_gap_due (is_wide c) cs

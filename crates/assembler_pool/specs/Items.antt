@@ -31,7 +31,7 @@ use_of (field class name descriptor) = field_entry class name descriptor
 use_of (method class name descriptor) = method_entry class name descriptor
 use_of (interface_method class name descriptor) = interface_method_entry class name descriptor
 
--- it stands at an index, each of its parts at the index that it names
+-- it is at an index, and each of its parts is at the index that it names
 abbrev pub IsItemAt : List Constant → ℕ → Item → Type 0
 IsItemAt pool index (text bytes) = IsUtf8At pool index bytes
 IsItemAt pool index (integer value) = slice_get pool index ≡ Some (Integer value)

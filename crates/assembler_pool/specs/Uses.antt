@@ -32,7 +32,7 @@ is_same _ _ = false
 abbrev pub index_of : Constant → List Constant → Option ℕ
 index_of c pool = position_from (λ e. is_same e c) 0 pool
 
--- an entry with the gap behind it where it takes two indices (JVMS 4.4.5)
+-- an entry with the gap after it where it takes two indices (JVMS 4.4.5)
 abbrev pub slots : Constant → List Constant
 slots c = if is_wide c then c ∷ Gap ∷ [] else c ∷ []
 
@@ -40,12 +40,12 @@ slots c = if is_wide c then c ∷ Gap ∷ [] else c ∷ []
 abbrev pub Use : Type 0
 Use = List Constant → List Constant × ℕ
 
--- one use, and behind it one that names its index
+-- one use, followed by one that names its index
 infixl 10 ◌>>=◌
 unfoldable pub ◌>>=◌ : Use → (ℕ → Use) → Use
 first >>= next = λ pool. next (first pool).1 (first pool).0
 
--- an entry is used again where it has an index, and else it stands at the end
+-- an entry that has an index is used again, and any other is added at the end
 abbrev pub again_or_new : Option ℕ → Constant → Use
 again_or_new (Some index) c pool = (pool, index)
 again_or_new None c pool = (pool ++ slots c, length pool)

@@ -8,7 +8,7 @@ ghost use Rattle.assembler_pool.specs.Indexed.{IsMade, AreDifferent};
 ghost use Rattle.assembler_pool.specs.Items.{Item, use_of, IsItemAt};
 ghost use Rattle.assembler_pool.specs.Uses.{Extends, HasRoom};
 
-/// A used item stands at the index that the use gives, and its parts at the indices that it names.
+/// A used item is at the index that the use gives, and its parts are at the indices that it names.
 pub fn items_are_at_their_indices()
     ensures { (item : Item) (pool : List Constant) → IsItemAt (use_of item pool).0 (use_of item pool).1 item }
 {}

@@ -22,10 +22,10 @@ const MOST: usize = 65_535;
 
 /// The constant pool of a class that is written. Contracts see its entries by their indices.
 ///
-/// A call gives the index of an entry. Where the entry isn't there, it is put behind the others, and its parts
-/// before it. `Full` comes exactly where the pool would get more than 65,535 indices, index 0 among them, or a text
-/// of more than 65,535 bytes. After an error all entries that were there keep their indices, some of those that
-/// the call wanted may have been added, and the maker can be used on.
+/// A call gives the index of an entry. An entry that isn't there yet is appended, after its parts. `Full` comes exactly
+/// where the pool would get more than 65,535 indices, index 0 among them, or a text of more than 65,535 bytes. After an
+/// error, all entries that were there keep their indices, some of those that the call wanted may have been added, and
+/// the maker can still be used.
 ///
 /// An entry is looked up in a tree, so that a pool of n entries is made by about n log n comparisons of entries,
 /// whatever they are.
@@ -57,8 +57,8 @@ impl Model for PoolMaker {
         (λ key. get (key_ord.ghosts).cmp p.others key) };
 }
 
-/// Puts an entry that is in no pool yet behind the others, and gives its index. An error leaves them as they
-/// were; `Full` comes exactly where the count would be too great.
+/// Appends an entry that is not in the pool yet, and gives its index. An error leaves the entries as they were; `Full`
+/// comes exactly where the count would be too great.
 fn put(entries: &mut Vec<Constant>, entry: Constant) -> Result<u16, PoolRefusal>
     requires { length entries.old.items < 2 ^ 16 }
     ensures index { IfOk result (λ index. index ≡ length entries.old.items) }
@@ -80,7 +80,7 @@ fn put(entries: &mut Vec<Constant>, entry: Constant) -> Result<u16, PoolRefusal>
     Ok(index as u16)
 }
 
-/// Puts an entry behind the others as [`put`] does, and its index into the map. An error leaves both as they were.
+/// Appends an entry as [`put`] does, and puts its index into the map. An error leaves both as they were.
 fn put_indexed<K: Ord + Drop>(
     entries: &mut Vec<Constant>,
     indices: &mut BTreeMap<K, u16>,
@@ -119,7 +119,7 @@ impl PoolMaker {
         })
     }
 
-    /// The entries by their indices, a gap at index 0 and behind each entry that takes two.
+    /// The entries by their indices, a gap at index 0 and after each entry that takes two.
     pub fn entries(&self) -> &[Constant]
         ensures entries { result.now ≡ self.now }
         ensures made { IsMade self.now }
@@ -173,7 +173,7 @@ impl PoolMaker {
         self.other(Key::Integer(value))
     }
 
-    /// The index of a `long`, which takes the index behind it too (JVMS 4.4.5).
+    /// The index of a `long`, which takes the index after it too (JVMS 4.4.5).
     pub fn long(&mut self, value: i64) -> Result<u16, PoolRefusal>
         ensures { Makes result self.old self.new (entry (constants.Long value)) }
     {

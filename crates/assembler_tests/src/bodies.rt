@@ -75,8 +75,8 @@ fn put_ints(pool: &mut PoolMaker, from: i32, to: i32) -> Option<()> {
     Some(())
 }
 
-/// The content of the attribute Code of a body. In the pool the class's other entries stand before those of the first
-/// line, and between them and those of the others.
+/// The content of the attribute Code of a body. In the pool, other entries of the class come before those of the first
+/// line, and also between those of the first line and those of the other lines.
 fn content(alloc: Global, text: &[u8], before: i32, between: i32) -> Option<Vec<u8>> {
     let lines = lines(alloc, text)?;
     let labels = Labels::of(alloc, lines.as_slice()).ok()?;

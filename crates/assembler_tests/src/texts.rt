@@ -3,7 +3,7 @@
 use assembler_text::{Numbered, lines_of};
 use std::alloc::Global;
 
-/// A text, its lines by their numbers with whether they say something, and the number behind the last.
+/// A text, its lines by their numbers with whether they say something, and the number after that of the last line.
 type Text = (&'static [u8], &'static [(u32, bool)], u32);
 
 const TEXTS: [Text; 4] = [

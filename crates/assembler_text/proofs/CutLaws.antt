@@ -1,4 +1,4 @@
--- The first line of a text is what stands before its first byte 10.
+-- The first line of a text is what comes before its first byte 10.
 use Rattle.std.proofs.Common.{◌≡◌, ◌≢◌, ℕ, ◌+◌, Bool, true, false, eqb, not, List, [], ◌∷◌, take, drop, refl, ap, arith}
 use Rattle.std.proofs.Math.Numerals.{one-add}
 use Rattle.std.specs.List.{prefix_len}

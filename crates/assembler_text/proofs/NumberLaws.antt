@@ -70,7 +70,7 @@ numbered_passed text rest line after number end made so_far f ends passed =
           (o.0, o.1, passed_out number so_far.at f.size line (lines after) o.0 there (subst (λ (pieces : List (List ℕ × ℕ)). AreNumbered number so_far.at pieces o.0) cut o.2));
     }
 
--- what stands first among the lines behind
+-- the first of the lines that follow
 first_is : (number end : ℕ) (line : List ℕ) (AreOthers : List Numbered → Type 0) (said : Option Line) (more : List Numbered)
     → ((other : Option Line) → SaysAt end line other → said ≡ other) → IsNext number end line AreOthers more
     → (left : List Numbered) × (more ≡ item number said ∷ left) × AreOthers left

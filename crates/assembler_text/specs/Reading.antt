@@ -2,7 +2,7 @@
 use Rattle.std.specs.Prelude.{◌≡◌, ℕ, ◌+◌, ◌<◌, List, ◌∷◌, length}
 use Rattle.assembler_text.specs.TextLines.{lines}
 
--- The first line of a text, and what stands behind its end.
+-- The first line of a text, and what comes after its end.
 pub record IsFirstLine (text line rest : List ℕ) : Type 0 where
   pub size : ℕ
   pub cut : lines text ≡ (line, size) ∷ lines rest

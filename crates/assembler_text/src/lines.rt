@@ -18,7 +18,7 @@ pub struct Numbered {
     pub line: Option<Line>,
 }
 
-/// The lines of a text that aren't passed over, with their numbers, and the number of the line behind the last.
+/// The lines of a text that aren't passed over, with their numbers, and the number of the line after the last.
 #[derive(Drop)]
 pub struct TextLines {
     pub lines: Rows<Numbered>,
@@ -28,7 +28,7 @@ pub struct TextLines {
 /// The most bytes that a text has.
 pub const MOST_BYTES: usize = 1_048_576;
 
-/// How many bytes stand before the first byte 10, or before the text's end.
+/// How many bytes come before the first byte 10, or before the text's end.
 fn line_len(text: &[u8]) -> usize
     ensures value { result ≡ prefix_len (λ b. not (b == 10)) text.now }
     ensures bound { result ≤ length text.now }
@@ -36,7 +36,7 @@ fn line_len(text: &[u8]) -> usize
     text.iter().take_while(|byte| **byte != b'\n').count()
 }
 
-/// What stands behind the byte that ends a line, where there is one.
+/// What comes after the byte that ends a line, where there is one.
 fn behind_end(text: &[u8]) -> &[u8]
     ensures { result.now ≡ drop 1 text.now }
 {
@@ -46,7 +46,7 @@ fn behind_end(text: &[u8]) -> &[u8]
     }
 }
 
-/// The bytes of the first line, and what stands behind its end; `None` where there is no line.
+/// The bytes of the first line, and what comes after its end; `None` where there is no line.
 fn next_line(text: &[u8]) -> Option<(&[u8], &[u8])>
     ensures { MatchOption result (text.now ≡ []) (λ x. IsFirstLine text.now x.0.now x.1.now) }
 {
@@ -57,14 +57,14 @@ fn next_line(text: &[u8]) -> Option<(&[u8], &[u8])>
     Some((line, behind_end(end)))
 }
 
-/// Whether a line is passed over: an empty one, unless it ends behind the bytes that a text has at most.
+/// Whether a line is passed over: an empty one, unless it ends past the most bytes that a text may have.
 fn is_passed(line: &[u8], end: usize) -> bool
     ensures { result ≡ is_passed end line.now }
 {
     line.is_empty() && end <= MOST_BYTES
 }
 
-/// What a line says whose end stands before a place in the text.
+/// What a line says that ends before a place in the text.
 fn said(alloc: Global, line: &[u8], end: usize) -> Result<Option<Line>, AllocError>
     ensures found { IfOk result (λ said. SaysAt end line.now said) }
     ensures only { (other : Option Line) → SaysAt end line.now other → IfOk result (λ said. said ≡ other) }
@@ -79,10 +79,10 @@ fn said(alloc: Global, line: &[u8], end: usize) -> Result<Option<Line>, AllocErr
     }
 }
 
-/// The lines of a text in order, but for those that are empty and stand among the first [`MOST_BYTES`]. A line ends at
-/// a byte 10 or at the text's end, and empty lines are counted. A line says nothing where its bytes are no line, and
-/// where a byte of it, or the byte 10 that ends it, is not among the first [`MOST_BYTES`] of the text. The error is
-/// want of memory.
+/// The lines of a text in order, except those that are empty and lie among the first [`MOST_BYTES`]. A line ends at a
+/// byte 10 or at the text's end, and empty lines are counted. A line says nothing where its bytes are not a line, and
+/// where a byte of it, or the byte 10 that ends it, is not among the first [`MOST_BYTES`] of the text. It fails only
+/// when memory runs out.
 pub fn lines_of(alloc: Global, text: &[u8]) -> Result<TextLines, AllocError>
     requires { length text.now + 1 < 2 ^ 32 }
     ensures found { IfOk result (λ made. AreLinesOf text.now made) }

@@ -215,7 +215,7 @@ module _ {S : Type 0} (code : Code S) (b : Bounds) (th : ThreadState S) where
   meets_holder x (Want (Rewake r)) q level enters other = other
   meets_holder x next q level enters other = absurd enters
 
-  -- ---- what nothing is saved or noted of any more is forgotten
+  -- ---- the saved states and the log are forgotten where nothing can be undone
 
   forgets : (y : ThreadState S) (c s : ℕ) → AttemptFits (record y { counted = c; silents = s }) (code.next y.local) y.attempt
       → AttemptFits (record y { log = []; saved = []; marks = []; counted = c; silents = s }) (code.next y.local) y.attempt
@@ -244,7 +244,7 @@ module _ {S : Type 0} (code : Code S) (b : Bounds) (th : ThreadState S) where
       by_bool true unpinned shut = unpinned refl
       by_bool false unpinned shut = shut refl
 
-  -- behind it
+  -- past it
   less_self : (n : ℕ) → nat_lt n n ≡ false
   less_self n = grind (arith, common_steps, nat_tests)
 

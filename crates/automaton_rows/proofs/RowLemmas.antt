@@ -140,7 +140,7 @@ module _ {S : Type 0} (code : Code S) (b : Bounds) (th : ThreadState S) where
       subst (λ x. Rows next (Pin x w level)) (sym fits.1) (subst (λ x. Rows next (Pin th.section x level)) (sym fits.2)
       (subst (λ x. Rows next (Pin th.section (own_word th) x)) (sym fits.3) (pin_rows next lasts fits.0)))
 
-  -- a step behind the pin
+  -- a step past the pin
   pinned_rows : (next : Next) (step : Step) → Lasts code th next → (is_open th ≡ false → Rows next step) → Rows next (pinned_then th step)
   pinned_rows next step lasts rows = by_if (Rows next) (is_open th) (own_pin th) step (λ unpinned. pin_rows next lasts unpinned) rows
 

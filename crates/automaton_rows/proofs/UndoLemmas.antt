@@ -348,7 +348,7 @@ none_left n (y ∷ log) x rest is = by_place (suc (length log) - n) refl is
     by_place zero is_k is = cc
     by_place (suc k) is_k is = ap (λ m. take m log) (one_less (length log) n k is_k) ∙ ap (drop 1) is
 
--- the word that stands at the top of the log is the one that is put back
+-- the word at the top of the log is the one that is put back
 top_noted : (n : ℕ) (log : List Noted) (x : Noted) (rest : List Noted) → noted_since n log ≡ x ∷ rest → log ≡ x ∷ drop 1 log
 top_noted n [] x rest is = by_take (0 - n) is
   where

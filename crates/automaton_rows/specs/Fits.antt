@@ -125,6 +125,6 @@ pub record IsKept {S : Type 0} (th : ThreadState S) : Type 0 where
 pub record IsFit {S : Type 0} (code : Code S) (th : ThreadState S) : Type 0 where
   pub attempt : AttemptFits th (code.next th.local) th.attempt
   pub kept : IsKept th
-  -- nothing is saved or noted where nothing can be undone
+  -- nothing is saved or logged where nothing can be undone
   pub unsaved : is_open th ≡ false → th.saved ≡ []
   pub unlogged : is_open th ≡ false → th.log ≡ []

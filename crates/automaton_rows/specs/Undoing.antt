@@ -15,9 +15,10 @@ use Rattle.thread_automaton.specs.NextMove.{next_move, held_word, deepened_since
 use Rattle.thread_automaton.specs.Changes.{stood_at}
 use Rattle.thread_automaton.specs.Told.{after_answer}
 
--- Its steps, where the section s had the word w as it was seen to be revoked: each word noted since the level opened is put
--- back, the last one first; then each monitor held before gets its depth of then, the one that was taken first first; then
--- each monitor taken since is released, the last one first; and then the section is undone so far.
+-- Its steps, where the section s had the word w when it was seen to be revoked: each word logged since the level opened
+-- is put back, the last one first; then each monitor held before gets back the depth that it had then, the one that was
+-- taken first first; then each monitor taken since is released, the last one first; and then the section is marked as
+-- undone to that level.
 abbrev pub undo_steps : ℕ → ℕ → List Noted → List Held → List Held → List Step
 undo_steps s w log deepened taken =
     map (λ x. RestoreWord x.at x.old) log ++ map (λ h. SetDepth h.object (held_word s h)) deepened

@@ -17,7 +17,7 @@ pub record KnowsTexts (texts : List BaseText) (known : BTreeMap (Bor (List ℕ))
   pub only : (text : List ℕ) (base : ElementType) → found known text ≡ Some base → (t : BaseText) × Contains texts t × (t.text ≡ text) × (t.base ≡ base)
   pub ordered : IsOrdered (λ x y. slice_cmp nat_cmp x.now y.now) known
 
--- types stand in the order of their descriptors, where each has the descriptor that is given for it
+-- types are in the order of their descriptors, where each has the descriptor that is given for it
 pub record AreInOrder (descriptor : ElementType → List ℕ) (texts : List BaseText) (bases : List ElementType) : Type 0 where
   pub order : ((t : BaseText) → Contains texts t → descriptor t.base ≡ t.text) → StandInOrder (map descriptor bases)
   pub there : ((t : BaseText) → Contains texts t → descriptor t.base ≡ t.text) → (t : BaseText) → Contains texts t → Contains (map descriptor bases) t.text

@@ -88,7 +88,7 @@ fn class_text(alloc: Global, name: &[u8], class: u32) -> Result<BaseText, AllocE
 }
 
 /// The types of innermost elements of a program in the order of their descriptors: the primitive ones, and its classes
-/// and interfaces. It fails for want of memory alone.
+/// and interfaces. It fails only when memory runs out.
 pub fn program_bases(alloc: Global, supers: &Supers<'_>) -> Result<Vec<ElementType>, AllocError>
     requires { length supers.now ≤ 1024 }
     ensures { IfOk result (λ bases. AreBasesOf supers.now bases.items) }

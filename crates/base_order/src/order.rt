@@ -67,7 +67,7 @@ fn put_place(places: &mut Vec<Option<usize>>, base: ElementType, place: usize)
     }
 }
 
-/// The places of types by their numbers, in a table of so many.
+/// The places of types by their numbers, in a table of `count` entries.
 fn places_of(
     alloc: Global,
     bases: &[ElementType],
@@ -83,7 +83,7 @@ fn places_of(
 }
 
 impl BaseOrder {
-    /// The types of innermost elements of a program. It fails for want of memory alone.
+    /// The types of innermost elements of a program. It fails only when memory runs out.
     pub fn new(alloc: Global, supers: &Supers<'_>) -> Result<Self, AllocError>
         requires { length supers.now ≤ 1024 }
         ensures { IfOk result (λ order. IsOrderOf supers.now order) }

@@ -5,7 +5,7 @@ use rows::Rows;
 use std::alloc::Global;
 use std::test::Fail;
 
-/// A branch of three bytes to the return behind it.
+/// A branch of three bytes to the return after it.
 fn branch_and_return(alloc: Global) -> Result<Steps, Fail> {
     let mut offsets = Numbering::new(alloc);
     let mut steps = Rows::new(alloc);

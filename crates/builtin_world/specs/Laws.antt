@@ -19,7 +19,7 @@ NamesAreDistinct = All (λ r. row_named r.name ≡ Some r) rows
 abbrev pub NumbersAreDistinct : Type 0
 NumbersAreDistinct = All (λ r. row_numbered r.number ≡ Some r) rows
 
--- each superclass and each superinterface stands before the class
+-- each superclass and each superinterface comes before the class
 abbrev pub SupersComeFirst : Type 0
 SupersComeFirst = All (λ r. r.super_number < r.number) rows
 
@@ -55,7 +55,7 @@ SubclassesKeepWords = All (λ c. take (length (words_of c.super)) c.words ≡ wo
 abbrev pub MethodsAreDistinct : Type 0
 MethodsAreDistinct = All (λ r. All (λ m. method_with r.methods m.name m.descriptor ≡ Some m) r.methods) rows
 
--- each class has so few methods that an index of 16 bits tells them apart (JVMS 4.1)
+-- each class has few enough methods for an index of 16 bits (JVMS 4.1)
 abbrev pub MethodsAreFew : Type 0
 MethodsAreFew = All (λ r. length r.methods < 2 ^ 16) rows
 

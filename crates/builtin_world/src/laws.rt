@@ -16,7 +16,7 @@ pub fn classes_are_distinct()
     ensures numbers { NumbersAreDistinct }
 {}
 
-/// Each built-in class stands after its superclass and its superinterfaces.
+/// Each built-in class comes after its superclass and its superinterfaces.
 pub fn supers_come_first()
     ensures classes { SupersComeFirst }
     ensures interfaces { InterfacesComeFirst }

@@ -1,4 +1,4 @@
-//! The table itself: a class stands after its superclass, and its number is one more than its index.
+//! The table itself: a class comes after its superclass, and its number is one more than its index.
 
 use crate::{BuiltinClass, BuiltinField, BuiltinMethod, Native, number};
 use access_flags::{ABSTRACT, FINAL, INTERFACE, PUBLIC, STATIC};

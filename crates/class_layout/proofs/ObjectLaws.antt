@@ -57,7 +57,7 @@ places_more rows n r old new end next at few have push more = record {
 static_at : (cs : List NamedClass) (rows : List ClassRow) → AreRowsOf cs rows → (i : ℕ) (r : ClassRow) → slice_get rows i ≡ Some r → r.static_words ≡ static_words cs (suc i)
 static_at cs rows are i r at = (are.each (suc i) r at).statics
 
--- a place behind the first class objects is that of the next class object
+-- the place after the first class objects is that of the next class object
 pub object_behind : (us : List ClassUnit) (rows : List ClassRow) → AreRowsOf (classes_of us) rows → (i : ℕ) → i ≤ length rows → behind rows i ≡ class_object (program_names us) (suc i)
 object_behind us rows are zero le = refl
 object_behind us rows are (suc i) le =
@@ -80,7 +80,7 @@ object_behind us rows are (suc i) le =
         let size_is : class_object_size (classes_of us) (1 + i) ≡ 2 + static_words (classes_of us) (suc i) = ap (class_object_size (classes_of us)) one in
         omega arith
 
--- behind the classes each class object has two places
+-- past the classes, each class object has two places
 past_classes : (us : List ClassUnit) (n : ℕ) → class_object (program_names us) (suc (length (classes_of us)) + n) ≡ class_object (program_names us) (suc (length (classes_of us))) + 2 * n
 past_classes us zero = (let same : suc (length (classes_of us)) + 0 ≡ suc (length (classes_of us)) = omega arith in ap (class_object (program_names us)) same ∙ omega arith)
 past_classes us (suc n) =
@@ -95,7 +95,7 @@ past_classes us (suc n) =
     let later : class_object (program_names us) (suc m + n) ≡ class_object (program_names us) (suc m) + 2 * n = past_classes us n in
     omega arith
 
--- the class object of a number behind the classes
+-- the class object of a number past the classes
 pub object_past : (us : List ClassUnit) (rows : List ClassRow) → AreRowsOf (classes_of us) rows → (c index end : ℕ) → index ≡ c - 1 → length rows ≤ index → end ≡ behind rows (length rows)
     → end + 2 * (index - length rows) ≡ class_object (program_names us) c
 object_past us rows are c index end is past end_is =

@@ -1,4 +1,4 @@
--- Class objects one behind the other.
+-- Class objects one after another.
 use Rattle.std.specs.Prelude.{◌≡◌, ℕ, ◌+◌, ◌<◌, Some, List, length, take, slice_get, sum_by}
 use Rattle.class_layout.specs.declared.row.ClassRow.{ClassRow}
 use Rattle.class_layout.specs.declared.object_places.ObjectPlaces.{ObjectPlaces}
@@ -7,7 +7,7 @@ use Rattle.class_layout.specs.declared.object_places.ObjectPlaces.{ObjectPlaces}
 abbrev pub object_size : ClassRow → ℕ
 object_size r = 2 + r.static_words
 
--- the place behind the class objects of so many classes
+-- the place after the class objects of the first i classes
 abbrev pub behind : List ClassRow → ℕ → ℕ
 behind rows i = 1 + sum_by object_size (take i rows)
 

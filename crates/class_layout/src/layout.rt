@@ -45,8 +45,8 @@ fn object_at(objects: &[u32], index: usize) -> Option<u32>
 }
 
 impl ClassLayout {
-    /// The layout of the classes of a program, made in an order in which superclasses stand first. It fails for want
-    /// of memory alone.
+    /// The layout of the classes of a program, made in an order in which superclasses come first. It fails only when
+    /// memory runs out.
     pub fn new(alloc: Global, supers: &Supers<'_>, order: &[u32]) -> Result<Self, AllocError>
         requires decoded { AreUnits supers.now }
         requires few { length supers.now ≤ 1024 }
@@ -84,8 +84,8 @@ impl ClassLayout {
         }
     }
 
-    /// The reference of the class object of a class or array class. A number past them is that of an array class: so
-    /// the first place behind the class objects is what the number behind the last one has.
+    /// The reference of the class object of a class or array class. A number past those of the classes is that of an
+    /// array class, so the number after the last class has the first place after the class objects.
     pub fn class_object(&self, class: u32) -> u32
         requires { class < 2 ^ 24 }
         ensures value { (us : List ClassUnit) → IsLayoutOf us self.now → result ≡ class_object (program_names us) class }
@@ -98,8 +98,8 @@ impl ClassLayout {
         }
     }
 
-    /// The words of a class and its class object, where so many classes and array classes have numbers; of another
-    /// number all is 0.
+    /// The words of a class and its class object, where `classes` classes and array classes have numbers; for any other
+    /// number all are 0.
     pub fn layout(&self, class: u32, classes: u32) -> Layout
         requires { classes < 2 ^ 24 }
         ensures { (us : List ClassUnit) → IsLayoutOf us self.now → classes ≡ class_count (program_names us) → result ≡ layout (program_names us) class }

@@ -1,4 +1,4 @@
-//! Class objects one behind the other.
+//! Class objects one after another.
 
 ghost use Rattle.std.specs.Prelude.{◌<◌, ◌^◌};
 
@@ -6,7 +6,7 @@ ghost use Rattle.std.specs.Prelude.{◌<◌, ◌^◌};
 #[derive(Drop)]
 pub struct ObjectPlaces {
     pub objects: Vec<u32>,
-    /// The first place behind them.
+    /// The first place after them.
     pub behind: u32,
     ghost small: { behind < 2 ^ 28 },
 }

@@ -7,7 +7,7 @@ use crate::object_places::ObjectPlaces;
 use crate::row::ClassRow;
 use std::alloc::{AllocError, Global};
 
-/// Puts the class objects one behind the other, from place 1: each has a header, a monitor and its static words.
+/// Puts the class objects one after another, from place 1: each has a header, a monitor and its static words.
 pub fn place_objects(alloc: Global, rows: &[ClassRow]) -> Result<ObjectPlaces, AllocError>
     requires few { length rows.now < 2 ^ 11 }
     requires small { All (λ r. r.static_words < 2 ^ 17) rows.now }

@@ -24,7 +24,7 @@ pub struct ClassRow {
 }
 
 impl ClassRow {
-    /// A class without fields, whose objects have so many words.
+    /// A class without fields, whose objects have `inherited` words.
     pub fn new(alloc: Global, inherited: u32) -> Self
         ensures { result ≡ record { places = []; static_words = 0; instance_words = inherited } }
     {
@@ -65,7 +65,7 @@ fn field_words(pool: &[Constant], field: &Member) -> u32
     }
 }
 
-/// Places the fields of a class, those of its objects behind the inherited words.
+/// Places the fields of a class, and those of its objects after the inherited words.
 pub fn place_fields(
     alloc: Global,
     pool: &[Constant],

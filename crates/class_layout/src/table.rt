@@ -92,7 +92,7 @@ fn class_row(
     Ok(row)
 }
 
-/// The rows of the classes of a program, in an order in which superclasses stand first.
+/// The rows of the classes of a program, in an order in which superclasses come first.
 pub fn class_rows(
     alloc: Global,
     supers: &Supers<'_>,

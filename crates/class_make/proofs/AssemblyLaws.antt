@@ -1,4 +1,4 @@
--- The lines of a text, one behind the other.
+-- The lines of a text, one after another.
 use Rattle.std.proofs.Common.{◌≡◌, ℕ, List, [], ◌∷◌, Some, Result, Ok, Err, refl, sym, ◌∙◌}
 use Rattle.class_walk.specs.declared.class.Constant.{Constant}
 use Rattle.class_walk.specs.declared.class.RawClass.{RawClass}

@@ -44,7 +44,7 @@ abbrev pub goes_on : ℕ → Option (List Constant × State) → (List Constant 
 goes_on number None next = Err number
 goes_on number (Some x) next = next x.0 x.1
 
--- the lines from a state on, with the number of the line behind the last
+-- the lines from a state on, with the number of the line after the last
 abbrev pub assembled_from : ℕ → List Numbered → List Constant → State → Result (List ℕ) ℕ
 assembled_from behind [] pool state = spelled behind (finished state pool)
 assembled_from behind (numbered ∷ lines) pool state =

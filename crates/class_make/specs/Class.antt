@@ -19,7 +19,7 @@ use Rattle.assembler_bodies.specs.Body.{MadeBody, begun, content}
 pub record MadeClass : Type 0 where
   pub flags : ℕ
   pub this_class : ℕ
-  -- from the line behind the class's own on
+  -- set from the line after the class's own on
   pub super_class : Option ℕ
   pub interfaces : List ℕ
   pub fields : List RawMember
@@ -34,7 +34,7 @@ pub record OpenMethod : Type 0 where
   pub marks : Marks
   pub body : MadeBody
 
--- where a text stands between its lines
+-- the state of a text between its lines
 pub data State : Type 0 where
   -- before the class line
   before_class : State
@@ -51,14 +51,14 @@ is_empty (a ∷ items) = false
 abbrev pub has_place : {A : Type 0} → List A → Bool
 has_place items = nat_lt (length items) 65535
 
--- interfaces stand before fields and methods
+-- interfaces come before fields and methods
 unfoldable pub put_interface : ℕ → MadeClass → Option MadeClass
 put_interface index class =
     if has_place class.interfaces && (is_empty class.fields && is_empty class.methods)
     then Some (record class { interfaces = class.interfaces ++ index ∷ [] })
     else None
 
--- fields stand before methods
+-- fields come before methods
 unfoldable pub put_field : RawMember → MadeClass → Option MadeClass
 put_field field class =
     if has_place class.fields && is_empty class.methods then Some (record class { fields = class.fields ++ field ∷ [] }) else None
@@ -93,7 +93,7 @@ class_line flags name = do
   this ← used (class_named name)
   only (Some (record { flags = flags; this_class = this; super_class = None; interfaces = []; fields = []; methods = [] }))
 
--- a superclass is named right behind the class line
+-- a superclass is named right after the class line
 unfoldable pub super_line : List ℕ → Option ℕ → Making ℕ
 super_line name (Some index) = only None
 super_line name None = used (class_named name)
@@ -125,7 +125,7 @@ method_line flags name descriptor class = do
 abbrev pub opened : MadeClass → OpenMethod → Option OpenMethod
 opened class method = if has_place class.methods then Some method else None
 
--- a method whose code is the lines behind
+-- a method whose code is the lines after it
 unfoldable pub body_line : Marks → ℕ → List ℕ → List ℕ → Room → MadeClass → Making OpenMethod
 body_line marks flags name descriptor room class = do
   n ← used (text name)
@@ -143,7 +143,7 @@ stays_inside class making = do
   method ← making
   only (Some (inside class method))
 
--- a line behind those of the class and its superclass, before these lines
+-- a line after those of the class and its superclass, given the lines after it
 abbrev pub part_line : List Numbered → Option Line → MadeClass → Making State
 part_line behind (Some (Implements name)) class = stays_outside (interface_line name class)
 part_line behind (Some (Field flags name descriptor value)) class = stays_outside (field_line flags name descriptor value class)

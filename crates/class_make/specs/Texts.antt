@@ -4,7 +4,8 @@ use Rattle.assembler_text.specs.declared.lines.TextLines.{TextLines}
 use Rattle.assembler_text.specs.TextLines.{most_bytes, AreLinesOf}
 use Rattle.class_make.specs.Assembly.{assembled}
 
--- What stands behind the first byte that a text may not have is not looked at: the line of that one says nothing.
+-- What comes after the first byte beyond those that a text may have is not looked at: the line of that byte says
+-- nothing.
 abbrev pub front : List ℕ → List ℕ
 front text = take (most_bytes + 1) text
 

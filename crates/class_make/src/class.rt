@@ -23,7 +23,7 @@ const MOST: usize = 65_535;
 pub struct ClassParts {
     pub flags: u16,
     pub this_class: u16,
-    /// None before the line behind the class's own.
+    /// None before the line after the class's own.
     pub super_class: Option<u16>,
     pub interfaces: Rows<u16>,
     pub fields: Rows<RawMember>,
@@ -182,7 +182,7 @@ impl ClassParts {
         Ok(())
     }
 
-    /// Puts a field behind the others.
+    /// Appends a field.
     #[tactic(auto, unfolding(crate::specs::Class::field_line))]
     pub fn field(
         &mut self,
@@ -214,7 +214,7 @@ impl ClassParts {
         self.methods.len() < MOST
     }
 
-    /// Puts a method behind the others.
+    /// Appends a method.
     #[tactic(auto, unfolding(crate::specs::Class::put_method))]
     pub fn put_method(&mut self, method: RawMember) -> Result<(), BodyRefusal>
         requires { IsWritableMember method }
@@ -227,7 +227,7 @@ impl ClassParts {
         Ok(())
     }
 
-    /// Puts a method without code behind the others.
+    /// Appends a method without code.
     #[tactic(auto, unfolding(crate::specs::Class::method_line))]
     pub fn method(
         &mut self,

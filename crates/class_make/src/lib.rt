@@ -1,6 +1,6 @@
 //! Class files from an assembler's text.
 //!
-//! The lines of a text make a class one behind the other, each entry of the pool at the line that names it first, and
+//! The lines of a text, one after another, make a class, each entry of the pool at the line that names it first, and
 //! the file is the spelling of that class (JVMS SE 8, chapter 4).
 #![tactic(auto)]
 

@@ -56,7 +56,7 @@ fn at_line(number: u32, refusal: BodyRefusal) -> MakeRefusal
     }
 }
 
-/// The bytes of the class at the end of a text, given the number of the line behind the last.
+/// The bytes of the class at the end of a text, given the number of the line after the last.
 fn class_bytes(
     alloc: Global,
     pool: PoolMaker,
@@ -74,7 +74,7 @@ fn class_bytes(
     }
 }
 
-/// The bytes of the class file of some lines, given the number of the line behind the last.
+/// The bytes of the class file of some lines, given the number of the line after the last.
 fn class_of_lines(alloc: Global, lines: &[Numbered], behind: u32) -> Result<Vec<u8>, MakeRefusal>
     ensures { Answers result (λ bytes. bytes.items) (assembled behind lines.now) }
 {
@@ -103,11 +103,11 @@ fn front(text: &[u8]) -> &[u8]
     front
 }
 
-/// The class file (JVMS 4.1) that an assembler's text stands for, as bytes. The text is ASCII, one item a line.
-/// `Line` comes exactly where the text is none: with the number of the first line that may not stand there, that names
-/// a label that is absent, that makes a number, the pool, the code or the text too large, or that has a byte above
-/// 127; or with the number of the line behind the last where the class or the end of a body is missing. `NoMemory` is
-/// want of memory.
+/// The class file (JVMS 4.1) that an assembler's text stands for, as bytes. The text is ASCII, one item a line. `Line`
+/// comes exactly where the text stands for no class file: with the number of the first line that is not allowed there,
+/// that names a label that is absent, that makes a number, the pool, the code or the text too large, or that has a byte
+/// above 127; or with the number of the line after the last where the class or the end of a body is missing. `NoMemory`
+/// comes when memory runs out.
 pub fn assemble(alloc: Global, text: &[u8]) -> Result<Vec<u8>, MakeRefusal>
     ensures made { IfOk result (λ bytes. IsAssembled text.now (Ok bytes.items)) }
     ensures line { (number : ℕ) → result ≡ Err (refusals.Line number) → IsAssembled text.now (Err number) }

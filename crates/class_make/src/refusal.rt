@@ -8,8 +8,8 @@ use std::alloc::AllocError;
 /// Why no class was made of a text.
 #[derive(Clone, Copy)]
 pub enum MakeRefusal {
-    /// The number of the first line that is refused, from 1; the line behind the last where the class or the end of a
-    /// body is missing.
+    /// The number of the first line that is refused, from 1; that of the line after the last where the class or the end
+    /// of a body is missing.
     Line(u32),
     /// There was no memory.
     NoMemory,

@@ -1,4 +1,4 @@
-//! The lines of a text, one behind the other.
+//! The lines of a text, one after another.
 
 ghost use Rattle.std.specs.Prelude.{◌≡◌};
 ghost use Rattle.assembler_bodies.specs.Making.{Gives};
@@ -28,7 +28,7 @@ pub struct OpenMethod {
     body: Body,
 }
 
-/// Where a text stands between its lines.
+/// The state of a text between its lines.
 #[derive(Drop)]
 pub enum State {
     BeforeClass,
@@ -36,7 +36,7 @@ pub enum State {
     Inside(ClassParts, OpenMethod),
 }
 
-/// Begins the body of a method, whose lines stand behind its own.
+/// Begins the body of a method, whose lines come after the method's own.
 #[tactic(auto, unfolding(crate::specs::Class::body_line))]
 fn open_method(
     alloc: Global,
@@ -116,7 +116,7 @@ fn inside_line(
     Ok(State::Inside(class, method))
 }
 
-/// A line behind those of the class and its superclass.
+/// A line after those of the class and its superclass.
 fn part_line(
     alloc: Global,
     pool: &mut PoolMaker,
@@ -176,7 +176,7 @@ fn part_line(
     Ok(State::Outside(class))
 }
 
-/// A line outside bodies behind the class's own.
+/// A line outside bodies, after the class's own.
 fn outside_line(
     alloc: Global,
     pool: &mut PoolMaker,
@@ -196,7 +196,7 @@ fn outside_line(
     part_line(alloc, pool, class, line, behind)
 }
 
-/// A line of a text, given those behind it.
+/// A line of a text, given the lines after it.
 pub fn step(
     alloc: Global,
     pool: &mut PoolMaker,

@@ -84,7 +84,7 @@ first_kind bytes kind rest others some is =
       spelled = t.spelled ∙ (ap (λ (xs : List ℕ). kind_text kind ++ xs) is.spelled ∙ sym (append_assoc (kind_text kind) (flat_map kind_text others.0) others.1));
     }
 
--- what is read where a kind stands at the front, or none
+-- what is read, with a kind at the front or without one
 abbrev going_on : ℕ → List ℕ → Option (Kind × List ℕ) → List Kind × List ℕ
 going_on n bytes read = option_map_or (λ x. behind_first x.0 (kinds_within n x.1)) read ([], bytes)
 
@@ -98,7 +98,7 @@ unfolding kinds_within
 kinds_take zero bytes = record { each = tt; spelled = refl }
 kinds_take (suc n) bytes = kinds_by n bytes (kind_at bytes) refl (kinds_take n)
 
--- where no kind stands, the list ends
+-- where there is no kind, the list ends
 kinds_end : (n : ℕ) (bytes : List ℕ) → kind_at bytes ≡ None → kinds_within n bytes ≡ ([], bytes)
 unfolding kinds_within
 kinds_end zero bytes none = refl
@@ -151,7 +151,7 @@ kinds_first bytes kind rest some =
 pub kinds_none : (bytes : List ℕ) → kind_at bytes ≡ None → kinds_at bytes ≡ ([], bytes)
 kinds_none bytes none = kinds_end (length bytes) bytes none
 
--- the parameters that stand there are the ones that are read
+-- the parameters that are there are the ones that are read
 pub parameters_again : (bytes : List ℕ) (kinds : List Kind) (rest : List ℕ) → ParametersAt bytes kinds rest → kinds_at bytes ≡ (kinds, 41 ∷ rest)
 parameters_again bytes kinds rest p =
     let enough : length kinds ≤ length bytes = omega (arith, ap length p.spelled, length-append (flat_map kind_text kinds) (41 ∷ rest), few_kinds kinds) in

@@ -1,4 +1,4 @@
--- The kind that is read from the front is the one that stands there.
+-- The kind that is read from the front is the one that is there.
 use Rattle.std.proofs.Common.{◌≡◌, ℕ, zero, suc, ◌≤◌, false, cond, List, [], ◌∷◌, ◌++◌, length, take, drop, replicate, Option, Some, None, option_map, eqb, leb, refl, sym, ap, ◌∙◌, subst, append_assoc, arith, ◌+◌, ◌<◌, get_or, add-one, drop-cons, inl, inr}
 use Rattle.std.proofs.lemmas.Bool.{cases_Bool, eqb-true, leb-true, le-leb}
 use Rattle.std.proofs.lemmas.Option.{same_Some}
@@ -52,7 +52,7 @@ pub split_end : (bs : List ℕ) (i : ℕ) → length bs ≤ i → before (take i
 unfolding split_at_semicolon
 split_end bs i le = rw (drop_all i bs le) refl
 
--- what stands at the front of the bytes, and what behind it
+-- what is at the front of the bytes, and what comes after it
 record TakesBase (bytes : List ℕ) (x : BaseKind × List ℕ) : Type 0 where
   good : IsBaseKind x.0
   spelled : bytes ≡ base_text x.0 ++ x.1

@@ -1,11 +1,11 @@
--- Reading a class name byte by byte tells exactly the class names.
+-- Reading a name byte by byte accepts exactly the class names.
 use Rattle.std.proofs.Common.{◌≡◌, ◌≢◌, ℕ, Bool, true, false, cond, List, [], ◌∷◌, ◌++◌, flat_map, ◌⊎◌, inl, inr, ◌&&◌, eqb, refl, sym, ap, ◌∙◌, ◌+◌, ◌<◌, length, get_or, drop, add-one, drop-cons, arith}
 use Rattle.std.proofs.lemmas.Bool.{cases_Bool, and_parts, eqb-true, eq-eqb, ne_eqb, cond-true, cond-false}
 use Rattle.std.specs.List.{AllByRecursion}
 use Rattle.class_names.specs.Names.{is_name_byte, IsNameByte, IsMemberName, IsClassName, with_slash}
 use Rattle.class_names.specs.Reading.{spells_class_name}
 
--- a class name of whose first part the begin may stand before the bytes
+-- the bytes go on with a class name, whose first part may have begun before them
 record GoesOn (begun : Bool) (bytes : List ℕ) : Type 0 where
   first : List ℕ
   others : List (List ℕ)

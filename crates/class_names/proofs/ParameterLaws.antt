@@ -1,4 +1,4 @@
--- Parameters that were read one after the other are the ones that stand there.
+-- Parameters that were read one after another are the ones that are there.
 use Rattle.std.proofs.Common.{◌≡◌, ℕ, ◌+◌, ◌≤◌, ◌<◌, List, [], ◌∷◌, ◌++◌, length, flat_map, Some, None, refl, sym, ap, ◌∙◌, append_assoc, arith, length-append, replicate}
 use Rattle.std.proofs.lemmas.List.{append-nil}
 use Rattle.std.proofs.lemmas.List.Concat.{flat_map-append}
@@ -36,7 +36,7 @@ leaves (kind ∷ kinds) (first ∷ all) rest after h k e =
     let r = leaves kinds all rest after h.1 k.1 (second_same _ _ one) in
     record { more = r.more; whole = ap (λ (f : Kind). f ∷ all) (sym (first_same _ _ one)) ∙ ap (λ (ks : List Kind). kind ∷ ks) r.whole; others = r.others }
 
--- where no kind stands, no more are left
+-- where there is no kind, no more are left
 pub no_more : (more : List Kind) (rest after : List ℕ) → KindsAt rest more (41 ∷ after) → kind_at rest ≡ None → (more ≡ []) × (rest ≡ 41 ∷ after)
 no_more [] rest after r none = (refl, r.spelled)
 no_more (kind ∷ more) rest after r none =
@@ -44,7 +44,7 @@ no_more (kind ∷ more) rest after r none =
     let same : kind_at rest ≡ kind_at (kind_text kind ++ (flat_map kind_text more ++ 41 ∷ after)) = ap kind_at (r.spelled ∙ append_assoc (kind_text kind) (flat_map kind_text more) (41 ∷ after)) in
     absurd cc
 
--- where a kind stands, it is the first of those that are left
+-- where there is a kind, it is the first of those that are left
 pub record OneMore (more : List Kind) (kind : Kind) : Type 0 where
   pub others : List Kind
   pub whole : more ≡ kind ∷ others

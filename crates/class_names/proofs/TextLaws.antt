@@ -26,7 +26,7 @@ triple_no_double a h =
     let lo = leb-true 224 a p.0 in
     and_right (leb 192 a) (leb a 223) (lt-leb a 223 (omega arith))
 
--- a form that stands at the front is read
+-- a form at the front is read
 pub unit_again : (form rest : List ℕ) → IsForm form → unit_at (form ++ rest) ≡ Some (unit_of form, rest)
 unit_again [] rest h = absurd h
 unit_again (a ∷ []) rest h = rw h refl

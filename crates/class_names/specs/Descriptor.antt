@@ -22,7 +22,7 @@ base_text Float = 70 ∷ []
 base_text Double = 68 ∷ []
 base_text (Class name) = 76 ∷ (name ++ 59 ∷ [])
 
--- A [ for each dimension stands before the rest.
+-- A [ for each dimension comes before the rest.
 abbrev pub kind_text : Kind → List ℕ
 kind_text (Base base) = base_text base
 kind_text (Array dimensions base) = replicate dimensions 91 ++ base_text base
@@ -43,7 +43,7 @@ abbrev pub IsKind : Kind → Type 0
 IsKind (Base base) = IsBaseKind base
 IsKind (Array dimensions base) = (1 ≤ dimensions) × (dimensions ≤ 255) × IsBaseKind base
 
--- what so many dimensions make of a kind; without one it stays what it is
+-- the kind that n dimensions make of a base; without dimensions it is the base
 abbrev pub kind_of_dimensions : ℕ → BaseKind → Kind
 kind_of_dimensions zero base = Base base
 kind_of_dimensions (suc n) base = Array (suc n) base
@@ -89,12 +89,12 @@ abbrev pub IsDescriptorOf : List ℕ → Descriptor → Type 0
 IsDescriptorOf bytes (Field kind) = IsFieldDescriptor bytes kind
 IsDescriptorOf bytes (Method parameters returned) = IsMethodDescriptor bytes parameters returned
 
--- Kinds stand one after the other at the front of the bytes.
+-- Kinds are at the front of the bytes, one after another.
 pub record KindsAt (bytes : List ℕ) (kinds : List Kind) (rest : List ℕ) : Type 0 where
   pub each : AllByRecursion IsKind kinds
   pub spelled : bytes ≡ flat_map kind_text kinds ++ rest
 
--- Parameters stand at the front of the bytes, up to their ). They take at most 255 words.
+-- Parameters are at the front of the bytes, up to their ). They take at most 255 words.
 pub record ParametersAt (bytes : List ℕ) (parameters : List Kind) (rest : List ℕ) : Type 0 where
   pub each : AllByRecursion IsKind parameters
   pub words : parameter_words_of parameters ≤ 255

@@ -5,7 +5,7 @@ use Rattle.class_names.specs.declared.kind.Kind.{Kind}
 use Rattle.class_names.specs.Descriptor.{parameter_words_of}
 use Rattle.class_names.specs.Reading.{kind_at}
 
--- a kind, where nothing stands behind it
+-- a kind, where nothing comes after it
 abbrev pub lone : Option (Kind × List ℕ) → Option Kind
 lone None = None
 lone (Some x) = if length x.1 == 0 then Some x.0 else None
@@ -21,7 +21,7 @@ result_kind bytes = if bytes_eq bytes (codes "V") then Some None else option_map
 abbrev pub behind_first : Kind → List Kind × List ℕ → List Kind × List ℕ
 behind_first kind others = (kind ∷ others.0, others.1)
 
--- the kinds that stand one after the other at the front, at most so many, and what stands behind them
+-- at most n kinds at the front, one after another, and what comes after them
 unfoldable pub kinds_within : ℕ → List ℕ → List Kind × List ℕ
 kinds_within zero bytes = ([], bytes)
 kinds_within (suc n) bytes = option_map_or (λ x. behind_first x.0 (kinds_within n x.1)) (kind_at bytes) ([], bytes)

@@ -1,4 +1,4 @@
--- What a method descriptor is whose class names stand elsewhere.
+-- What a method descriptor is, when its class names are elsewhere.
 use Rattle.std.specs.Prelude.{◌≡◌, ℕ, List, Option, option_map}
 use Rattle.class_names.specs.declared.kind.Kind.{Kind}
 use Rattle.class_names.specs.declared.descriptor.MethodShape.{MethodShape}

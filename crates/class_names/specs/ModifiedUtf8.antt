@@ -18,7 +18,7 @@ is_triple a = nat_le 224 a && nat_le a 239
 abbrev pub is_continuation : ℕ → Bool
 is_continuation b = nat_le 128 b && nat_le b 191
 
--- The three forms of a UTF-16 code unit. A unit may stand in a longer form than it needs.
+-- The three forms of a UTF-16 code unit. A unit may have a longer form than it needs.
 abbrev pub IsForm : List ℕ → Type 0
 IsForm [] = ⊥
 IsForm (a ∷ []) = IsTrue (is_single a)
@@ -26,7 +26,7 @@ IsForm (a ∷ b ∷ []) = IsTrue (is_double a) × IsTrue (is_continuation b)
 IsForm (a ∷ b ∷ c ∷ []) = IsTrue (is_triple a) × IsTrue (is_continuation b) × IsTrue (is_continuation c)
 IsForm (a ∷ b ∷ c ∷ d ∷ bs) = ⊥
 
--- The code unit of a form: the bits that stand as x above, one byte after the other.
+-- The code unit of a form: the bits that are shown as x above, one byte after another.
 abbrev pub unit_of : List ℕ → ℕ
 unit_of [] = 0
 unit_of (a ∷ []) = a
@@ -57,7 +57,7 @@ pair_of high low = 65536 + (high - 55296) * 1024 + (low - 56320)
 abbrev pub alone : ℕ → ℕ
 alone unit = if is_high unit || is_low unit then 63 else unit
 
--- The characters of UTF-16 code units: a high surrogate and a low one behind it are one.
+-- The characters of UTF-16 code units: a high surrogate and a low one after it are one character.
 abbrev pub characters : List ℕ → List ℕ
 characters [] = []
 characters (u ∷ []) = alone u ∷ []

@@ -2,14 +2,14 @@
 use Rattle.std.specs.Prelude.{◌≡◌, ◌≢◌, ℕ, Bool, List, [], ◌∷◌, ◌++◌, ◌||◌, ◌==◌, ◌⊎◌, not, IsTrue, codes, flat_map}
 use Rattle.std.specs.List.{AllByRecursion}
 
--- a byte that may stand in an unqualified name (JVMS 4.2.2): it is none of . ; [ /
+-- a byte that may occur in an unqualified name (JVMS 4.2.2): any but . ; [ /
 abbrev pub is_name_byte : ℕ → Bool
 is_name_byte b = not (b == 46 || b == 59 || b == 91 || b == 47)
 
 abbrev pub IsNameByte : ℕ → Type 0
 IsNameByte b = IsTrue (is_name_byte b)
 
--- An unqualified name (JVMS 4.2.2): it is not empty, and each byte may stand in one.
+-- An unqualified name (JVMS 4.2.2): it is not empty, and each byte may occur in one.
 abbrev pub IsMemberName : List ℕ → Type 0
 IsMemberName name = (name ≢ []) × AllByRecursion IsNameByte name
 
@@ -24,7 +24,7 @@ IsPlainByte b = IsTrue (is_plain_byte b)
 abbrev pub IsMethodName : List ℕ → Type 0
 IsMethodName name = (name ≡ codes "<init>") ⊎ (name ≡ codes "<clinit>") ⊎ (IsMemberName name × AllByRecursion IsPlainByte name)
 
--- a part of a class name behind the first, with the / before it
+-- a part of a class name after the first, with the / before it
 abbrev pub with_slash : List ℕ → List ℕ
 with_slash part = 47 ∷ part
 

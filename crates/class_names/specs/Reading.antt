@@ -12,7 +12,7 @@ unfoldable pub spells_class_name : Bool → List ℕ → Bool
 spells_class_name begun [] = begun
 spells_class_name begun (b ∷ bs) = if is_name_byte b then spells_class_name true bs else if b == 47 && begun then spells_class_name false bs else false
 
--- what stands before the first ; and behind it
+-- what comes before the first ; and what comes after it
 unfoldable pub split_at_semicolon : List ℕ → Option (List ℕ × List ℕ)
 split_at_semicolon [] = None
 split_at_semicolon (b ∷ bs) = if b == 59 then Some ([], bs) else option_map (λ x. (b ∷ x.0, x.1)) (split_at_semicolon bs)
@@ -21,7 +21,7 @@ abbrev pub class_from : Option (List ℕ × List ℕ) → Option (BaseKind × Li
 class_from None = None
 class_from (Some x) = if spells_class_name false x.0 then Some (Class x.0, x.1) else None
 
--- the kind at the front that is no array, and what stands behind it
+-- the kind at the front that is not an array, and what comes after it
 unfoldable pub base_at : List ℕ → Option (BaseKind × List ℕ)
 base_at [] = None
 base_at (b ∷ bs) =
@@ -39,7 +39,7 @@ base_at (b ∷ bs) =
 abbrev pub is_bracket : ℕ → Bool
 is_bracket b = b == 91
 
--- the kind at the front, and what stands behind it
+-- the kind at the front, and what comes after it
 unfoldable pub kind_at : List ℕ → Option (Kind × List ℕ)
 kind_at bs =
     if nat_le (prefix_len is_bracket bs) 255

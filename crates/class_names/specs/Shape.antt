@@ -1,4 +1,4 @@
--- What a kind is whose class name stands elsewhere.
+-- What a kind is, when its class name is elsewhere.
 use Rattle.class_names.specs.declared.kind.BaseKind.{BaseKind}
 use Rattle.class_names.specs.declared.kind.BaseKind.TheVariants as kinds
 use Rattle.class_names.specs.declared.kind.Kind.{Kind}

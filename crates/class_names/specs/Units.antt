@@ -3,7 +3,7 @@ use Rattle.std.specs.Prelude.{ℕ, zero, suc, List, [], ◌∷◌, length, Optio
 use Rattle.class_names.specs.ModifiedUtf8.{characters}
 use Rattle.class_names.specs.ReadingText.{unit_at}
 
--- the code units of the forms that the bytes are, at most so many
+-- the code units of the forms that the bytes consist of, at most n of them
 unfoldable pub units_within : ℕ → List ℕ → Option (List ℕ)
 units_within n [] = Some []
 units_within zero (b ∷ bytes) = None

@@ -44,7 +44,7 @@ pub fn is_array_descriptor(bytes: &[u8]) -> bool
     }
 }
 
-/// What stands behind a byte at the front.
+/// What comes after a byte at the front.
 fn after_byte(bytes: &[u8], byte: u8) -> Option<&[u8]>
     ensures { MatchOption result ((rest : List ℕ) → bytes.now ≢ byte ∷ rest) (λ rest. bytes.now ≡ byte ∷ rest.now) }
 {
@@ -52,7 +52,7 @@ fn after_byte(bytes: &[u8], byte: u8) -> Option<&[u8]>
     if *first == byte { Some(rest) } else { None }
 }
 
-/// The size of the parameters that stand at the front, up to their `)`, and what stands behind it.
+/// The size of the parameters at the front, up to their `)`, and what comes after it.
 fn parameters(bytes: &[u8]) -> Option<(ParameterSize, &[u8])>
     ensures found { IfSome result (λ x. (kinds : List Kind) × ParametersAt bytes.now kinds x.1.now × (x.0 ≡ size_of kinds)) }
     ensures none { IfNone result ((kinds : List Kind) (rest : List ℕ) → ¬ ParametersAt bytes.now kinds rest) }
@@ -88,7 +88,7 @@ fn returned_shape(bytes: &[u8]) -> Option<Option<KindShape<'_>>>
     Some(Some(shape))
 }
 
-/// A method descriptor as it stands (JVMS 4.3.3).
+/// A method descriptor as it is written (JVMS 4.3.3).
 #[derive(Drop)]
 pub struct MethodShape<'a> {
     /// How much the parameters are.

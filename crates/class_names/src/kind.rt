@@ -27,7 +27,7 @@ pub enum BaseKind {
 pub enum Kind {
     /// A value that is no array.
     Base(BaseKind),
-    /// An array of so many dimensions, from 1 to 255, and the kind of its innermost elements.
+    /// An array with 1 to 255 dimensions, and the kind of its innermost elements.
     Array(u8, BaseKind),
 }
 

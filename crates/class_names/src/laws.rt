@@ -23,14 +23,14 @@ pub fn kinds_are_described()
         (method_kinds bytes ≡ Some (parameters, returned)) ↔ IsMethodDescriptor bytes parameters returned }
 {}
 
-/// The text that bytes give is the one for which they stand, and so are their code units (JVMS 4.4.7).
+/// The text that bytes give is the one that they stand for, and so are their code units (JVMS 4.4.7).
 pub fn texts_are_spelled()
     ensures text { (bytes text : List ℕ) → (text_of bytes ≡ Some text) ↔ IsTextOf bytes text }
     ensures units { (bytes units : List ℕ) → (units_of bytes ≡ Some units) ↔
         ((forms : List (List ℕ)) × AreForms bytes forms × (units ≡ map unit_of forms)) }
 {}
 
-/// Bytes stand for one text at most.
+/// Bytes stand for at most one text.
 pub fn bytes_have_one_text()
     ensures { (bytes text other : List ℕ) → IsTextOf bytes text → IsTextOf bytes other → text ≡ other }
 {}

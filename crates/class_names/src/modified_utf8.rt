@@ -14,7 +14,7 @@ fn is_continuation(byte: u8) -> bool
     matches!(byte, 0x80..=0xbf)
 }
 
-/// The UTF-16 code unit whose form stands at the front, and what stands behind it.
+/// The UTF-16 code unit of the form at the front, and what comes after it.
 fn next_unit(bytes: &[u8]) -> Option<(u16, &[u8])>
     ensures { MatchOption result (unit_at bytes.now ≡ None) (λ x. unit_at bytes.now ≡ Some (x.0, x.1.now)) }
 {
@@ -81,7 +81,7 @@ fn alone(unit: u16) -> char
     char::from_u32(u32::from(unit)).unwrap_or('?')
 }
 
-/// The character at the front, and what stands behind it.
+/// The character at the front, and what comes after it.
 #[tactic(auto, unfolding(crate::specs::ReadingText::character_at))]
 fn next_character(bytes: &[u8]) -> Option<(char, &[u8])>
     ensures { MatchOption result (character_at bytes.now ≡ None) (λ x. character_at bytes.now ≡ Some (x.0, x.1.now)) }

@@ -5,7 +5,7 @@ ghost use Rattle.std.specs.List.{AllByRecursion};
 ghost use Rattle.class_names.specs.Names.{is_name_byte, is_plain_byte, IsPlainByte, IsMemberName, IsMethodName, IsClassName};
 ghost use Rattle.class_names.specs.Reading.{spells_class_name};
 
-/// Whether a byte may stand in an unqualified name (JVMS 4.2.2).
+/// Whether a byte may occur in an unqualified name (JVMS 4.2.2).
 fn is_name_byte(byte: u8) -> bool
     ensures { result ≡ is_name_byte byte }
 {
@@ -43,7 +43,7 @@ pub fn is_method_name(bytes: &[u8]) -> bool
         || (is_member_name(bytes) && has_plain_bytes(bytes))
 }
 
-/// Goes over the bytes once. A part begins behind each `/`.
+/// Goes over the bytes once. A part begins after each `/`.
 pub(crate) fn is_spelled_class_name(bytes: &[u8]) -> bool
     ensures { result ≡ spells_class_name false bytes.now }
 {

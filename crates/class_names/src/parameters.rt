@@ -40,7 +40,7 @@ impl<'a> Parameters<'a> {
     ghost use Rattle.std.specs.Prelude.{◌≡◌};
     ghost use Rattle.class_names.specs.Kinds.{kinds_at};
 
-    /// The kinds that stand one after the other at the front of the bytes.
+    /// The kinds at the front of the bytes, one after another.
     pub(crate) fn new(bytes: &'a [u8]) -> Self
         ensures { result ≡ (kinds_at bytes.entry.now).0 }
     {

@@ -1,4 +1,4 @@
-//! Kinds as they stand in a descriptor, without memory of their own.
+//! Kinds as they are written in a descriptor, without memory of their own.
 
 ghost use Rattle.std.specs.Prelude.{◌≡◌, ◌≤◌, ℕ, length, take, drop, None, Some, IfOk, MatchOption};
 ghost use Rattle.std.specs.List.{prefix_len};
@@ -25,10 +25,10 @@ pub enum BaseShape<'a> {
     Class(&'a [u8]),
 }
 
-/// A kind as it stands in a descriptor (JVMS 4.3.2). Without a dimension it is no array.
+/// A kind as it is written in a descriptor (JVMS 4.3.2). Without a dimension it is not an array.
 #[derive(Clone, Copy)]
 pub struct KindShape<'a> {
-    /// How many `[` stand before it, 0 to 255.
+    /// How many `[` come before it, 0 to 255.
     pub dimensions: u8,
     /// The kind of the innermost elements.
     pub base: BaseShape<'a>,
@@ -63,7 +63,7 @@ impl KindShape<'_> {
         }
     }
 
-    /// The kind with memory of its own. It fails for want of memory alone.
+    /// The kind with memory of its own. It fails only when memory runs out.
     pub fn kind(self, alloc: Global) -> Result<Kind, AllocError>
         ensures { IfOk result (λ kind. kind ≡ kind_of self.entry) }
     {
@@ -76,7 +76,7 @@ impl KindShape<'_> {
     }
 }
 
-/// What stands before the first `;` and behind it.
+/// What comes before the first `;`, and what comes after it.
 fn split_name(bytes: &[u8]) -> Option<(&[u8], &[u8])>
     ensures { MatchOption result (split_at_semicolon bytes.now ≡ None) (λ x. split_at_semicolon bytes.now ≡ Some (x.0.now, x.1.now)) }
 {
@@ -88,7 +88,7 @@ fn split_name(bytes: &[u8]) -> Option<(&[u8], &[u8])>
     None
 }
 
-/// The class behind an `L`.
+/// The class after an `L`.
 fn class_shape(bytes: &[u8]) -> Option<(BaseShape<'_>, &[u8])>
     ensures { MatchOption result (class_from (split_at_semicolon bytes.now) ≡ None) (λ x. class_from (split_at_semicolon bytes.now) ≡ Some (base_of x.0, x.1.now)) }
 {
@@ -100,7 +100,7 @@ fn class_shape(bytes: &[u8]) -> Option<(BaseShape<'_>, &[u8])>
     }
 }
 
-/// The kind at the front that is no array, and what stands behind it.
+/// The kind at the front that is not an array, and what comes after it.
 #[tactic(auto, unfolding(crate::specs::Reading::base_at))]
 fn base_shape(bytes: &[u8]) -> Option<(BaseShape<'_>, &[u8])>
     ensures { MatchOption result (base_at bytes.now ≡ None) (λ x. base_at bytes.now ≡ Some (base_of x.0, x.1.now)) }
@@ -120,7 +120,7 @@ fn base_shape(bytes: &[u8]) -> Option<(BaseShape<'_>, &[u8])>
     }
 }
 
-/// How many `[` stand at the front.
+/// How many `[` are at the front.
 fn leading_brackets(bytes: &[u8]) -> usize
     ensures value { result ≡ prefix_len is_bracket bytes.now }
     ensures bound { result ≤ length bytes.now }
@@ -128,8 +128,8 @@ fn leading_brackets(bytes: &[u8]) -> usize
     bytes.iter().take_while(|byte| **byte == b'[').count()
 }
 
-/// The kind at the front, and what stands behind it: up to 255 `[`, and a kind that is no array. `None` where no
-/// kind stands there (JVMS 4.3.2).
+/// The kind at the front, which is up to 255 `[` and a kind that is not an array, and what comes after it. `None` where
+/// there is no kind (JVMS 4.3.2).
 #[tactic(auto, unfolding(crate::specs::Reading::kind_at))]
 pub fn kind_shape(bytes: &[u8]) -> Option<(KindShape<'_>, &[u8])>
     ensures { MatchOption result (kind_at bytes.now ≡ None) (λ x. kind_at bytes.now ≡ Some (kind_of x.0, x.1.now)) }

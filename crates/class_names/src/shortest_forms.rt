@@ -5,7 +5,7 @@ ghost use Rattle.class_names.specs.ShortestForms.{form_of, encoded};
 
 use std::alloc::{AllocError, Global};
 
-/// Puts the shortest form of a UTF-16 code unit behind the bytes. Without memory they stay as they are.
+/// Appends the shortest form of a UTF-16 code unit to the bytes. When memory runs out, they stay as they are.
 pub fn put_unit(bytes: &mut Vec<u8>, unit: u16) -> Result<(), AllocError>
     ensures ok { OnOk result (bytes.new.items ≡ bytes.old.items ++ form_of unit) }
     ensures err { OnErr result (bytes.new.items ≡ bytes.old.items) }
@@ -22,7 +22,7 @@ pub fn put_unit(bytes: &mut Vec<u8>, unit: u16) -> Result<(), AllocError>
     Ok(())
 }
 
-/// UTF-16 code units in modified UTF-8, each in its shortest form. It fails for want of memory alone.
+/// UTF-16 code units in modified UTF-8, each in its shortest form. It fails only when memory runs out.
 pub fn encoded(alloc: Global, units: &[u16]) -> Result<Vec<u8>, AllocError>
     ensures { IfOk result (λ bytes. bytes.items ≡ encoded units.now) }
 {

@@ -37,7 +37,7 @@ pub record IsBuilt (os : List ClassOrder) (c : ℕ) (above : ClassOrder) (named 
 abbrev pub no_orders : ClassOrder
 no_orders = record { superclasses = []; interfaces = []; all_interfaces = []; methods = []; fields = [] }
 
--- what stands directly above a class has its orders, and its lists are made of those
+-- what is directly above a class has its orders, and the lists of the class are made of those
 pub record IsReady (cs : List NamedClass) (os : List ClassOrder) (c : ℕ) : Type 0 where
   pub up : superclasses cs c ≡ c ∷ superclasses cs (superclass_of cs c)
   pub over : superinterfaces cs c ≡ flat_map (λ i. i ∷ superinterfaces cs i) (interfaces_of cs c)

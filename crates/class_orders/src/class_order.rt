@@ -48,7 +48,7 @@ fn joined(alloc: Global, first: &[u32], second: &[u32]) -> Result<Order, AllocEr
     Ok(order)
 }
 
-/// A class, and the numbers of two lists behind it, each once.
+/// A class, followed by the numbers of two lists, each once.
 fn headed(alloc: Global, class: u32, first: &[u32], second: &[u32]) -> Result<Order, AllocError>
     ensures { IfOk result (λ order. order ≡ put_all (put_all (put [] class) first.now) second.now) }
 {

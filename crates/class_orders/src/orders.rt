@@ -34,7 +34,7 @@ impl<'a> Model for ClassOrders<'a> {
     ghost invariant = { λ o. AreOrders (classes_of o.supers) o.orders.items };
 }
 
-/// The orders of so many classes, all empty.
+/// The orders of `count` classes, all empty.
 fn empties(alloc: Global, count: usize) -> Result<Vec<ClassOrder>, AllocError>
     ensures { IfOk result (λ orders. orders.items ≡ replicate count no_orders) }
 {
@@ -45,7 +45,7 @@ fn empties(alloc: Global, count: usize) -> Result<Vec<ClassOrder>, AllocError>
     Ok(orders)
 }
 
-/// The orders of a class, from those of what stands above it.
+/// The orders of a class, from those of what is above it.
 fn build(
     alloc: Global,
     supers: &Supers<'_>,

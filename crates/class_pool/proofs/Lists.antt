@@ -23,7 +23,7 @@ all_at P (y ∷ ys) (suc i) x below at all = all_at P ys i x (omega arith) at al
 pub all_of_taken : {X : Type 0} (P : X → Type 0) (xs : List X) (i : ℕ) → length xs ≤ i → AllByRecursion P (take i xs) → AllByRecursion P xs
 all_of_taken P xs i past all = subst (AllByRecursion P) (take_all i xs past) all
 
--- an item behind others
+-- an item after others
 pub slice_get-push : {X : Type 0} (xs : List X) (x y : X) (k : ℕ) → slice_get (xs ++ x ∷ []) k ≡ Some y → (slice_get xs k ≡ Some y) ⊎ ((k ≡ length xs) × (x ≡ y))
 slice_get-push [] x y zero e = inr (refl, same_Some x y e)
 slice_get-push [] x y (suc k) e = absurd cc

@@ -1,4 +1,4 @@
--- What is found at an index stands there, and what stands there is found.
+-- What is found at an index is what is there, and what is there is found.
 use Rattle.std.proofs.Common.{◌≡◌, ◌↔◌, ℕ, List, Option, Some, None, slice_get, refl, subst}
 use Rattle.std.proofs.lemmas.Option.{same_Some}
 use Rattle.class_walk.specs.declared.class.Constant.{Constant}

@@ -4,7 +4,7 @@ use Rattle.rules.specs.Rules.{Rules}
 use Rattle.class_pool.specs.declared.refusal.ReadRefusal.{ReadRefusal}
 use Rattle.class_pool.specs.declared.refusal.ReadRefusal.TheVariants.{NoMemory}
 
--- What a function refuses is what the rules refuse; want of memory may come anywhere.
+-- What a function refuses is what the rules refuse; memory may run out anywhere.
 abbrev pub Refuses : ReadRefusal → Rules ReadRefusal → Type 0
 Refuses e rules = (e ≡ NoMemory) ⊎ rules.Refuse e
 

@@ -1,4 +1,4 @@
--- What stands at an index of the constant pool, found by going from entry to entry.
+-- What is at an index of the constant pool, found by going from entry to entry.
 use Rattle.std.specs.Prelude.{ℕ, List, Option, Some, None, slice_get}
 use Rattle.class_walk.specs.declared.class.Constant.{Constant}
 use Rattle.class_walk.specs.declared.class.Constant.TheVariants.{Utf8, Class, Field, Method, IfaceMethod, Pair}

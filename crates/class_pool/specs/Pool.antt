@@ -1,4 +1,4 @@
--- What stands at an index of the constant pool (JVMS SE 8, 4.4).
+-- What is at an index of the constant pool (JVMS SE 8, 4.4).
 use Rattle.std.specs.Prelude.{◌≡◌, ℕ, List, Some, slice_get}
 use Rattle.class_walk.specs.declared.class.Constant.{Constant}
 use Rattle.class_walk.specs.declared.class.Constant.TheVariants.{Utf8, Class, Field, Method, Pair}

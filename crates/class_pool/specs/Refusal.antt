@@ -1,9 +1,9 @@
--- What a refusal of a class file is told by.
+-- The number that identifies a refusal of a class file.
 use Rattle.std.specs.Prelude.{ℕ}
 use Rattle.class_pool.specs.declared.refusal.ReadRefusal.{ReadRefusal}
 use Rattle.class_pool.specs.declared.refusal.ReadRefusal.TheVariants.{Magic, Version, Truncated, PoolTag, PoolIndex, BadUtf, BadDescriptor, Trailing, TooLong, Attribute, Flags, Member, NoMemory}
 
--- the number by which a refusal is told, from 1 in this order
+-- the number that identifies a refusal, from 1 in this order
 abbrev pub number_of : ReadRefusal → ℕ
 number_of Magic = 1
 number_of Version = 2

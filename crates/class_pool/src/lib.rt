@@ -1,8 +1,8 @@
-//! The constant pool of a class file (JVMS SE 8, 4.4): its rules, what stands at its indices, and what its texts may be
+//! The constant pool of a class file (JVMS SE 8, 4.4): its rules, what is at its indices, and what its texts may be
 //! used as.
 //!
 //! [`check_pool`] checks a pool entry by entry. [`utf8_at`], [`class_name_at`], [`name_and_type_at`] and
-//! [`reference_at`] say what stands at an index. [`Pool`] has found once for each text what it may be used as.
+//! [`reference_at`] say what is at an index. [`Pool`] has found once for each text what it may be used as.
 #![tactic(auto)]
 
 mod laws;

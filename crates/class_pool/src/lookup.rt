@@ -1,4 +1,4 @@
-//! What stands at an index of the constant pool.
+//! What is at an index of the constant pool.
 
 ghost use Rattle.std.specs.Prelude.{◌≡◌, ◌↔◌, ℕ, List, IfSome, IfNone, IsTrue, option_map, slice_get};
 ghost use Rattle.std.specs.Str.{bytes_eq};
@@ -17,14 +17,14 @@ pub struct Reference<'a> {
     pub descriptor: &'a [u8],
 }
 
-/// Whether a Utf8 entry stands there.
+/// Whether a Utf8 entry is there.
 pub fn is_text_at(pool: &[Constant], index: u16) -> bool
     ensures { IsTrue result ↔ IsText pool.now index }
 {
     matches!(pool.get(usize::from(index)), Some(Constant::Utf8(_)))
 }
 
-/// Whether a Class entry stands there.
+/// Whether a Class entry is there.
 pub fn is_class_entry_at(pool: &[Constant], index: u16) -> bool
     ensures value { result ≡ is_class_entry (slice_get pool.now index) }
     ensures meaning { IsTrue result ↔ IsClassEntry pool.now index }
@@ -38,7 +38,7 @@ fn is_same(a: &[u8], b: &[u8]) -> bool
     a == b
 }
 
-/// Whether a Utf8 entry of these bytes stands there.
+/// Whether a Utf8 entry of these bytes is there.
 pub fn is_utf8_at(pool: &[Constant], index: u16, text: &[u8]) -> bool
     ensures { result ≡ is_text text.now (slice_get pool.now index) }
 {
@@ -48,7 +48,7 @@ pub fn is_utf8_at(pool: &[Constant], index: u16, text: &[u8]) -> bool
     }
 }
 
-/// Whether a Class entry of this name stands there.
+/// Whether a Class entry of this name is there.
 pub fn is_class_at(pool: &[Constant], index: u16, name: &[u8]) -> bool
     ensures { result ≡ is_class pool.now name.now (slice_get pool.now index) }
 {
@@ -58,7 +58,7 @@ pub fn is_class_at(pool: &[Constant], index: u16, name: &[u8]) -> bool
     }
 }
 
-/// The bytes of the Utf8 entry that stands there, or `None` where none does.
+/// The bytes of the Utf8 entry there, or `None` where there is none.
 pub fn utf8_at(pool: &[Constant], index: u16) -> Option<&[u8]>
     ensures { option_map (λ x. x.now) result ≡ utf8_of (slice_get pool.now index) }
 {
@@ -68,8 +68,8 @@ pub fn utf8_at(pool: &[Constant], index: u16) -> Option<&[u8]>
     }
 }
 
-/// The name of the class, or the descriptor of the array class, whose Class entry stands there, or `None` where
-/// none does (JVMS 4.4.1).
+/// The name of the class, or the descriptor of the array class, whose Class entry is there, or `None` where there is
+/// none (JVMS 4.4.1).
 pub fn class_name_at(pool: &[Constant], index: u16) -> Option<&[u8]>
     ensures value { option_map (λ x. x.now) result ≡ class_name_of pool.now (slice_get pool.now index) }
     ensures found { IfSome result (λ name. IsClassAt pool.now index name.now) }
@@ -93,7 +93,7 @@ fn both<'a>(name: Option<&'a [u8]>, descriptor: Option<&'a [u8]>) -> Option<(&'a
     }
 }
 
-/// The name and the descriptor of the NameAndType entry that stands there, or `None` where none does (JVMS 4.4.6).
+/// The name and the descriptor of the NameAndType entry there, or `None` where there is none (JVMS 4.4.6).
 pub fn name_and_type_at(pool: &[Constant], index: u16) -> Option<(&[u8], &[u8])>
     ensures { option_map (λ x. (x.0.now, x.1.now)) result ≡ name_and_type_of pool.now (slice_get pool.now index) }
 {
@@ -120,7 +120,7 @@ fn class_and_member(pool: &[Constant], class: u16, pair: u16) -> Option<Referenc
     }
 }
 
-/// The member that the Field, Method or InterfaceMethod entry there names, or `None` where none of them stands there
+/// The member that the Field, Method or InterfaceMethod entry there names, or `None` where none of them is there
 /// (JVMS 4.4.2).
 pub fn reference_at(pool: &[Constant], index: u16) -> Option<Reference<'_>>
     ensures { option_map (λ r. reference_of r.class.now r.name.now r.descriptor.now) result ≡ reference_in pool.now (slice_get pool.now index) }

@@ -7,8 +7,8 @@ ghost use Rattle.class_pool.specs.Refusal.{number_of, place_of};
 use std::alloc::{AllocError, AllocFailed};
 use thiserror::Error;
 
-/// Why a class file was refused. Each number is an index of the constant pool or a place in the file, which
-/// is how many bytes stand before.
+/// Why a class file was refused. Each number is an index of the constant pool or a place in the file, which is the
+/// number of bytes before it.
 #[derive(Clone, Copy, Debug, Error)]
 pub enum ReadRefusal {
     /// The file doesn't begin with `CAFEBABE` (JVMS 4.1).
@@ -32,14 +32,14 @@ pub enum ReadRefusal {
     /// The Utf8 entry of this index is used as a name or a descriptor that it isn't (JVMS 4.2, 4.3).
     #[error("BadDescriptor {0}")]
     BadDescriptor(u16),
-    /// The class ends at this place, and bytes stand behind it.
+    /// The class ends at this place, and more bytes come after it.
     #[error("Trailing {0}")]
     Trailing(u32),
     /// The file has more than 1,048,576 bytes.
     #[error("TooLong")]
     TooLong,
-    /// The ConstantValue, Code or StackMapTable at this place is malformed, stands behind another one, or is
-    /// a constant of the wrong kind (JVMS 4.7.2 to 4.7.4).
+    /// The ConstantValue, Code or StackMapTable at this place is malformed, comes after another one, or is a constant
+    /// of the wrong kind (JVMS 4.7.2 to 4.7.4).
     #[error("Attribute {0}")]
     Attribute(u32),
     /// The flags of the class or of a member contradict each other (JVMS 4.1, 4.5, 4.6).
@@ -55,7 +55,7 @@ pub enum ReadRefusal {
 }
 
 impl ReadRefusal {
-    /// The number by which the refusal is told, from 1 in the order of the variants.
+    /// The number that identifies the refusal, from 1 in the order of the variants.
     pub fn number(self) -> u8
         ensures { result ≡ number_of self }
     {

@@ -118,8 +118,7 @@ impl<'a> Pool<'a> {
         self.constants
     }
 
-    /// What the text at an index may be used as: `None` where no text stands there. Takes the same time for any
-    /// text.
+    /// What the text at an index may be used as: `None` where there is no text. It takes the same time for any text.
     pub fn text_use(&self, index: u16) -> Option<TextUse>
         ensures { MatchOption result (¬ IsText self.now index) (IsUseAt self.now index) }
     {

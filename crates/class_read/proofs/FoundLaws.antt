@@ -1,4 +1,4 @@
--- The rules of attributes of which one name may stand once.
+-- The rules of attributes that may have a given name at most once.
 use Rattle.std.proofs.Common.{◌≡◌, ℕ, ◌+◌, ◌≤◌, Bool, List, length, take, slice_get, Option, None, Some, Bor, refl, sym, ◌∙◌, ap, subst, find, is_some, option_copied}
 use Rattle.std.specs.Option.{option_and_then}
 use Rattle.std.proofs.lemmas.List.{take_all}

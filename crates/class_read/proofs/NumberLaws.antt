@@ -1,4 +1,4 @@
--- The numbers of texts: the first index at which each stands.
+-- The numbers of texts: the first index at which each is.
 use Rattle.std.proofs.Common.{◌≡◌, ℕ, zero, suc, ◌+◌, Bool, true, false, cond, List, [], ◌∷◌, ◌++◌, take, drop, slice_get, Option, None, Some, refl, sym, ◌∙◌, ap, add-one, subst, arith, inl, inr, bytes_eq, ◌⊎◌, map}
 use Rattle.std.proofs.lemmas.List.{take-append-drop, map-append}
 use Rattle.std.specs.List.{position_from}

@@ -15,7 +15,7 @@ length-u2 n = refl
 pub length-u4 : (n : ℕ) → length (u4 n) ≡ 4
 length-u4 n = refl
 
--- an item of a row stands at a place of its own, and ends where the row ends at the latest
+-- an item of a row is at a place of its own, and ends at the latest where the row ends
 pub record StandsIn {X : Type 0} (item : X → List ℕ) (IsRight : ℕ → X → Type 0) (x : X) (end : ℕ) : Type 0 where
   pub place : ℕ
   pub right : IsRight place x

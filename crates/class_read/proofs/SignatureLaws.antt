@@ -52,7 +52,7 @@ one_text pool x y n e f =
     let b = number_text pool y n f in
     cc
 
--- the number at an index is that of the text that stands there
+-- the number at an index is that of the text there
 number_at_is : (pool : List Constant) (index : ℕ) → text_number_at (numbers_of pool) index ≡ option_and_then (λ (c : Constant). number_of pool c) (slice_get pool index)
 number_at_is pool index = rw (slice_get-map (number_of pool) pool index) (joined (slice_get pool index))
   where

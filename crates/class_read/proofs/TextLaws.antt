@@ -14,6 +14,6 @@ text_is_formed bytes file index text is at =
     let P : List Constant → Type 0 = λ pool. IsUtf8At pool index text in
     (is.2.pool index (Utf8 text) (subst P same at)).0
 
--- at most one text stands at an index
+-- at most one text is at an index
 pub same_bytes : (pool : List Constant) (index : ℕ) (a b : List ℕ) → IsUtf8At pool index a → IsUtf8At pool index b → a ≡ b
 same_bytes pool index a b p q = cc

@@ -46,7 +46,7 @@ abbrev pub index_in : List ℕ → ℕ
 index_in (high ∷ low ∷ bytes) = high * 256 + low
 index_in bytes = 0
 
--- a static field whose descriptor stands at the one index may begin with the constant at the other
+-- a static field whose descriptor is at the first index may begin with the constant at the second
 abbrev pub IsConstantAt : List Constant → ℕ → ℕ → Type 0
 IsConstantAt pool descriptor index =
     (text : List ℕ) × (c : Constant) × IsUtf8At pool descriptor text × (slice_get pool index ≡ Some c) × IsTrue (is_constant_for text c)
@@ -56,7 +56,7 @@ pub record IsConstantValue (pool : List Constant) (field : RawMember) (content :
   pub size : length content ≡ 2
   pub kind : IsTrue (has field.flags STATIC) → IsConstantAt pool field.descriptor (index_in content)
 
--- an attribute of a field, where a ConstantValue stands before it or doesn't
+-- an attribute of a field, with a ConstantValue before it or without one
 abbrev pub field_attribute_rules : List Constant → RawMember → Bool → RawAttribute → Rules ReadRefusal
 field_attribute_rules pool field earlier a =
     name_rules pool a
@@ -67,7 +67,7 @@ abbrev pub field_attributes_rules : List Constant → RawMember → Rules ReadRe
 field_attributes_rules pool field =
     each (λ i a. field_attribute_rules pool field (is_earlier pool (codes "ConstantValue") field.attributes i) a) field.attributes
 
--- an attribute of a Code that begins at this place; its content stands behind six bytes (JVMS 4.7)
+-- an attribute of a Code that begins at this place; its content comes after six bytes (JVMS 4.7)
 abbrev pub code_attribute_rules : List Constant → ℕ → Bool → RawAttribute → Rules ReadRefusal
 code_attribute_rules pool at earlier a =
     name_rules pool a
@@ -82,7 +82,7 @@ abbrev pub code_rules : List Constant → ℕ → Option RawCode → Rules ReadR
 code_rules pool at None = must ⊥ (Attribute at)
 code_rules pool at (Some code) = code_attributes_rules pool at code.attributes
 
--- an attribute of a method, where a Code stands before it or doesn't
+-- an attribute of a method, with a Code before it or without one
 abbrev pub method_attribute_rules : List Constant → Bool → RawAttribute → Rules ReadRefusal
 method_attribute_rules pool earlier a =
     name_rules pool a

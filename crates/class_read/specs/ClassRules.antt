@@ -56,7 +56,7 @@ member_rules pool c =
     then methods_rules pool c.methods
     then class_attributes_rules pool c.attributes
 
--- the pool, the header, and what stands behind it
+-- the pool, the header, and what comes after it
 abbrev pub class_rules_over : List Constant → RawClass → Rules ReadRefusal
 class_rules_over pool c = pool_rules pool then header_rules pool c then member_rules pool c
 

@@ -24,7 +24,7 @@ IsTextAt IsRight pool index = (text : List ℕ) × IsUtf8At pool index text × I
 abbrev pub text_at_rules : List Constant → ℕ → Rules ReadRefusal
 text_at_rules pool index = must (IsText pool index) (refusals.PoolIndex index)
 
--- a text stands at the index, and it is such a one
+-- there is a text at the index, and it is right
 abbrev pub text_rules : (List ℕ → Type 0) → List Constant → ℕ → Rules ReadRefusal
 text_rules IsRight pool index =
     text_at_rules pool index then must (IsTextAt IsRight pool index) (refusals.BadDescriptor index)

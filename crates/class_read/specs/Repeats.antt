@@ -14,7 +14,7 @@ use Rattle.class_walk.specs.declared.class.RawMember.{RawMember}
 use Rattle.class_pool.specs.Pool.{IsUtf8At}
 use Rattle.class_pool.specs.PoolTest.{is_text}
 
--- the same text stands at both indices
+-- the same text is at both indices
 abbrev pub IsSameText : List Constant → ℕ → ℕ → Type 0
 IsSameText pool i j = (text : List ℕ) × IsUtf8At pool i text × IsUtf8At pool j text
 
@@ -38,7 +38,7 @@ IsFirstRepeat pool members None = (i : ℕ) (x : RawMember) → slice_get member
 IsFirstRepeat pool members (Some index) =
     ((x : RawMember) × (slice_get members index ≡ Some x) × IsRepeated pool members index x) × NoneRepeated pool members index
 
--- the number of a text: the first index at which it stands
+-- the number of a text: the first index at which it is
 abbrev pub has_text : List ℕ → Constant → Bool
 has_text text c = is_text text (Some c)
 
@@ -52,7 +52,7 @@ number_of pool _ = None
 abbrev pub numbers_of : List Constant → List (Option ℕ)
 numbers_of pool = map (number_of pool) pool
 
--- the map has the number of each text that stands before an index
+-- the map has the number of each text that occurs before an index
 abbrev pub Knows : List Constant → ℕ → BTreeMap (Bor (List ℕ)) ℕ → Type 0
 Knows pool end known = (text : List ℕ) → get_by (λ k. slice_cmp nat_cmp text k.now) known ≡ number_in (take end pool) text
 

@@ -34,7 +34,7 @@ fn is_constant_for(descriptor: &[u8], constant: &Constant) -> bool
     }
 }
 
-/// Whether a static field whose descriptor stands at the one index may begin with the constant at the other.
+/// Whether a static field whose descriptor is at the first index may begin with the constant at the second.
 fn is_constant_at(pool: &[Constant], descriptor: u16, index: u16) -> bool
     ensures { IsTrue result ↔ IsConstantAt pool.now descriptor index }
 {
@@ -75,8 +75,7 @@ pub fn check_name(pool: &[Constant], attribute: &RawAttribute) -> Result<(), Rea
     Ok(())
 }
 
-/// Checks an attribute of a field, and says whether it is a ConstantValue. The flag says whether one stands
-/// before it.
+/// Checks an attribute of a field, and says whether it is a ConstantValue. The flag says whether one comes before it.
 fn is_checked_constant(
     pool: &[Constant],
     field: &RawMember,
@@ -127,7 +126,7 @@ pub fn field_constant(pool: &[Constant], field: &RawMember) -> Result<Option<u16
 }
 
 /// Checks an attribute of the Code at a place, and says whether it is a StackMapTable. The flag says whether
-/// one stands before it.
+/// one comes before it.
 fn is_checked_map(
     pool: &[Constant],
     at: u32,
@@ -228,8 +227,7 @@ fn code(
     }
 }
 
-/// Checks an attribute of a method, and gives its code where it is a Code. The flag says whether one stands
-/// before it.
+/// Checks an attribute of a method, and gives its code where it is a Code. The flag says whether one comes before it.
 fn checked_code(
     alloc: Global,
     pool: &[Constant],

@@ -15,8 +15,8 @@ pub struct ClassFile {
     pub super_class: u16,
     /// The indices of the Class entries of the interfaces.
     pub interfaces: Rows<u16>,
-    /// The constant pool by the file's own indices: `Gap` stands at 0 and behind each `Long` and `Double`,
-    /// but for one at the last index.
+    /// The constant pool by the file's own indices: `Gap` is at 0 and after each `Long` and `Double`, except after one
+    /// at the last index.
     pub pool: Rows<Constant>,
     pub fields: Rows<Member>,
     pub methods: Rows<Member>,

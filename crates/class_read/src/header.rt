@@ -12,7 +12,7 @@ use class_pool::{Pool, ReadRefusal, is_class_at};
 use class_walk::{Constant, RawClass};
 use rows::Rows;
 
-/// Whether the name of a class that is no array class stands there.
+/// Whether the name of a class that is not an array class is there.
 fn is_class_name_at(pool: &Pool<'_>, index: u16) -> bool
     ensures { IsTrue result ↔ IsTextAt IsClassName pool.now index }
 {
@@ -22,7 +22,7 @@ fn is_class_name_at(pool: &Pool<'_>, index: u16) -> bool
     }
 }
 
-/// Whether the Class entry of a class that is no array class stands there.
+/// Whether the Class entry of a class that is not an array class is there.
 fn is_named_class(pool: &Pool<'_>, index: u16) -> bool
     ensures { IsTrue result ↔ IsNamedClass pool.now index }
 {
@@ -51,7 +51,7 @@ fn check_interfaces(pool: &Pool<'_>, interfaces: &Rows<u16>) -> Result<(), ReadR
     Ok(())
 }
 
-/// Checks what stands between the constant pool and the fields.
+/// Checks what is between the constant pool and the fields.
 pub fn check_header(pool: &Pool<'_>, class: &RawClass) -> Result<(), ReadRefusal>
     ensures { KeepsExactly result (header_rules pool.now class.now) }
 {

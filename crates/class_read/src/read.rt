@@ -77,7 +77,7 @@ fn kept_methods(
     methods(alloc, pool, members, repeat)
 }
 
-/// Checks what stands behind the header, and gives what is kept of the fields and of the methods.
+/// Checks what comes after the header, and gives what is kept of the fields and of the methods.
 fn kept_members(
     alloc: Global,
     pool: &Pool<'_>,

@@ -9,7 +9,7 @@ use class_walk::{Constant, RawMember};
 use std::alloc::{AllocError, Global};
 use std::collections::{BTreeMap, BTreeSet};
 
-/// The number of a text that stands at an index: the first index at which it stands.
+/// The number of the text at an index: the first index at which it is.
 fn numbered<'a>(
     numbers: &mut BTreeMap<&'a [u8], u16>,
     text: &'a [u8],

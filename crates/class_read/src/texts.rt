@@ -16,7 +16,7 @@ use std::alloc::Global;
 /// The text of the Utf8 entry at an index of a class file that was read: `C0 80` is the character 0, a
 /// surrogate pair is its character, and a lone surrogate is `?`.
 ///
-/// `Bad` comes exactly where no Utf8 entry stands there. `NoMemory` may come where one does.
+/// `Bad` comes exactly where no Utf8 entry is there. `NoMemory` may come where one does.
 pub fn text_of(alloc: Global, file: &ClassFile, index: u16) -> Result<Text, NameRefusal>
     requires { (bytes : List ℕ) × IsFile bytes file.now }
     // What is read is the text that the bytes of the entry stand for.
@@ -24,7 +24,7 @@ pub fn text_of(alloc: Global, file: &ClassFile, index: u16) -> Result<Text, Name
     // It is read, unless memory runs out.
     ensures only { (bytes text : List ℕ) → IsUtf8At file.now.pool index bytes → IsTextOf bytes text →
         MatchResult result (λ read. read ≡ text) (λ e. e ≡ NoMemory) }
-    // Where no text stands, that is said.
+    // Where there is no text, the answer says so.
     ensures none { ¬ IsText file.now.pool index → result ≡ Err Bad }
     ensures error { IfErr result (λ e. (e ≡ NoMemory) ⊎ ((e ≡ Bad) × (¬ IsText file.now.pool index))) }
 {

@@ -57,7 +57,7 @@ fn interface_list(alloc: Global, supers: &Supers<'_>, count: u32) -> Result<Vec<
 }
 
 impl ClassRelations {
-    /// What the classes of a program are to each other. It fails for want of memory alone.
+    /// What the classes of a program are to each other. It fails only when memory runs out.
     pub fn new(alloc: Global, orders: &ClassOrders<'_>) -> Result<Self, AllocError>
         requires few { length orders.now ≤ 1024 }
         ensures { IfOk result (λ relations. AreRelationsOf orders.now relations) }

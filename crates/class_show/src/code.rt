@@ -54,7 +54,7 @@ fn element_word(element: PrimitiveType) -> &'static str {
     }
 }
 
-/// Prints the operands that stand behind the name of an instruction, and ends the line.
+/// Prints the operands after the name of an instruction, and ends the line.
 fn show_operands<R: Print>(rt: &R, form: Option<Form>, what: &What<Target>) -> io::Result<()> {
     match what {
         What::Int(value) if matches!(form, Some(Form::ByteInt | Form::ShortInt)) => {

@@ -50,7 +50,7 @@ sharp_hierarchy us =
     (sharp_each (λ k u. twice_rules (classes_of us) k (class_of_unit u)) us (λ k u. sharp_must _ _))
     (sharp_each (supers_rules (classes_of us)) us (λ k u. sharp_supers (classes_of us) k u)))
 
--- rules behind others that hold
+-- rules that come after others that hold
 pub keeps_behind : {T : Type 0} (first rest : Rules LinkRefusal) (r : Result T LinkRefusal) → first.Hold → KeepsExactly r rest → KeepsExactly r (first then rest)
 keeps_behind first rest (Ok x) holds keeps = (holds, keeps)
 keeps_behind first rest (Err e) holds keeps = inr (holds, keeps)

@@ -4,7 +4,7 @@ use Rattle.rules.specs.Rules.{Rules}
 use Rattle.link_types.specs.declared.refusal.LinkRefusal.{LinkRefusal}
 use Rattle.link_types.specs.declared.refusal.LinkRefusal.TheVariants.{NoMemory}
 
--- what the rules refuse; want of memory may come anywhere
+-- what the rules refuse; memory may run out anywhere
 abbrev pub Refuses : LinkRefusal → Rules LinkRefusal → Type 0
 Refuses e rules = (e ≡ NoMemory) ⊎ rules.Refuse e
 

@@ -1,4 +1,4 @@
-//! What stands above a class.
+//! What is above a class.
 
 ghost use Rattle.std.specs.Prelude.{◌≡◌, ℕ, ◌+◌, ◌<◌, ◌≤◌, ◌^◌, ◌||◌, ◌&&◌, ◌==◌, IfOk, All, length};
 ghost use Rattle.std.specs.List.{list_any};

@@ -1,4 +1,4 @@
-//! The rules of what stands above the classes of files (JVMS 5.3.5).
+//! The rules of what is above the classes of files (JVMS 5.3.5).
 
 ghost use Rattle.std.specs.Prelude.{◌≡◌, ◌≢◌, ◌↔◌, ◌≤◌, ℕ, Some, Err, IsTrue, length, slice_get, slice_index};
 ghost use Rattle.rules.specs.Rules.{must, each};
@@ -109,7 +109,7 @@ fn check_file(supers: &Supers<'_>, place: u32, unit: &ClassUnit) -> Result<(), L
     Ok(())
 }
 
-/// What stands above the classes of the files may stand there.
+/// What is above the classes of the files is allowed there.
 pub fn check_supers(supers: &Supers<'_>) -> Result<(), LinkRefusal>
     requires { length supers.now ≤ 1024 }
     ensures { KeepsExactly result (all_supers_rules (classes_of supers.now) supers.now) }

@@ -1,4 +1,4 @@
-//! The classes of a program by number, and what stands above them (JVMS SE 8, 5.3.5).
+//! The classes of a program by number, and what is above them (JVMS SE 8, 5.3.5).
 #![tactic(auto)]
 
 mod above;

@@ -1,4 +1,4 @@
-//! The classes of a program by number: what each one names, and what stands above it.
+//! The classes of a program by number: what each one names, and what is above it.
 
 ghost use Rattle.std.specs.Prelude.{◌≡◌, ◌↔◌, ℕ, [], ◌≤◌, suc, false, IfOk, IfErr, IsTrue, length, map, option_map};
 ghost use Rattle.std.specs.Option.{option_map_or};
@@ -131,9 +131,9 @@ fn number_checked(alloc: Global, units: &[ClassUnit]) -> Result<Supers<'_>, Link
 }
 
 impl<'a> Supers<'a> {
-    /// Numbers the classes of a program and finds what stands above each (JVMS 5.3.5), or refuses the first of its
-    /// rules that is broken: there are at most 1,024 files, each defines a class of its own, superclasses and
-    /// interfaces are there and may be such, and no class is above itself.
+    /// Numbers the classes of a program and finds what is above each (JVMS 5.3.5), or refuses the first of these rules
+    /// that is broken: there are at most 1,024 files, each defines a class of its own, superclasses and interfaces
+    /// exist and may be used as such, and no class is above itself.
     ///
     /// # Errors
     /// That refusal, or `NoMemory` where memory runs out.
@@ -145,7 +145,7 @@ impl<'a> Supers<'a> {
         number_checked(alloc, units)
     }
 
-    /// The files, which have the numbers behind those of the built-in classes.
+    /// The files, whose numbers follow those of the built-in classes.
     pub fn units(&self) -> &'a [ClassUnit]
         ensures { result.now ≡ self.now }
     {
@@ -187,7 +187,7 @@ impl<'a> Supers<'a> {
         self.above.relates(class, other)
     }
 
-    /// All classes in an order in which each stands behind those that it names as its superclass and interfaces.
+    /// All classes in an order in which each comes after those that it names as its superclass and interfaces.
     pub fn order(&self, alloc: Global) -> Result<Vec<u32>, AllocError>
         requires { (hierarchy_rules self.now).Hold }
         ensures { IfOk result (λ order. PutsSupersFirst (classes_of self.now) order.items) }

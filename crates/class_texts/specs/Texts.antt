@@ -13,7 +13,7 @@ pub record ProgramTexts : Type 0 where
   pub units : List ClassUnit
   pub texts : List (List ℕ)
 
--- the number of the text of a Utf8 entry; 0 where none stands there
+-- the number of the text of a Utf8 entry; 0 where there is none
 abbrev pub entry_number : List (List ℕ) → Option Constant → ℕ
 entry_number ts o = option_map_or (number_of ts) (utf8_of o) 0
 

@@ -151,8 +151,8 @@ impl<'a> ClassTexts<'a> {
         self.numbers.text(number)
     }
 
-    /// The number of the text of the Utf8 entry that stands at an index of the pool of a file, which is never 0; 0 where
-    /// none stands there.
+    /// The number of the text of the Utf8 entry at an index of the pool of a file, which is never 0; 0 where there is
+    /// none.
     pub fn at(&self, file: u32, index: u16) -> u32
         ensures number { (u : ClassUnit) → slice_get self.now.units file ≡ Some u → result ≡ entry_number self.now.texts (slice_get u.file.pool index) }
         ensures known { (u : ClassUnit) → slice_get self.now.units file ≡ Some u → KnowsEntry self.now.texts (slice_get u.file.pool index) }
@@ -160,8 +160,8 @@ impl<'a> ClassTexts<'a> {
         number_in(&self.pools, file, index)
     }
 
-    /// The number of the text of the Utf8 entry that stands at an index of the pool of a file, and that of the empty text
-    /// where none stands there; 0 where no file has that.
+    /// The number of the text of the Utf8 entry at an index of the pool of a file, and that of the empty text where
+    /// there is no such entry; 0 where no file has the empty text.
     pub fn name_at(&self, file: u32, index: u16) -> u32
         ensures { (u : ClassUnit) → slice_get self.now.units file ≡ Some u → result ≡ number_of self.now.texts (unwrap_or (utf8_of (slice_get u.file.pool index)) []) }
     {

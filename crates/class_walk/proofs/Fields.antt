@@ -10,7 +10,7 @@ use Rattle.class_walk.specs.Place.{Place}
 use Rattle.class_walk.specs.Layout.{IsBytes}
 use Rattle.class_walk.specs.Reading.{◌>>=◌, bytes_at, number_at}
 
--- the front of bytes, and what stands behind it
+-- the front of bytes, and what comes after it
 pub bytes_front : (text rest : List ℕ) → IsBytes (text ++ rest) → IsBytes text
 bytes_front text rest fits i =
     elim (cases_lt i (length text)) [
@@ -21,7 +21,7 @@ bytes_front text rest fits i =
 pub bytes_behind : (text rest : List ℕ) → IsBytes (text ++ rest) → IsBytes rest
 bytes_behind text rest fits i = rw (← get_or-append-add text rest i 0) (fits (length text + i))
 
--- the text stands from the first place to the second
+-- the text reaches from the first place to the second
 pub record Takes (p : Place) (text : List ℕ) (q : Place) : Type 0 where
   pub parts : p.left ≡ text ++ q.left
   pub at : q.at ≡ p.at + length text

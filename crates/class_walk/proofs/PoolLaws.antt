@@ -96,7 +96,7 @@ tag_fits tags.Handle = omega arith
 tag_fits tags.MethodType = omega arith
 tag_fits tags.Dynamic = omega arith
 
--- ---- what stands behind a tag
+-- ---- what comes after a tag
 
 abbrev behind : Constant → List ℕ
 behind c = drop 1 (constant c)

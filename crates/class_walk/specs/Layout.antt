@@ -36,12 +36,12 @@ table item xs = u2 (length xs) ++ flat_map item xs
 abbrev pub IsCounted : {X : Type 0} → (X → Type 0) → List X → Type 0
 IsCounted IsRight xs = (length xs < 2 ^ 16) × AllByRecursion IsRight xs
 
--- items that stand one behind the other, the first at this place, each of them right for its own place
+-- items one after another, the first at this place, each of them right for its own place
 abbrev pub AllPlaced : {X : Type 0} → (X → List ℕ) → (ℕ → X → Type 0) → ℕ → List X → Type 0
 AllPlaced item IsRight at [] = Unit {0}
 AllPlaced item IsRight at (x ∷ xs) = IsRight at x × AllPlaced item IsRight (at + length (item x)) xs
 
--- the same of a table at this place, its items behind the count
+-- the same of a table at this place, whose items come after the count
 abbrev pub IsTable : {X : Type 0} → (X → List ℕ) → (ℕ → X → Type 0) → ℕ → List X → Type 0
 IsTable item IsRight at xs = (length xs < 2 ^ 16) × AllPlaced item IsRight (at + 2) xs
 
@@ -81,7 +81,7 @@ Fits (Handle kind index) = (kind < 2 ^ 8) × (index < 2 ^ 16)
 Fits (MethodType descriptor) = descriptor < 2 ^ 16
 Fits (Dynamic bootstrap name_and_type) = (bootstrap < 2 ^ 16) × (name_and_type < 2 ^ 16)
 
--- no entry stands there
+-- no entry is there
 abbrev pub is_gap : Constant → Bool
 is_gap Gap = true
 is_gap _ = false
@@ -92,7 +92,7 @@ is_wide (Long _) = true
 is_wide (Double _) = true
 is_wide _ = false
 
--- the pool from an index on: a gap stands there exactly if one is due, and later exactly behind each wide entry
+-- the pool from an index on: a gap is there exactly if one is due, and later exactly after each wide entry
 abbrev pub IsGapped : Bool → List Constant → Type 0
 IsGapped due [] = Unit {0}
 IsGapped due (c ∷ cs) = (is_gap c ≡ due) × Fits c × IsGapped (is_wide c) cs
@@ -135,7 +135,7 @@ front c = u4 0xCAFEBABE ++ u2 c.minor ++ u2 c.major ++ pool_table c.pool
 abbrev pub spelling : RawClass → List ℕ
 spelling c = front c ++ table member c.fields ++ table member c.methods ++ table attribute c.attributes
 
--- what a class file holds, each place being how many bytes stand before
+-- what a class file holds, each place being the number of bytes before it
 pub record IsClass (c : RawClass) : Type 0 where
   pub minor : c.minor < 2 ^ 16
   pub oldest : 50 ≤ c.major
@@ -185,6 +185,7 @@ pub record IsCodeContent (content : List ℕ) (c : RawCode) : Type 0 where
   pub spelled : content ≡ code_spelling c
   pub size : length content < 2 ^ 32
 
--- the content ends before its instructions do: so many bytes stand behind its first eight as the last four of these say
+-- the content ends before its instructions do: they begin after its first eight bytes, the last four of which say how
+-- many bytes they have
 abbrev pub IsCut : List ℕ → Type 0
 IsCut content = length content < 8 + big_number 4 (take 4 (drop 4 content))

@@ -21,13 +21,13 @@ use Rattle.class_walk.specs.declared.refusal.ContentRefusal.TheVariants as codes
 use Rattle.class_walk.specs.Place.{Place}
 use Rattle.class_walk.specs.Layout.{is_wide}
 
--- one step, and behind it one that takes what it gave; the first failure is the failure of both
+-- one step, followed by one that takes what it gave; the first failure is the failure of both
 infixl 10 ◌>>=◌
 abbrev pub ◌>>=◌ : {E A B : Type 0} → Result A E → (A → Result B E) → Result B E
 (Ok x) >>= f = f x
 (Err e) >>= f = Err e
 
--- What reading gives is refused so; want of memory may come anywhere.
+-- Reading fails as the refusal says; memory may run out anywhere.
 abbrev pub Fails : {Y : Type 0} → WalkRefusal → Result Y WalkFault → Type 0
 Fails refusals.NoMemory read = Unit {0}
 Fails (refusals.Fault f) read = read ≡ Err f
@@ -37,7 +37,7 @@ abbrev pub Gives : {X : Type 0} → Result X WalkRefusal → Result X WalkFault 
 Gives (Ok x) read = read ≡ Ok x
 Gives (Err e) read = Fails e read
 
--- The same of a function that leaves the place behind what it read.
+-- The same of a function that leaves the place after what it read.
 abbrev pub GivesAndLeaves : {X : Type 0} → Result X WalkRefusal → Place → Result (X × Place) WalkFault → Type 0
 GivesAndLeaves (Ok x) after read = read ≡ Ok (x, after)
 GivesAndLeaves (Err e) after read = Fails e read
@@ -56,17 +56,18 @@ abbrev pub PassesTo : {X : Type 0} → Result X WalkRefusal → Place → Result
 PassesTo (Ok _) after read = read ≡ Ok after
 PassesTo (Err e) after read = FailsExactly e read
 
--- so many bytes from a place on; where they go past the end, the length of the file is what stands before the place and behind it
+-- n bytes from a place on; where they go past the end, the fault has the length of the file: the bytes before the place
+-- and those after it
 abbrev pub bytes_at : ℕ → Place → Result (List ℕ × Place) WalkFault
 bytes_at n p = if nat_lt (length p.left) n then Err (Truncated (p.at + length p.left)) else Ok (take n p.left, record { at = p.at + n; left = drop n p.left })
 
--- a number of so many bytes
+-- a number of n bytes
 abbrev pub number_at : ℕ → Place → Result (ℕ × Place) WalkFault
 number_at n p = do
   bytes ← bytes_at n p
   Ok (big_number n bytes.0, bytes.1)
 
--- so many items, one after the other
+-- n items, one after another
 unfoldable pub items_at : {E S X : Type 0} → (S → Result (X × S) E) → ℕ → S → Result (List X × S) E
 items_at item zero s = Ok ([], s)
 items_at item (suc n) s = do
@@ -74,7 +75,7 @@ items_at item (suc n) s = do
   others ← items_at item n first.1
   Ok (first.0 ∷ others.0, others.1)
 
--- a count of two bytes, and so many items
+-- a count of two bytes, and that many items
 unfoldable pub table_at : {X : Type 0} → (Place → Result (X × Place) WalkFault) → Place → Result (List X × Place) WalkFault
 table_at item p = do
   count ← number_at 2 p
@@ -117,7 +118,7 @@ utf8_at p = do
   bytes ← bytes_at n.0 n.1
   Ok (Utf8 bytes.0, bytes.1)
 
--- what stands behind a tag (JVMS 4.4.1 to 4.4.10)
+-- what comes after a tag (JVMS 4.4.1 to 4.4.10)
 unfoldable pub content_at : Tag → Place → Result (Constant × Place) WalkFault
 content_at tags.Utf8 p = utf8_at p
 content_at tags.Integer p = one_at 4 (λ n. Integer (cast_signed w32 n)) p
@@ -150,7 +151,7 @@ entry_at index p = do
   tag ← tag_at index p
   content_at tag.0 tag.1
 
--- where the reading of the pool stands: whether the index is a gap, the index, and the place
+-- how far the pool has been read: whether the index is a gap, the index, and the place
 pub record PoolPlace : Type 0 where
   pub due : Bool
   pub index : ℕ
@@ -166,7 +167,7 @@ next_slot s = do
   slot ← slot_at s.due s.index s.place
   Ok (slot.0, record { due = is_wide slot.0; index = s.index + 1; place = slot.1 })
 
--- so many indices from 0, which is a gap
+-- what is at the first count indices, from 0, which is a gap
 unfoldable pub slots_at : ℕ → Place → Result (List Constant × Place) WalkFault
 slots_at count p = do
   slots ← items_at next_slot count (record { due = true; index = 0; place = p })
@@ -199,7 +200,7 @@ member_at p = do
   attributes ← table_at attribute_at descriptor.1
   Ok (record { at = p.at; flags = flags.0; name = name.0; descriptor = descriptor.0; attributes = attributes.0 }, attributes.1)
 
--- the place behind the magic number
+-- the place after the magic number
 unfoldable pub magic_at : Place → Result Place WalkFault
 magic_at p = do
   magic ← number_at 4 p
@@ -218,7 +219,7 @@ head_at p = do
   start ← magic_at p
   versions_at start
 
--- what stands behind the versions
+-- what comes after the versions
 unfoldable pub rest_at : ℕ × ℕ → Place → Result (RawClass × Place) WalkFault
 rest_at versions p = do
   pool ← pool_at p
@@ -289,7 +290,7 @@ code_head_at p = do
   bytes ← bytes_at size.0 size.1
   Ok ((max_stack.0, max_locals.0, bytes.0), bytes.1)
 
--- what stands behind them
+-- what comes after them
 unfoldable pub code_rest_at : ℕ × ℕ × List ℕ → Place → Result (RawCode × Place) WalkFault
 code_rest_at head p = do
   handlers ← table_at handler_at p

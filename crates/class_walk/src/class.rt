@@ -5,7 +5,7 @@ use rows::{Bytes, Rows};
 /// An entry of the constant pool (JVMS 4.4).
 #[derive(Drop)]
 pub enum Constant {
-    /// No entry: index 0, and the index behind a `Long` or a `Double`.
+    /// No entry: index 0, and the index after a `Long` or a `Double`.
     Gap,
     /// A text in modified UTF-8, as its bytes.
     Utf8(Bytes),
@@ -50,7 +50,7 @@ impl Constant {
 /// An attribute (JVMS 4.7).
 #[derive(Drop)]
 pub struct RawAttribute {
-    /// The place of the attribute: how many bytes stand before its name's first.
+    /// The place of the attribute: how many bytes come before the first byte of its name.
     pub at: u32,
     pub name: u16,
     pub content: Bytes,
@@ -59,7 +59,7 @@ pub struct RawAttribute {
 /// A field or a method (JVMS 4.5, 4.6).
 #[derive(Drop)]
 pub struct RawMember {
-    /// The place of the member in the file: how many bytes stand before its flags.
+    /// The place of the member in the file: how many bytes come before its flags.
     pub at: u32,
     pub flags: u16,
     pub name: u16,
@@ -72,8 +72,8 @@ pub struct RawMember {
 pub struct RawClass {
     pub minor: u16,
     pub major: u16,
-    /// The constant pool by the file's own indices: `Gap` stands at 0 and behind each `Long` and `Double`,
-    /// but for one at the last index.
+    /// The constant pool by the file's own indices: `Gap` is at 0 and after each `Long` and `Double`, except after one
+    /// at the last index.
     pub pool: Rows<Constant>,
     pub flags: u16,
     pub this_class: u16,

@@ -64,7 +64,7 @@ fn head<'a>(cursor: &mut Cursor<'a>) -> Result<(u16, u16, &'a [u8]), WalkRefusal
     Ok((max_stack, max_locals, bytes))
 }
 
-/// What stands behind the head.
+/// What comes after the head.
 #[tactic(auto, unfolding(crate::specs::Reading::code_rest_at))]
 fn rest(
     alloc: Global,
@@ -124,11 +124,10 @@ fn whole_or_malformed(alloc: Global, content: &[u8]) -> Result<RawCode, ContentR
     }
 }
 
-/// Takes the content of a Code attribute apart. The places of its attributes are counted from the content's
-/// first byte.
+/// Takes the content of a Code attribute apart. The places of its attributes are counted from the content's first byte.
 ///
-/// `Malformed` comes exactly where the bytes are no such content from their first to their last. `NoMemory`
-/// may come anywhere behind the instructions.
+/// `Malformed` comes exactly where the bytes, from the first to the last, are not such a content. `NoMemory` may come
+/// anywhere after the instructions.
 pub fn code_content(alloc: Global, content: &[u8]) -> Result<RawCode, ContentRefusal>
     // What is read is spelled so, each byte of it.
     ensures found { IfOk result (λ c. IsCodeContent content.now c) }

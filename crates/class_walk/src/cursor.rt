@@ -9,7 +9,7 @@ use rows::Bytes;
 use std::alloc::Global;
 use std::marker::Model;
 
-/// What is left of the bytes, and how many stand before it.
+/// What is left of the bytes, and how many come before it.
 #[derive(Drop)]
 pub struct Cursor<'a> {
     at: u32,
@@ -36,7 +36,7 @@ impl<'a> Cursor<'a> {
         Cursor { at: 0, left: bytes }
     }
 
-    /// How many bytes stand before the cursor.
+    /// How many bytes come before the cursor.
     pub fn place(&self) -> u32
         ensures { result ≡ self.now.at }
     {

@@ -34,7 +34,7 @@ fn counted_attributes(
     Ok(attributes)
 }
 
-/// A count, and so many attributes.
+/// A count, and that many attributes.
 #[tactic(auto, unfolding(crate::specs::Reading::table_at))]
 pub fn attributes(alloc: Global, cursor: &mut Cursor<'_>) -> Result<Rows<RawAttribute>, WalkRefusal>
     ensures { GivesAndLeaves result cursor.new (table_at attribute_at cursor.old) }
@@ -76,7 +76,7 @@ fn counted_members(
     Ok(members)
 }
 
-/// A count, and so many fields or methods.
+/// A count, and that many fields or methods.
 #[tactic(auto, unfolding(crate::specs::Reading::table_at))]
 pub fn members(alloc: Global, cursor: &mut Cursor<'_>) -> Result<Rows<RawMember>, WalkRefusal>
     ensures { GivesAndLeaves result cursor.new (table_at member_at cursor.old) }
@@ -100,7 +100,7 @@ fn counted_indices(
     Ok(indices)
 }
 
-/// A count, and so many indices.
+/// A count, and that many indices.
 #[tactic(auto, unfolding(crate::specs::Reading::table_at))]
 pub fn interfaces(alloc: Global, cursor: &mut Cursor<'_>) -> Result<Rows<u16>, WalkRefusal>
     ensures { GivesAndLeaves result cursor.new (table_at (number_at 2) cursor.old) }

@@ -52,7 +52,7 @@ fn tag_from(number: u8) -> Option<Tag>
     }
 }
 
-/// What stands behind a tag.
+/// What comes after a tag.
 #[tactic(auto, unfolding(crate::specs::Reading::content_at))]
 fn content(alloc: Global, tag: Tag, cursor: &mut Cursor<'_>) -> Result<Constant, WalkRefusal>
     ensures { GivesAndLeaves result cursor.new (content_at tag cursor.old) }

@@ -18,7 +18,7 @@ pub enum WalkFault {
     Version,
     /// The pool entry of this index has a tag that JVMS 4.4 doesn't have. A pool count of 0 is at 0.
     PoolTag(u16),
-    /// The class ends at this place, and bytes stand behind it.
+    /// The class ends at this place, and more bytes come after it.
     Trailing(u32),
 }
 
@@ -52,6 +52,6 @@ impl<T: Drop> From<AllocFailed<T>> for WalkRefusal {
 pub enum ContentRefusal {
     /// There was no memory.
     NoMemory,
-    /// The bytes are no such content, or bytes stand behind it.
+    /// The bytes are not such a content, or more bytes come after it.
     Malformed,
 }

@@ -51,7 +51,7 @@ fn head(cursor: &mut Cursor<'_>) -> Result<(u16, u16), WalkRefusal>
     versions(cursor)
 }
 
-/// What stands behind the minor and the major version.
+/// What comes after the minor and the major version.
 #[tactic(auto, unfolding(crate::specs::Reading::rest_at))]
 fn rest(
     alloc: Global,
@@ -101,7 +101,7 @@ fn whole(alloc: Global, bytes: &[u8]) -> Result<RawClass, WalkRefusal>
 /// Takes a class file apart by its counts and lengths alone.
 ///
 /// The fault is the first one from the front: each is met as soon as the bytes that show it are there.
-/// `NoMemory` may come anywhere behind the versions.
+/// `NoMemory` may come anywhere after the versions.
 pub fn walk(alloc: Global, bytes: &[u8]) -> Result<RawClass, WalkRefusal>
     // What is read is spelled so, each byte of it.
     ensures found { IfOk result (λ c. IsClassFile bytes.now c) }

@@ -1,4 +1,4 @@
--- Parts at their places are spelled as they were, and stand where they say.
+-- Parts at their places are spelled as they were, and are where they say.
 use Rattle.std.proofs.Common.{◌≡◌, ◌+◌, ◌<◌, ◌≤◌, ◌^◌, ℕ, suc, List, [], ◌∷◌, ◌++◌, length, refl, sym, ap, subst, ◌∙◌}
 use Rattle.std.specs.List.{flat_map, AllByRecursion}
 use Rattle.class_walk.specs.declared.class.Constant.{Constant}

@@ -1,4 +1,4 @@
--- Classes with the places at which their parts stand when they are written (JVMS SE 8, chapter 4).
+-- Classes with the places that their parts have when they are written (JVMS SE 8, chapter 4).
 use Rattle.std.specs.Prelude.{ℕ, ◌+◌, ◌<◌, ◌≤◌, ◌^◌, List, [], ◌∷◌, ◌++◌, length}
 use Rattle.class_walk.specs.declared.class.RawAttribute.{RawAttribute}
 use Rattle.class_walk.specs.declared.class.RawMember.{RawMember}
@@ -6,12 +6,12 @@ use Rattle.class_walk.specs.declared.class.RawClass.{RawClass}
 use Rattle.class_walk.specs.declared.class.RawCode.{RawCode}
 use Rattle.class_walk.specs.Layout.{attribute, member, table, front, code_front, IsCounted, IsPool, IsRawHandler}
 
--- attributes one behind the other, the first at this place
+-- attributes one after another, the first at this place
 abbrev pub placed_attributes : ℕ → List RawAttribute → List RawAttribute
 placed_attributes at [] = []
 placed_attributes at (a ∷ others) = record a { at = at } ∷ placed_attributes (at + length (attribute a)) others
 
--- a field or a method at this place; its attributes begin behind its flags, name, descriptor and their count
+-- a field or a method at this place; its attributes begin after its flags, name, descriptor and their count
 abbrev pub placed_member : ℕ → RawMember → RawMember
 placed_member at m = record m { at = at; attributes = placed_attributes (at + 6 + 2) m.attributes }
 

@@ -30,7 +30,7 @@ fn put_indices(out: &mut Vec<u8>, indices: &[u16]) -> Result<(), AllocError>
     put_each_index(out, indices)
 }
 
-/// Puts what stands before the fields at the end.
+/// Appends what comes before the fields.
 fn put_front(out: &mut Vec<u8>, class: &RawClass) -> Result<(), AllocError>
     requires { IsWritable class.now }
     ensures { OnOk result (out.new.items ≡ out.old.items ++ front class.now) }

@@ -16,7 +16,7 @@ use Rattle.code_decode.specs.Answer.{IsOnly, IsRefusal}
 use Rattle.code_decode.specs.Handlers.{AreHandlers, HandlersRefuse}
 use Rattle.code_decode.specs.Code.{IsCode, StepsRefuse, FramesRefuse, TablesRefuse, CodeRefuses}
 
--- a refusal for want of memory stays one, and another one is taken over
+-- a refusal because memory ran out stays one, and any other is carried over
 pub refused_by : {X Y : Type 0} (Is : X → Type 0) (Of : Y → Type 0) (P Q : CodeRefusal → Type 0) (e : CodeRefusal) → (IsRefusal Is P e → IsRefusal Of Q e) → (e ≡ NoMemory) ⊎ IsRefusal Is P e → (e ≡ NoMemory) ⊎ IsRefusal Of Q e
 refused_by Is Of P Q e over refused =
     elim refused [ inl no_memory ↦ inl no_memory | inr right ↦ inr (over right) ]

@@ -60,7 +60,7 @@ content_bytes r k x at h =
     let one : IsBytes (attribute x) = bytes_in attribute r.attributes k x at (bytes_behind (u2 (length r.attributes)) (flat_map attribute r.attributes) all) in
     bytes_behind (u2 x.name ++ u4 (length x.content)) x.content one
 
--- what is found stands somewhere
+-- what is found is somewhere in the list
 found_at : {X : Type 0} (p : X → Bool) (xs : List X) (x : X) → find p xs ≡ Some x → (k : ℕ) × (slice_get xs k ≡ Some x)
 found_at p [] x e = absurd cc
 found_at p (y ∷ ys) x e =

@@ -67,7 +67,7 @@ same_items (x ∷ xs) (y ∷ ys) size same =
     let tail : xs ≡ ys = same_items xs ys (omega arith) (λ k. same (suc k)) in
     cc
 
--- what stands at an index below the length
+-- what is at an index below the length
 pub item_at : {X : Type 0} (xs : List X) (k : ℕ) → k < length xs → (x : X) × (slice_get xs k ≡ Some x)
 item_at [] k within = absurd (omega arith)
 item_at (x ∷ xs) zero within = (x, refl)

@@ -15,7 +15,7 @@ use Rattle.code_decode.specs.declared.refusal.CodeRefusal.{CodeRefusal}
 use Rattle.code_decode.specs.declared.refusal.CodeRefusal.TheVariants as refusals
 use Rattle.code_decode.specs.Handlers.{AreHandlers, HandlersRefuse}
 
--- the code of an attribute, in a method that begins with so many values
+-- the code of an attribute, in a method that begins with `entry` values
 pub record IsCode (pool : List Constant) (entry : ℕ) (a : CodeAttribute) (c : Code) : Type 0 where
   pub max_stack : c.max_stack ≡ a.max_stack
   pub max_locals : c.max_locals ≡ a.max_locals

@@ -11,7 +11,7 @@ use Rattle.class_read.specs.MemberRules.{IsTextAt, IsTypeOfMethod, receiver_word
 abbrev pub HasMethodType : List Constant → Member → Type 0
 HasMethodType pool m = IsTextAt (IsTypeOfMethod m.flags) pool m.descriptor
 
--- so many values: the receiver, where there is one, and the parameters
+-- the number of values at the entry: the receiver, where there is one, and the parameters
 abbrev pub IsEntryCount : List Constant → Member → ℕ → Type 0
 IsEntryCount pool m count =
     (text : List ℕ) × (parameters : List Kind) × (returned : Option Kind)

@@ -18,7 +18,7 @@ IsCaught pool kind = (kind ≡ 0) ⊎ IsClassEntry pool kind
 abbrev pub end_at : List (Instr Target) → ℕ → ℕ → Option ℕ
 end_at steps size offset = if offset == size then Some (length steps) else number_at steps offset
 
--- an entry of the table of a code of so many bytes, and the handler that it stands for
+-- an entry of the exception table of a code of size bytes, and the handler that it stands for
 pub record IsHandler (pool : List Constant) (steps : List (Instr Target)) (size : ℕ) (raw : RawHandler) (h : Handler) : Type 0 where
   pub places : (h.from ≡ raw.from) × (h.to ≡ raw.to) × (h.at ≡ raw.at) × (h.kind ≡ raw.kind)
   pub first : number_at steps raw.from ≡ Some h.first
@@ -27,7 +27,7 @@ pub record IsHandler (pool : List Constant) (steps : List (Instr Target)) (size 
   pub covers : raw.from < raw.to
   pub caught : IsCaught pool raw.kind
 
--- the handlers for which the table stands, entry by entry
+-- the handlers that the table stands for, entry by entry
 pub record AreHandlers (pool : List Constant) (steps : List (Instr Target)) (size : ℕ) (table : List RawHandler) (handlers : List Handler) : Type 0 where
   pub count : length handlers ≡ length table
   pub each : (k : ℕ) (raw : RawHandler) (h : Handler) → slice_get table k ≡ Some raw → slice_get handlers k ≡ Some h → IsHandler pool steps size raw h

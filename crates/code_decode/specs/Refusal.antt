@@ -1,9 +1,9 @@
--- What a refusal of code is told by.
+-- The number that identifies a refusal of code.
 use Rattle.std.specs.Prelude.{ℕ}
 use Rattle.code_decode.specs.declared.refusal.CodeRefusal.{CodeRefusal}
 use Rattle.code_decode.specs.declared.refusal.CodeRefusal.TheVariants.{Opcode, Unsupported, Cut, Target, Handler, Frame, Length, Switch, Operand, NoMemory}
 
--- the number by which a refusal is told, from 1 in this order
+-- the number that identifies a refusal, from 1 in this order
 abbrev pub number_of : CodeRefusal → ℕ
 number_of (Opcode _) = 1
 number_of (Unsupported _) = 2

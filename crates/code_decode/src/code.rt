@@ -12,7 +12,7 @@ use rows::Rows;
 pub struct Handler {
     /// The first offset that is covered.
     pub from: u32,
-    /// The first offset behind those that are covered.
+    /// The first offset after those that are covered.
     pub to: u32,
     /// The offset at which the handler begins.
     pub at: u32,

@@ -31,7 +31,7 @@ fn end_at(steps: &Steps, size: u32, offset: u32) -> Option<u32>
     }
 }
 
-/// The handler that an entry of the exception table stands for, if it does.
+/// The handler that an entry of the exception table stands for, if there is one.
 fn handler(pool: &[Constant], steps: &Steps, size: u32, raw: RawHandler) -> Option<Handler>
     requires { length steps.now < 2 ^ 32 }
     ensures { MatchOption result ((h : Handler) → ¬ IsHandler pool.now steps.now size raw h) (λ h. IsHandler pool.now steps.now size raw h) }
@@ -54,7 +54,7 @@ fn handler(pool: &[Constant], steps: &Steps, size: u32, raw: RawHandler) -> Opti
     })
 }
 
-/// The handlers of an exception table, of a code of so many bytes.
+/// The handlers of an exception table, of a code of `size` bytes.
 pub fn handlers(
     alloc: Global,
     pool: &[Constant],

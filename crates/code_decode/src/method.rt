@@ -17,7 +17,7 @@ use crate::refusal::CodeRefusal;
 use class_read::{ClassFile, CodeAttribute, Member, Pool};
 use std::alloc::Global;
 
-/// The code that an attribute stands for, in a method that begins with so many values.
+/// The code that an attribute stands for, in a method that begins with `entry` values.
 fn code(
     alloc: Global,
     pool: &Pool<'_>,

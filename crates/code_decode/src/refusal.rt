@@ -10,7 +10,7 @@ use thiserror::Error;
 /// Why the code of a method was refused. The number is an offset in the code, but in `Handler` and `Frame`.
 #[derive(Clone, Copy, Debug, Error)]
 pub enum CodeRefusal {
-    /// At this offset stands a number above 201, which no instruction has (JVMS 6.2).
+    /// At this offset there is a number above 201, which no instruction has (JVMS 6.2).
     #[error("Opcode {0}")]
     Opcode(u32),
     /// The instruction at this offset isn't executed: float and double, jsr and ret, invokedynamic,
@@ -26,8 +26,8 @@ pub enum CodeRefusal {
     /// The handler of this number, from 0, is malformed (JVMS 4.7.3).
     #[error("Handler {0}")]
     Handler(u16),
-    /// The stack map frame of this number, from 0, is malformed (JVMS 4.7.4). Where bytes stand behind the last
-    /// frame, it is the count of frames.
+    /// The stack map frame of this number, from 0, is malformed (JVMS 4.7.4). Where bytes come after the last frame,
+    /// the number is the count of frames.
     #[error("Frame {0}")]
     Frame(u16),
     /// The code has no bytes, or more than 65,535 (JVMS 4.7.3).
@@ -45,7 +45,7 @@ pub enum CodeRefusal {
 }
 
 impl CodeRefusal {
-    /// The number by which the refusal is told, from 1 in the order of the variants.
+    /// The number that identifies the refusal, from 1 in the order of the variants.
     pub fn number(self) -> u8
         ensures { result ≡ number_of self }
     {

@@ -1,6 +1,6 @@
 //! What holds of the numbers in class files and in decoded code, and which methods have code. Laws alone.
 //!
-//! They stand beside the laws of `code_laws`.
+//! They go with the laws of `code_laws`.
 #![tactic(auto)]
 
 mod laws;

@@ -1,4 +1,4 @@
--- Numbers of a fixed width: what is read is what stands there, and what stands there is read.
+-- Numbers of a fixed width: what is read is what is there, and what is there is read.
 use Rattle.std.proofs.Common.{◌≡◌, ℕ, ◌^◌, ◌<◌, ◌≤◌, Bool, true, false, cond, ltb, List, [], ◌++◌, length, take, drop, Some, None, Option, refl, sym, ap, subst, ◌∙◌, append_assoc, arith}
 use Rattle.std.proofs.lemmas.Bool.{ltb-false, le-ltb}
 use Rattle.std.proofs.lemmas.List.{append-nil, take_at, drop_at, take-append-drop, length-append, length-take}
@@ -8,7 +8,7 @@ use Rattle.class_walk.specs.Layout.{IsBytes}
 use Rattle.class_walk.proofs.Fields.{bytes_front, bytes_behind, IsWide}
 use Rattle.code_frames.specs.Reading.{◌>>=◌, unsigned_at}
 
--- the text stands in front, and the others are bytes
+-- the text is at the front, and the others are bytes
 pub record Takes (bytes text others : List ℕ) : Type 0 where
   pub parts : bytes ≡ text ++ others
   pub fits : IsBytes others

@@ -93,14 +93,14 @@ delta_long kind bytes le = rw (le-ltb kind 64 (omega arith), le-ltb kind 128 le)
 
 -- ---- what is read
 
--- the locals and the stack of a frame, and the bytes behind it
+-- the locals and the stack of a frame, and the bytes after it
 abbrev Content : Type 0
 Content = (LocalsChange × List VType) × List ℕ
 
 abbrev content : LocalsChange → List VType → List ℕ → Content
 content change stack others = ((change, stack), others)
 
--- a frame that stands so far behind the one before
+-- a frame with this distance from the one before
 record IsRead (pool : List Constant) (steps : List (Instr Target)) (locals delta : ℕ) (bytes : List ℕ) (c : Content) : Type 0 where
   pub text : List ℕ
   pub width : delta < 2 ^ 16
@@ -190,7 +190,7 @@ content_takes pool steps locals kind forms.Full bytes front delta rest c is smal
       stack = j.1;
     })))
 
--- a frame at the front, and bytes behind it
+-- a frame at the front, and bytes after it
 pub record IsFrontFrame (pool : List Constant) (steps : List (Instr Target)) (previous : Previous) (bytes : List ℕ) (f : MapFrame) (others : List ℕ) : Type 0 where
   pub begins : BeginsWith pool steps previous bytes f others
   pub fits : IsBytes others
@@ -235,7 +235,7 @@ short_again : (pool : List Constant) (steps : List (Instr Target)) (locals delta
 short_again pool steps locals delta kind form bytes rest change stack others small parts form_is delta_is content_is =
     record { kind = kind; form = form; behind_kind = rest; behind_delta = rest; kind_is = unsigned_again 1 bytes kind rest small parts; form_is = form_is; delta_is = delta_is; content_is = content_is }
 
--- a kind that has it behind itself
+-- a kind that has the distance after it
 long_again : (pool : List Constant) (steps : List (Instr Target)) (locals delta kind : ℕ) (form : FrameForm) (bytes rest : List ℕ) (change : LocalsChange) (stack : List VType) (others : List ℕ)
     → 128 ≤ kind → kind < 256 → delta < 2 ^ 16 → bytes ≡ (u1 kind ++ u2 delta) ++ rest → form_of kind ≡ Some form → content_at pool steps locals form rest ≡ Some (content change stack others)
     → IsReadAgain pool steps locals delta bytes change stack others
@@ -305,7 +305,7 @@ frame_again pool steps previous bytes f others b =
     shown : ℕ → MapFrame
     shown at = record { at = at; step = f.step; locals = f.locals; stack = f.stack }
 
--- ---- frames behind each other
+-- ---- frames one after another
 
 -- a frame that is read once more is the same
 pub frame_once : (pool : List Constant) (steps : List (Instr Target)) (previous : Previous) (bytes : List ℕ) (f g : MapFrame) (a b : List ℕ)

@@ -1,4 +1,4 @@
--- Frames of a table stand at later and later offsets, and no two of them at one instruction.
+-- The frames of a table are at ever later offsets, and no two of them are at the same instruction.
 use Rattle.std.proofs.Common.{◌≡◌, ℕ, zero, suc, ◌+◌, ◌<◌, List, [], ◌∷◌, length, Some, refl, ap, subst, ◌∙◌, arith, inl, inr, add-one}
 use Rattle.std.specs.Prelude.{map, slice_get, slice_index}
 use Rattle.class_walk.specs.declared.class.Constant.{Constant}
@@ -25,7 +25,7 @@ map_rises pool steps locals maps frames is k within =
       | inr s ↦ rw add-one (rises pool steps frames (entry locals) s.0 [] s.2 k (omega arith))
     ]
 
--- a frame behind another one has a later offset
+-- a frame after another one has a later offset
 stands_later : (pool : List Constant) (steps : List (Instr Target)) (fs : List MapFrame) (previous : Previous) (bytes others : List ℕ) → BeginsWithAll pool steps previous bytes fs others
     → (i : ℕ) (f : MapFrame) → slice_get fs i ≡ Some f → previous.least < f.at + 1
 stands_later pool steps [] previous bytes others all i f e = absurd cc

@@ -1,4 +1,4 @@
--- Frames one behind the other: there is one answer for any bytes.
+-- Frames one after another: there is one answer for any bytes.
 use Rattle.std.proofs.Common.{◌≡◌, ◌≢◌, ℕ, ◌+◌, ◌*◌, ◌^◌, ◌<◌, ◌≤◌, nat_eq, List, [], ◌∷◌, ◌++◌, length, Some, Result, Ok, Err, refl, sym, ap, subst, ◌∙◌, arith, inl, inr}
 use Rattle.std.specs.List.{AllByRecursion, position_from}
 use Rattle.std.proofs.lemmas.Bool.{eqb-true, cases_lt}
@@ -81,7 +81,7 @@ all_once pool steps (f ∷ fs) (g ∷ gs) previous bytes a b x y same =
     let more = all_once pool steps fs gs (next previous f) x.0 a b x.2 moved (omega arith) in
     (ap (λ (h : MapFrame). h ∷ fs) first.0 ∙ ap (λ (hs : List MapFrame). g ∷ hs) more.0, more.1)
 
--- where more frames stand there, one comes behind the fewer
+-- where the bytes begin with more frames, a frame comes after the fewer
 record ComesNext (pool : List Constant) (steps : List (Instr Target)) (previous : Previous) (bytes : List ℕ) : Type 0 where
   pub frame : MapFrame
   pub others : List ℕ
@@ -123,7 +123,7 @@ map_once pool steps locals maps fs gs x y =
           ]
     ]
 
--- a frame comes behind the frames, or more bytes than they have, or neither
+-- where the frames take all bytes, none of them is bad and no bytes are left
 whole_or_bad : (pool : List Constant) (steps : List (Instr Target)) (locals count : ℕ) (bytes : List ℕ) (fs : List MapFrame) (number : ℕ)
     → length fs ≡ count → BeginsWithAll pool steps (entry locals) bytes fs [] → IsBadBehind pool steps locals count bytes number → ⊥
 whole_or_bad pool steps locals count bytes fs number size all bad =
@@ -204,7 +204,7 @@ answer_bad pool steps locals maps (Err refusals.NoMemory) number given is = inr 
 
 -- ---- as a loop reads
 
--- so many frames were read, and the next one goes by what these say
+-- `number` frames were read, and the next one goes by what these say
 pub record SoFar (pool : List Constant) (steps : List (Instr Target)) (locals : ℕ) (bytes : List ℕ) (frames : List MapFrame) (left : List ℕ) (number : ℕ) (previous : Previous) : Type 0 where
   pub begins : BeginsWithAll pool steps (entry locals) bytes frames left
   pub fits : IsBytes left

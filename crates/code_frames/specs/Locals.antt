@@ -19,11 +19,11 @@ changed locals (Append added) = locals ++ added
 changed locals (Chop removed) = take (length locals - removed) locals
 changed locals (Full all) = all
 
--- the locals of the last of the frames, where these stand before the first one
+-- the locals after the last of the frames, where these locals come before the first one
 abbrev pub locals_after : List VType → List MapFrame → List VType
 locals_after locals frames = fold (λ locals f. changed locals f.locals) locals frames
 
--- how many locals there are after a change of so many
+-- how many locals there are after a change, where there were `count` before
 abbrev pub count_after : ℕ → LocalsChange → ℕ
 count_after count Same = count
 count_after count (Append added) = count + length added

@@ -28,7 +28,7 @@ abbrev pub ◌>>=◌ : {A B : Type 0} → Option A → (A → Option B) → Opti
 (Some x) >>= f = f x
 None >>= f = None
 
--- Reading fails so; want of memory may come anywhere.
+-- Reading fails with this fault; memory may run out anywhere.
 abbrev pub Fails : {Y : Type 0} → Fault → Option Y → Type 0
 Fails faults.Malformed read = read ≡ None
 Fails faults.NoMemory read = Unit {0}
@@ -51,7 +51,7 @@ abbrev pub refusal_of : Fault → ℕ → FrameRefusal
 refusal_of faults.Malformed number = refusals.Frame number
 refusal_of faults.NoMemory number = refusals.NoMemory
 
--- a number of so many bytes, and the bytes behind it
+-- a number of n bytes, and the bytes after it
 abbrev pub unsigned_at : ℕ → List ℕ → Option (ℕ × List ℕ)
 unsigned_at n bytes = if nat_lt (length bytes) n then None else Some (big_number n (take n bytes), drop n bytes)
 
@@ -101,7 +101,7 @@ items_at pool steps (suc n) bytes = do
   others ← items_at pool steps n first.1
   Some (first.0 ∷ others.0, others.1)
 
--- a count of two bytes, and so many items
+-- a count of two bytes, and that many items
 unfoldable pub items_table_at : List Constant → List (Instr Target) → List ℕ → Option (List VType × List ℕ)
 items_table_at pool steps bytes = do
   count ← unsigned_at 2 bytes
@@ -122,7 +122,7 @@ form_of kind =
 unfoldable pub delta_at : ℕ → List ℕ → Option (ℕ × List ℕ)
 delta_at kind bytes = if nat_lt kind 64 then Some (kind, bytes) else if nat_lt kind 128 then Some (kind - 64, bytes) else unsigned_at 2 bytes
 
--- the locals and the stack of a form, where so many locals stand before them
+-- the locals and the stack of a form, where there are `locals` locals before it
 unfoldable pub content_at : List Constant → List (Instr Target) → ℕ → FrameForm → List ℕ → Option ((LocalsChange × List VType) × List ℕ)
 content_at pool steps locals forms.Same bytes = Some ((Same, []), bytes)
 content_at pool steps locals forms.OneItem bytes = do
@@ -149,8 +149,7 @@ frame_at pool steps previous bytes = do
   content ← content_at pool steps previous.locals form delta.1
   Some (record { at = previous.least + delta.0; step = step; locals = content.0.0; stack = content.0.1 }, content.1)
 
--- What a function returned, and the bytes that it left, are so many frames from the front, or the refusal of the
--- first one that is wrong.
+-- A function read `count` frames from the front and left these bytes, or it refused the first frame that is wrong.
 abbrev pub GivesFrames : List Constant → List (Instr Target) → ℕ → ℕ → List ℕ → Result (List MapFrame) FrameRefusal → List ℕ → Type 0
 GivesFrames pool steps locals count bytes (Ok frames) left = (length frames ≡ count) × BeginsWithAll pool steps (entry locals) bytes frames left
 GivesFrames pool steps locals count bytes (Err (refusals.Frame number)) left = IsBadBehind pool steps locals count bytes number

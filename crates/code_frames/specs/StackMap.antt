@@ -53,31 +53,31 @@ IsFrameText delta (Append added) [] text =
 IsFrameText delta (Full locals) stack text = text ≡ u1 255 ++ u2 delta ++ table item locals ++ table item stack
 IsFrameText delta _ _ text = ⊥
 
--- a change of so many locals
+-- a change of `count` locals
 abbrev pub IsChange : List Constant → List (Instr Target) → ℕ → LocalsChange → Type 0
 IsChange pool steps count Same = Unit {0}
 IsChange pool steps count (Append added) = AllByRecursion (IsItem pool steps) added
 IsChange pool steps count (Chop removed) = removed ≤ count
 IsChange pool steps count (Full locals) = IsCounted (IsItem pool steps) locals
 
--- what a frame goes by: the least offset that it may have, and how many locals stand before it
+-- what a frame goes by: the least offset that it may have, and how many locals there are before it
 pub record Previous : Type 0 where
   pub least : ℕ
   pub locals : ℕ
 
--- before the first frame of a method with so many locals at its entry
+-- before the first frame of a method with `locals` locals at its entry
 abbrev pub entry : ℕ → Previous
 entry locals = record { least = 0; locals = locals }
 
 abbrev pub next : Previous → MapFrame → Previous
 next previous f = record { least = f.at + 1; locals = count_after previous.locals f.locals }
 
--- behind frames
+-- after frames
 abbrev pub behind : Previous → List MapFrame → Previous
 behind previous frames = fold next previous frames
 
--- The bytes begin with this frame, and the others stand behind it. The offset of the first frame is its
--- offset_delta, and that of each other one the offset before, and offset_delta and 1 more.
+-- The bytes begin with this frame, and the others come after it. The offset of the first frame is its offset_delta, and
+-- that of each other frame is the offset of the one before it, plus offset_delta, plus 1.
 pub record BeginsWith (pool : List Constant) (steps : List (Instr Target)) (previous : Previous) (bytes : List ℕ) (f : MapFrame) (others : List ℕ) : Type 0 where
   pub delta : ℕ
   pub text : List ℕ
@@ -89,18 +89,18 @@ pub record BeginsWith (pool : List Constant) (steps : List (Instr Target)) (prev
   pub spelled : IsFrameText delta f.locals f.stack text
   pub parts : bytes ≡ text ++ others
 
--- the bytes begin with these frames, one behind the other, and the others stand behind them
+-- the bytes begin with these frames, one after another, and the others come after them
 abbrev pub BeginsWithAll : List Constant → List (Instr Target) → Previous → List ℕ → List MapFrame → List ℕ → Type 0
 BeginsWithAll pool steps previous bytes [] others = bytes ≡ others
 BeginsWithAll pool steps previous bytes (f ∷ fs) others =
     (rest : List ℕ) × BeginsWith pool steps previous bytes f rest × BeginsWithAll pool steps (next previous f) rest fs others
 
--- the bytes are a count of frames, and the frames begin behind it
+-- the bytes begin with a count of frames, and the frames come after it
 abbrev pub IsTableOf : List ℕ → ℕ → List ℕ → Type 0
 IsTableOf maps count bytes = (count < 2 ^ 16) × (maps ≡ u2 count ++ bytes)
 
--- The content of a StackMapTable with these frames, of a method that has so many locals at its entry. One of no
--- bytes has no frames.
+-- The content of a StackMapTable with these frames, of a method that has `locals` locals at its entry. One of no bytes
+-- has no frames.
 abbrev pub IsStackMap : List Constant → List (Instr Target) → ℕ → List ℕ → List MapFrame → Type 0
 IsStackMap pool steps locals maps frames = ((maps ≡ []) × (frames ≡ []))
     ⊎ ((bytes : List ℕ) × IsTableOf maps (length frames) bytes × BeginsWithAll pool steps (entry locals) bytes frames [])
@@ -109,8 +109,8 @@ IsStackMap pool steps locals maps frames = ((maps ≡ []) × (frames ≡ []))
 abbrev pub HasNoFrame : List Constant → List (Instr Target) → Previous → List ℕ → Type 0
 HasNoFrame pool steps previous bytes = (f : MapFrame) (others : List ℕ) → ¬ BeginsWith pool steps previous bytes f others
 
--- of so many frames the ones before this number stand at the front, and then comes no frame, or more bytes than
--- the frames have
+-- of `count` frames, the first `number` are at the front; then either one more is due and there is no frame, or none is
+-- due and bytes are left
 pub record IsBadBehind (pool : List Constant) (steps : List (Instr Target)) (locals count : ℕ) (bytes : List ℕ) (number : ℕ) : Type 0 where
   pub frames : List MapFrame
   pub others : List ℕ
@@ -118,8 +118,8 @@ pub record IsBadBehind (pool : List Constant) (steps : List (Instr Target)) (loc
   pub place : length frames ≡ number
   pub bad : ((number < count) × HasNoFrame pool steps (behind (entry locals) frames) others) ⊎ ((number ≡ count) × (others ≢ []))
 
--- The number of the first frame that is wrong. A count that is cut short is frame 0, and bytes behind the frames
--- are one frame more.
+-- The number of the first frame that is wrong. A count that is cut short is frame 0, and bytes after the frames are one
+-- more frame.
 abbrev pub IsFirstBadFrame : List Constant → List (Instr Target) → ℕ → List ℕ → ℕ → Type 0
 IsFirstBadFrame pool steps locals maps number = ((length maps ≡ 1) × (number ≡ 0))
     ⊎ ((count : ℕ) × (bytes : List ℕ) × IsTableOf maps count bytes × IsBadBehind pool steps locals count bytes number)

@@ -3,16 +3,16 @@
 ghost use Rattle.std.specs.Prelude.{◌≡◌};
 ghost use Rattle.code_frames.specs.Reading.{form_of};
 
-/// The form of a frame, which its kind tells (JVMS 4.7.4).
+/// The form of a frame, which its kind decides (JVMS 4.7.4).
 #[derive(Clone, Copy)]
 pub enum FrameForm {
     /// The same locals, and an empty stack.
     Same,
     /// The same locals, and one item on the stack.
     OneItem,
-    /// So many locals fewer, and an empty stack.
+    /// This many locals fewer, and an empty stack.
     Chop(u8),
-    /// So many locals more, and an empty stack.
+    /// This many locals more, and an empty stack.
     Append(u8),
     /// All locals, and the whole stack.
     Full,

@@ -12,7 +12,7 @@ use std::marker::Model;
 #[derive(Drop)]
 pub struct Frames {
     frames: Vec<MapFrame>,
-    /// The numbers of the instructions at which they stand.
+    /// The numbers of the instructions that the frames are at.
     steps: Numbering,
 }
 
@@ -66,15 +66,14 @@ impl Frames {
         self.frames.get(number as usize)
     }
 
-    /// The number of the frame at an instruction, by the instruction's number, or `None` where none stands
-    /// there.
+    /// The number of the frame at an instruction, by the instruction's number, or `None` where there is none.
     pub fn number_at(&self, step: u32) -> Option<u32>
         ensures { result ≡ position_from (λ f. f.step == step) 0 self.now }
     {
         self.steps.number_at(step)
     }
 
-    /// Puts a frame behind the others. An error leaves them as they were, and the frame is dropped.
+    /// Appends a frame. An error leaves the frames as they were, and drops the new one.
     pub fn push(&mut self, frame: MapFrame) -> Result<(), AllocError>
         requires count { length self.old < 2 ^ 32 }
         requires apart { AllByRecursion (λ f. f.step ≢ frame.step) self.old }

@@ -57,7 +57,7 @@ fn uninit(steps: &Steps, cursor: &mut Cursor<'_>) -> Result<VType, Fault>
     Ok(VType::Uninit(at))
 }
 
-/// What stands behind the number of an item.
+/// What comes after the number of an item.
 #[tactic(auto, unfolding(crate::specs::Reading::tagged_item_at))]
 fn tagged_item(
     pool: &[Constant],
@@ -90,7 +90,7 @@ pub fn item(pool: &[Constant], steps: &Steps, cursor: &mut Cursor<'_>) -> Result
     tagged_item(pool, steps, tag, cursor)
 }
 
-/// So many items.
+/// `count` items.
 pub fn items(
     alloc: Global,
     pool: &[Constant],
@@ -108,7 +108,7 @@ pub fn items(
     Ok(items)
 }
 
-/// A count, and so many items.
+/// A count, and that many items.
 #[tactic(auto, unfolding(crate::specs::Reading::items_table_at))]
 pub fn items_table(
     alloc: Global,

@@ -18,7 +18,7 @@ pub fn locals_are_counted()
         (behind (entry (length locals)) frames).locals ≡ length (locals_after locals frames) }
 {}
 
-/// The frames of a table stand at later and later offsets, and no two at one instruction.
+/// The frames of a table are at ever later offsets, and no two are at the same instruction.
 pub fn frames_rise()
     ensures offsets { (pool : List Constant) (steps : List (Instr Target)) (locals : ℕ)
         (maps : List ℕ) (frames : List MapFrame) →

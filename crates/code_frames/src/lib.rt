@@ -2,7 +2,7 @@
 //!
 //! [`read_frames`] reads the content of a StackMapTable. A [`MapFrame`] says how its locals differ from those of
 //! the frame before it, as the table does, and [`Frames`] are the frames of a method, found by the instruction
-//! that they stand at.
+//! that they are at.
 #![tactic(auto)]
 
 mod cursor;

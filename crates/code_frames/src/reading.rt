@@ -29,7 +29,7 @@ fn delta(kind: u8, cursor: &mut Cursor<'_>) -> Result<u16, Fault>
     }
 }
 
-/// The locals and the stack of a frame of this form. So many locals stand before it.
+/// The locals and the stack of a frame of this form. There are `locals` locals before it.
 #[tactic(auto, unfolding(crate::specs::Reading::content_at))]
 fn content(
     alloc: Global,
@@ -66,7 +66,7 @@ fn content(
     }
 }
 
-/// The next frame, whose offset is `least` or above. So many locals stand before it.
+/// The next frame, whose offset is `least` or above. There are `locals` locals before it.
 #[tactic(auto, unfolding(crate::specs::Reading::frame_at))]
 fn frame(
     alloc: Global,
@@ -97,7 +97,7 @@ fn frame(
     })
 }
 
-/// So many frames, the first of a method whose entry has so many locals.
+/// `count` frames, from the first one of a method that has `entry_locals` locals at its entry.
 fn frames(
     alloc: Global,
     pool: &[Constant],
@@ -151,14 +151,14 @@ fn whole(
     Ok(frames)
 }
 
-/// Reads the frames of a method from the content of its StackMapTable; no bytes are no frames. `pool` is the
-/// constant pool of its class, `steps` are its instructions, and `entry_locals` says how many types there are in
-/// the locals as it is entered: its receiver and its parameters, a long or a double being one.
+/// Reads the frames of a method from the content of its StackMapTable; no bytes are no frames. `pool` is the constant
+/// pool of its class, `steps` are its instructions, and `entry_locals` says how many types there are in the locals as
+/// it is entered: its receiver and its parameters, a long or a double being one.
 ///
-/// `Frame` has the number of the first frame that is wrong: one of a kind from 128 to 246, one that goes past the
-/// end, has an item of another number than 0 to 8, removes more locals than there are, or stands where no
-/// instruction begins; or an `Object` of an index without a Class entry, or an `Uninit` of an offset without a
-/// `new`. Where bytes stand behind the last frame, it has the count of the frames. `NoMemory` may come anywhere.
+/// `Frame` has the number of the first frame that is wrong: one of a kind from 128 to 246; one that goes past the end,
+/// has an item whose number is not 0 to 8, removes more locals than there are, or is where no instruction begins; or
+/// one with an `Object` of an index without a Class entry, or an `Uninit` of an offset without a `new`. Where bytes
+/// come after the last frame, the number is the count of the frames. `NoMemory` may come anywhere.
 pub fn read_frames(
     alloc: Global,
     pool: &[Constant],

@@ -27,7 +27,7 @@ impl From<AllocError> for FrameRefusal {
 /// Why a part of a frame was not read.
 #[derive(Clone, Copy)]
 pub enum Fault {
-    /// No right part of a frame stands there.
+    /// There is no well-formed part of a frame.
     Malformed,
     /// There was no memory.
     NoMemory,

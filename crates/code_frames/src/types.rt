@@ -30,16 +30,16 @@ pub enum VType {
 pub enum LocalsChange {
     /// They are the same.
     Same,
-    /// These stand behind them.
+    /// These come after them.
     Append(Rows<VType>),
-    /// So many are gone at the end.
+    /// This many are removed at the end.
     Chop(u8),
-    /// These stand in their place.
+    /// These take their place.
     Full(Rows<VType>),
 }
 
 impl LocalsChange {
-    /// How many locals there are after the change of so many.
+    /// How many locals there are after the change, where there were `count` before.
     pub fn count_after(&self, count: u32) -> u32
         requires { count_after count self.now < 2 ^ 32 }
         ensures { result ≡ count_after count self.now }
@@ -56,7 +56,7 @@ impl LocalsChange {
 /// A stack map frame (JVMS 4.7.4).
 #[derive(Drop)]
 pub struct MapFrame {
-    /// The offset of the instruction that it stands at.
+    /// The offset of the instruction that the frame is at.
     pub at: u32,
     /// The number of that instruction, from 0.
     pub step: u32,

@@ -28,7 +28,7 @@ use Rattle.code_laws.proofs.UseLaws.{uses_right}
 
 -- ---- items
 
--- what is found stands somewhere, and passes
+-- what is found is somewhere in the list, and passes
 found_at : {X : Type 0} (p : X → Bool) (xs : List X) (x : X) → find p xs ≡ Some x → (k : ℕ) × (slice_get xs k ≡ Some x) × (p x ≡ true)
 found_at p [] x e = absurd cc
 found_at p (y ∷ ys) x e =

@@ -1,4 +1,4 @@
--- Frames of a table: where they stand, and what their types are.
+-- Frames of a table: where they are, and what their types are.
 use Rattle.std.proofs.Common.{◌≡◌, ◌-◌, ℕ, zero, suc, List, [], ◌∷◌, ◌++◌, length, take, refl, sym, ap, subst, ◌∙◌, inl, inr}
 use Rattle.std.specs.Prelude.{Some, slice_get}
 use Rattle.std.specs.List.{AllByRecursion}
@@ -19,7 +19,7 @@ use Rattle.code_laws.specs.Frames.{IsLocal}
 use Rattle.code_laws.specs.Steps.{StandsAt}
 use Rattle.code_laws.proofs.StepLaws.{number_stands, all_weaker}
 
--- what a frame is, wherever it stands in the table
+-- what a frame is, wherever it is in the table
 record IsRightFrame (pool : List Constant) (steps : List (Instr Target)) (f : MapFrame) : Type 0 where
   stack : IsCounted (IsItem pool steps) f.stack
   step : number_at steps f.at ≡ Some f.step

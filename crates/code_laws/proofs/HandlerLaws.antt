@@ -26,7 +26,7 @@ module _ (pool : List Constant) (code : List ℕ) (steps : List (Instr Target)) 
   up : (j k : ℕ) (i l : Instr Target) → slice_get steps j ≡ Some i → slice_get steps k ≡ Some l → j < k → i.at < l.at
   up j k i l = rises pool code 0 steps (length code) is.laid j k i l
 
-  -- an instruction stands behind another one by number exactly where it does by offset
+  -- an instruction comes after another one by number exactly where it does by offset
   offset_before : (j k : ℕ) (i l : Instr Target) → slice_get steps j ≡ Some i → slice_get steps k ≡ Some l → i.at < l.at → j < k
   offset_before j k i l there here before =
       elim (sides j k) [

@@ -1,4 +1,4 @@
--- Instructions that are laid out: where they stand, what they name, and where they lead.
+-- Instructions that are laid out: where they are, what they name, and where they lead.
 use Rattle.std.proofs.Common.{◌≡◌, ◌+◌, ◌<◌, ◌≤◌, ℕ, zero, suc, true, false, List, [], ◌∷◌, length, refl, sym, ap, subst, ◌∙◌, arith, add-one, inl, inr, nat_eq, eq-eqb}
 use Rattle.std.specs.Prelude.{Some, slice_get, map}
 use Rattle.std.specs.List.{AllByRecursion, position_from}
@@ -26,7 +26,7 @@ laid_have pool code from (s ∷ steps) to laid (suc k) i there = laid_have pool 
 
 -- ---- numbers of offsets
 
--- the number of an offset is the place at which it stands
+-- the number of an offset is the place at which it is
 numbered_at : (steps : List (Instr Target)) (at first n : ℕ) → position_from (λ o. nat_eq o at) first (offsets_of steps) ≡ Some n
     → (k : ℕ) × (i : Instr Target) × (n ≡ first + k) × (slice_get steps k ≡ Some i) × (i.at ≡ at)
 numbered_at [] at first n e = absurd cc
@@ -55,7 +55,7 @@ laid_up pool code from (s ∷ steps) to laid =
     let is : IsInstruction pool code (by_offsets s) = laid.1 in
     omega (arith, laid.0, is.ends, laid_up pool code s.next steps to laid.2)
 
--- an instruction stands between two places
+-- an instruction is between two places
 record Between (from to : ℕ) (i : Instr Target) : Type 0 where
   begins : from ≤ i.at
   ordered : i.at < i.next

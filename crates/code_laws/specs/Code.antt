@@ -16,7 +16,7 @@ use Rattle.code_laws.specs.Frames.{IsLocal}
 use Rattle.code_laws.specs.Handlers.{IsHandlerInside}
 use Rattle.code_laws.specs.Steps.{StandsAt, NamesRightly, LeadsInside}
 
--- the code of a method that begins with so many values
+-- the code of a method that begins with `entry` values
 pub record IsRightCode (pool : List Constant) (entry : ℕ) (code : Code) : Type 0 where
   pub begins : StandsAt code.steps 0 0
   pub few : length code.steps ≤ 65535

@@ -56,7 +56,7 @@ IsRightEntry pool index _ = Unit {0}
 
 -- ---- members
 
--- a constant, which a static field of this type may begin with, stands there (JVMS 4.7.2)
+-- there is a constant there that a static field of this type may begin with (JVMS 4.7.2)
 abbrev pub BeginsWithConstant : List Constant → Member → ℕ → Type 0
 BeginsWithConstant pool m index = IsTrue (has m.flags STATIC) × IsConstantAt pool m.descriptor index
 

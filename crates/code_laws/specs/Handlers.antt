@@ -7,7 +7,7 @@ use Rattle.code_decode.specs.declared.code.Handler.{Handler}
 use Rattle.code_decode.specs.Handlers.{IsCaught}
 use Rattle.code_laws.specs.Steps.{StandsAt}
 
--- by numbers of instructions, and by offsets: what is covered stands from the one on, and before the other
+-- what is covered, by numbers of instructions and by offsets: from the first on, and before the end
 abbrev pub Covers : Handler → ℕ → Type 0
 Covers h k = (h.first ≤ k) × (k < h.end)
 

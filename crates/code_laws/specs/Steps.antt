@@ -22,7 +22,7 @@ NamesRightly pool (whats.InterfaceCall index) = IsInterfaceMethodFor pool index
 NamesRightly pool (whats.Class purpose index) = IsClassFor pool purpose index
 NamesRightly pool _ = Unit {0}
 
--- the instruction of this number stands at this offset
+-- the instruction of this number is at this offset
 abbrev pub StandsAt : List (Instr Target) → ℕ → ℕ → Type 0
 StandsAt steps k at = (i : Instr Target) × (slice_get steps k ≡ Some i) × (i.at ≡ at)
 
@@ -30,7 +30,7 @@ StandsAt steps k at = (i : Instr Target) × (slice_get steps k ≡ Some i) × (i
 abbrev pub LeadsInside : List (Instr Target) → Target → Type 0
 LeadsInside steps target = StandsAt steps target.step target.at
 
--- an instruction of this number stands in a code of so many bytes, and the next one behind it
+-- an instruction of this number is in a code of size bytes, and the next one comes after it
 pub record StandsInside (size : ℕ) (steps : List (Instr Target)) (k : ℕ) (i : Instr Target) : Type 0 where
   pub numbered : number_at steps i.at ≡ Some k
   pub ordered : i.at < i.next

@@ -13,7 +13,7 @@ ghost use Rattle.code_frames.specs.StackMap.{IsItem, IsChange, IsStackMap};
 ghost use Rattle.code_laws.specs.Frames.{IsLocal};
 ghost use Rattle.code_laws.specs.Steps.{StandsAt};
 
-/// A frame stands at an instruction of the code.
+/// A frame is at an instruction of the code.
 pub fn frames_stand_at_instructions()
     ensures { (pool : List Constant) (steps : List (Instr Target)) (locals : ℕ) (maps : List ℕ) (frames : List MapFrame) →
         IsStackMap pool steps locals maps frames →
@@ -28,8 +28,8 @@ pub fn stacks_are_spelled()
         (k : ℕ) (f : MapFrame) → slice_get frames k ≡ Some f → IsCounted (IsItem pool steps) f.stack }
 {}
 
-/// The locals for which frames stand, whatever the types at the method's entry are: each is such a type, or one of
-/// those that frames spell. A frame removes no more locals than there are.
+/// The locals that frames stand for, whatever the types at the method's entry are: each is such a type, or one of those
+/// that frames spell. A frame removes no more locals than there are.
 pub fn locals_are_spelled()
     ensures locals { (pool : List Constant) (steps : List (Instr Target)) (types : List VType) (maps : List ℕ) (frames : List MapFrame) →
         IsStackMap pool steps (length types) maps frames →

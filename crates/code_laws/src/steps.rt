@@ -31,7 +31,7 @@ pub fn code_begins_with_an_instruction()
         length steps ≤ 65535 }
 {}
 
-/// Instructions stand one behind the other, from the first byte of the code to its last.
+/// Instructions come one after another, from the first byte of the code to its last.
 pub fn instructions_stand_in_order()
     ensures places { (pool : List Constant) (code : List ℕ) (steps : List (Instr Target)) → IsCodeArray pool code steps →
         (k : ℕ) (i : Instr Target) → slice_get steps k ≡ Some i → StandsInside (length code) steps k i }

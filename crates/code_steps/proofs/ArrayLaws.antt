@@ -82,7 +82,7 @@ whole_once pool code r s a b =
     let same = one_layout pool code 0 a.steps b.steps (length code) (length code) None None a.laid b.laid refl refl in
     sym a.gives ∙ ap (λ (is : List (Instr ℤ)). steps_of (offsets_of is) is) same.steps ∙ b.gives
 
--- no fault of an instruction comes where all of them stand
+-- where all instructions are there, none of them has a fault
 whole_stops : (pool : List Constant) (code : List ℕ) (r : Result (List (Instr Target)) StepFault) (f : StepFault) → Whole pool code r → IsInstructionFault pool code f → ⊥
 whole_stops pool code r f a b =
     let same = one_layout pool code 0 a.steps b.steps (length code) b.at None (Some f) a.laid b.laid refl b.reads in

@@ -1,4 +1,4 @@
--- What is read of an operand is what stands there, and what stands there is read.
+-- What is read of an operand is what is there, and what is there is read.
 use Rattle.std.proofs.Common.{◌≡◌, ℕ, zero, suc, ◌^◌, ◌<◌, ◌≤◌, Bool, true, false, cond, ltb, List, [], ◌∷◌, ◌++◌, length, take, drop, Result, Ok, Err, refl, sym, ap, subst, ◌∙◌, append_assoc, arith}
 use Rattle.std.proofs.lemmas.Bool.{ltb-false, le-ltb}
 use Rattle.std.proofs.lemmas.List.{append-nil, take_at, drop_at, take-append-drop, length-append, length-take}
@@ -12,7 +12,7 @@ use Rattle.code_steps.specs.declared.fault.StepFault.TheVariants.{Cut}
 use Rattle.code_steps.specs.Operands.{AreItems}
 use Rattle.code_steps.specs.Reading.{bytes_at, number_at}
 
--- the bytes behind those that were read
+-- the bytes after those that were read
 pub bytes_after : (text bytes rest : List ℕ) → IsBytes bytes → bytes ≡ text ++ rest → IsBytes rest
 bytes_after text bytes rest fits parts = bytes_behind text rest (subst IsBytes parts fits)
 
@@ -71,7 +71,7 @@ number_again n at bytes x rest small parts =
 
 -- ---- items
 
--- a reader reads what stands so
+-- a reader reads exactly what is there
 pub record Law {X : Type 0} (read : List ℕ → Result (X × List ℕ) StepFault) (Is : X → List ℕ → Type 0) : Type 0 where
   pub takes : (bytes : List ℕ) (x : X) (rest : List ℕ) → IsBytes bytes → read bytes ≡ Ok (x, rest) → (text : List ℕ) × Is x text × (bytes ≡ text ++ rest)
   pub again : (bytes : List ℕ) (x : X) (rest text : List ℕ) → Is x text → bytes ≡ text ++ rest → read bytes ≡ Ok (x, rest)

@@ -112,7 +112,7 @@ at_behind code at number operands left rest here spelled =
 next_is : (code : List ℕ) (next : ℕ) (rest : List ℕ) → At code next rest → length code - length rest ≡ next
 next_is code next rest there = omega (arith, there.sum)
 
--- an instruction that is read stands there
+-- an instruction that is read is there
 pub record Stands (pool : List Constant) (code : List ℕ) (at : ℕ) (what : What ℤ) (rest : List ℕ) : Type 0 where
   pub instruction : IsInstruction pool code (record { at = at; next = length code - length rest; what = what })
   pub behind : At code (length code - length rest) rest
@@ -139,7 +139,7 @@ instruction_stands pool code at left what rest fits here reads =
     (record { number = r.number; row = r.row; operands = r.operands; numbered = r.numbered; right = r.right; spelled = sym here.is ∙ r.spelled ∙ ap (λ (s : List ℕ). r.number ∷ (r.operands ++ s)) there.is; ends = refl })
     there (omega arith) (sym (next_is code next rest there))
 
--- and one that stands there is read
+-- and one that is there is read
 pub stands_again : (pool : List Constant) (code : List ℕ) (i : Instr ℤ) → IsInstruction pool code i → ReadsInstruction pool i.at (drop i.at code) (Ok (i.what, drop i.next code))
 stands_again pool code i is =
     instruction_again pool i.at (drop i.at code) i.what (drop i.next code)
@@ -147,7 +147,7 @@ stands_again pool code i is =
 
 -- ---- the instructions from the front
 
--- an instruction ends inside the code, and behind its first byte
+-- an instruction ends inside the code, and after its first byte
 next_inside : (pool : List Constant) (code : List ℕ) (i : Instr ℤ) → IsInstruction pool code i → (i.next ≤ length code) × (length (drop i.at code) ≡ suc (length code - i.at - 1))
 next_inside pool code i is =
     let size : length (drop i.at code) ≡ suc (length is.operands + length (drop i.next code)) = ap length is.spelled ∙ ap suc (length-append is.operands (drop i.next code)) in
@@ -193,7 +193,7 @@ stop_once pool code at None (Some f) a b = absurd (no_bytes pool code at (Err f)
 stop_once pool code at (Some e) None a b = absurd (no_bytes pool code at (Err e) b a)
 stop_once pool code at (Some e) (Some f) a b = let same = reads_once pool at (drop at code) (Err e) (Err f) a b in ap (λ (x : StepFault). Some x) (err_is {A = What ℤ × List ℕ} e f same)
 
--- reading doesn't stop where an instruction stands
+-- reading doesn't stop where there is an instruction
 goes_on : (pool : List Constant) (code : List ℕ) (at : ℕ) (i : Instr ℤ) (e : Option StepFault) → i.at ≡ at → IsInstruction pool code i → Stops pool code at e → ⊥
 goes_on pool code at i None same is stops = no_bytes pool code at (Ok (i.what, drop i.next code)) stops (subst (λ (n : ℕ). ReadsInstruction pool n (drop n code) (Ok (i.what, drop i.next code))) same (stands_again pool code i is))
 goes_on pool code at i (Some f) same is stops =

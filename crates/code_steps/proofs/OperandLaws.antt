@@ -1,4 +1,4 @@
--- What is read of operands is what stands there, and what stands there is read.
+-- What is read of operands is what is there, and what is there is read.
 use Rattle.std.proofs.Common.{◌≡◌, ℕ, ◌<◌, Bool, true, false, List, [], ◌∷◌, ◌++◌, length, Option, Some, None, Result, Ok, Err, refl, sym, ap, subst, ◌∙◌, append_assoc, arith, inl, inr}
 use Rattle.std.specs.Prelude.{ℤ, pos, ◌+ℤ◌, ◌≤ℤ◌, ◌<ℤ◌, int_lt, ◌&&◌}
 use Rattle.std.specs.Int.{w8, w16, w32, cast_signed}
@@ -23,7 +23,7 @@ use Rattle.code_steps.specs.Reading.{bytes_at, number_at, one_at, two_at, target
 use Rattle.code_steps.proofs.Fields.{bytes_after, passes_ok, bytes_take, bytes_again, number_takes, number_again, Law, items_take, items_again}
 use Rattle.code_steps.proofs.PoolLaws.{Rule, constant_rule, long_constant_rule, field_rule, call_rule, class_rule, element_takes, element_again}
 
--- ---- texts one behind another
+-- ---- texts one after another
 
 joined_three : (bytes a p b q c rest : List ℕ) → bytes ≡ a ++ p → p ≡ b ++ q → q ≡ c ++ rest → bytes ≡ (a ++ (b ++ c)) ++ rest
 joined_three bytes a p b q c rest ea eb ec = ea ∙ ap (λ (s : List ℕ). a ++ s) (eb ∙ ap (λ (s : List ℕ). b ++ s) ec) ∙ simp append_assoc

@@ -1,4 +1,4 @@
--- What is looked up in the pool is what stands there.
+-- What is looked up in the pool is what is there.
 use Rattle.std.proofs.Common.{◌≡◌, ◌≢◌, ℕ, Bool, true, false, cond, List, Option, Some, None, Result, Ok, Err, refl, sym, ap, ◌∙◌, ◌+◌, arith, inl, inr}
 use Rattle.std.specs.Prelude.{ℤ, ◌↔◌, slice_get, not, ◌==◌, codes, bytes_eq, IsTrue, ◌⊎◌}
 use Rattle.std.proofs.lemmas.Bool.{not-true, not_from_false, false_from_ne_true, eqb-true, eq-eqb, and_parts}

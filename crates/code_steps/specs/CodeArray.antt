@@ -12,7 +12,7 @@ use Rattle.instructions.specs.Steps.{number_at}
 use Rattle.instructions.specs.What.{targets_of}
 use Rattle.code_steps.specs.Operands.{IsOperands}
 
--- an instruction stands where it says: the number of a row of the table, and operands of its form
+-- an instruction is where it says it is: the number of a row of the table, and operands of its form
 pub record IsInstruction (pool : List Constant) (code : List ℕ) (i : Instr ℤ) : Type 0 where
   pub number : ℕ
   pub row : Instruction
@@ -22,7 +22,7 @@ pub record IsInstruction (pool : List Constant) (code : List ℕ) (i : Instr ℤ
   pub spelled : drop i.at code ≡ number ∷ (operands ++ drop i.next code)
   pub ends : i.next ≡ i.at + 1 + length operands
 
--- instructions one behind another, from one offset to another
+-- instructions one after another, from one offset to another
 abbrev pub AreLaidOut : List Constant → List ℕ → ℕ → List (Instr ℤ) → ℕ → Type 0
 AreLaidOut pool code from [] to = from ≡ to
 AreLaidOut pool code from (i ∷ others) to = (i.at ≡ from) × IsInstruction pool code i × AreLaidOut pool code i.next others to

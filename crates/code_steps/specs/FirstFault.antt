@@ -19,7 +19,7 @@ pub record IsSized (code : List ℕ) : Type 0 where
 abbrev pub IsLengthFault : List ℕ → StepFault → Type 0
 IsLengthFault code f = ((length code ≡ 0) ⊎ (65535 < length code)) × (f ≡ Length)
 
--- instructions stand up to an offset, and reading the one there gives the fault
+-- there are instructions up to an offset, and reading the one there gives the fault
 pub record IsInstructionFault (pool : List Constant) (code : List ℕ) (f : StepFault) : Type 0 where
   pub sized : IsSized code
   pub steps : List (Instr ℤ)
@@ -34,7 +34,8 @@ IsOffset steps target = (offset : ℕ) × (target ≡ pos offset) × IsSome (num
 abbrev pub LeadsRightly : List (Instr ℤ) → Instr ℤ → Type 0
 LeadsRightly steps i = AllByRecursion (IsOffset steps) (targets_of i.what)
 
--- instructions stand up to the end, and this one is the first of them with a target that is no instruction's offset
+-- there are instructions up to the end, and this one is the first with a target that is not the offset of an
+-- instruction
 pub record IsTargetFault (pool : List Constant) (code : List ℕ) (f : StepFault) : Type 0 where
   pub sized : IsSized code
   pub before : List (Instr ℤ)
@@ -48,7 +49,7 @@ pub record IsTargetFault (pool : List Constant) (code : List ℕ) (f : StepFault
 abbrev pub IsFirstFault : List Constant → List ℕ → StepFault → Type 0
 IsFirstFault pool code f = IsLengthFault code f ⊎ IsInstructionFault pool code f ⊎ IsTargetFault pool code f
 
--- the refusal is want of memory, or a fault of this kind
+-- the refusal is that memory ran out, or a fault of this kind
 abbrev pub IsFaultOf : (StepFault → Type 0) → StepRefusal → Type 0
 IsFaultOf Is refusals.NoMemory = Unit {0}
 IsFaultOf Is (refusals.Fault f) = Is f

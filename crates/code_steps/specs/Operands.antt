@@ -21,9 +21,9 @@ use Rattle.instructions.specs.declared.what.What.{What}
 use Rattle.instructions.specs.declared.what.What.TheVariants.{Plain, Int, Long, Constant as Loaded, LongConstant, Local, Increment, Branch, TableSwitch, LookupSwitch, Field, Call, InterfaceCall, Class, NewArray}
 use Rattle.instructions.specs.Table.{Instruction, row_numbered}
 
--- ---- what stands at an index of the pool (JVMS 4.4)
+-- ---- what is at an index of the pool (JVMS 4.4)
 
--- the name begins with so many [ (JVMS 4.3.2, 4.4.1)
+-- the name begins with n [ (JVMS 4.3.2, 4.4.1)
 abbrev pub has_dimensions : ℕ → List ℕ → Bool
 has_dimensions n name = starts_with nat_eq name (replicate n 91)
 
@@ -118,12 +118,13 @@ IsKey key bytes = (n : ℕ) × (n < 2 ^ 32) × (bytes ≡ u4 n) × (key ≡ cast
 abbrev pub IsCase : ℕ → Case ℤ → List ℕ → Type 0
 IsCase at case bytes = (key target : List ℕ) × IsKey case.key key × IsTarget at case.target target × (bytes ≡ key ++ target)
 
--- items one behind another
+-- items one after another
 abbrev pub AreItems : {X : Type 0} → (X → List ℕ → Type 0) → List X → List ℕ → Type 0
 AreItems IsItem [] bytes = bytes ≡ []
 AreItems IsItem (x ∷ xs) bytes = (first others : List ℕ) × IsItem x first × AreItems IsItem xs others × (bytes ≡ first ++ others)
 
--- how many bytes stand between the number of a switch and the next offset that is a multiple of 4 (JVMS 6.5, tableswitch)
+-- how many bytes come between the number of a switch and the next offset that is a multiple of 4 (JVMS 6.5,
+-- tableswitch)
 abbrev pub padding_of : ℕ → ℕ
 padding_of at = 3 - at % 4
 
@@ -173,7 +174,7 @@ AreWideOf (forms.Local access) what operands = HasOne 2 (λ local. Local access 
 AreWideOf forms.Increment what operands = HasTwo 2 (λ local by. Increment local (cast_signed w16 by)) what operands
 AreWideOf _ what operands = ⊥
 
--- the operands of wide behind the number of the instruction that it widens (JVMS 6.5, wide)
+-- the operands of wide after the number of the instruction that it widens (JVMS 6.5, wide)
 abbrev pub AreWide : Option Instruction → What ℤ → List ℕ → Type 0
 AreWide None what operands = ⊥
 AreWide (Some row) what operands = AreWideOf row.form what operands

@@ -25,7 +25,7 @@ use Rattle.code_steps.specs.declared.fault.StepRefusal.{StepRefusal}
 use Rattle.code_steps.specs.declared.fault.StepRefusal.TheVariants as refusals
 use Rattle.code_steps.specs.Operands.{near_target, far_target, padding_of, has_dimensions, IsCount, IsInterfaceCall}
 
--- What a function returned, and the bytes that it left, are what is read; want of memory may come anywhere.
+-- What a function returned, and the bytes that it left, are what is read; memory may run out anywhere.
 abbrev pub Gives : {X : Type 0} → Result X StepRefusal → List ℕ → (Result (X × List ℕ) StepFault → Type 0) → Type 0
 Gives (Ok x) after Reads = Reads (Ok (x, after))
 Gives (Err refusals.NoMemory) after Reads = Unit {0}
@@ -59,7 +59,7 @@ Returns (Err e) read = Fails e read
 abbrev pub bytes_at : ℕ → ℕ → List ℕ → Result (List ℕ × List ℕ) StepFault
 bytes_at at n bytes = if nat_lt (length bytes) n then Err (Cut at) else Ok (take n bytes, drop n bytes)
 
--- a number of so many bytes
+-- a number of n bytes
 abbrev pub number_at : ℕ → ℕ → List ℕ → Result (ℕ × List ℕ) StepFault
 number_at at n bytes = do
   text ← bytes_at at n bytes
@@ -133,7 +133,7 @@ abbrev pub interface_pair_in : Option Constant → Option ℕ
 interface_pair_in (Some (constants.IfaceMethod _ pair)) = Some pair
 interface_pair_in _ = None
 
--- parameters of this size, and a receiver, take so many words
+-- parameters of this size, and a receiver, take count words
 abbrev pub has_words : Option ParameterSize → ℕ → Bool
 has_words None count = false
 has_words (Some size) count = count == size.words + 1
@@ -226,7 +226,7 @@ widened_form_at at (forms.Local access) bytes = one_at at 2 (λ local. Ok (Local
 widened_form_at at forms.Increment bytes = two_at at 2 (λ local by. Increment local (cast_signed w16 by)) bytes
 widened_form_at at _ bytes = Err (Operand at)
 
--- the operands behind the number of the instruction that wide widens
+-- the operands after the number of the instruction that wide widens
 abbrev pub widened_at : ℕ → Option Instruction → List ℕ → Result (What ℤ × List ℕ) StepFault
 widened_at at None bytes = Err (Operand at)
 widened_at at (Some row) bytes = widened_form_at at row.form bytes

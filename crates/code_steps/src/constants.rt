@@ -180,7 +180,7 @@ pub fn new_array(at: u32, code: u8) -> Result<What<i64>, StepFault>
     }
 }
 
-/// Whether parameters of this size and a receiver take so many words.
+/// Whether parameters of this size and a receiver take `count` words.
 fn has_words(parameters: Option<ParameterSize>, count: u8) -> bool
     ensures { result ≡ has_words parameters count }
 {
@@ -190,7 +190,7 @@ fn has_words(parameters: Option<ParameterSize>, count: u8) -> bool
     }
 }
 
-/// Whether the parameters of the method descriptor at an index and a receiver take so many words.
+/// Whether the parameters of the method descriptor at an index and a receiver take `count` words.
 fn is_count(pool: &Pool<'_>, descriptor: u16, count: u8) -> bool
     ensures { IsTrue result ↔ IsCountIn (utf8_of (slice_get pool.now descriptor)) count }
 {
@@ -200,7 +200,7 @@ fn is_count(pool: &Pool<'_>, descriptor: u16, count: u8) -> bool
     }
 }
 
-/// The index of the name and descriptor of the interface method whose entry stands at an index.
+/// The index of the name and descriptor of the interface method whose entry is at an index.
 fn interface_pair(pool: &[Constant], index: u16) -> Option<u16>
     ensures { result ≡ interface_pair_in (slice_get pool.now index) }
 {

@@ -1,4 +1,4 @@
-//! Tests of reading stack map frames: the instructions that they stand at, and a frame that is wrong.
+//! Tests of reading stack map frames: the instructions that they are at, and a frame that is wrong.
 
 use crate::pool::pool;
 use class_read::Pool;
@@ -21,7 +21,7 @@ fn frames(alloc: Global, maps: &[u8]) -> Result<Result<Frames, u16>, Fail> {
     }
 }
 
-/// The numbers of instructions, and of the frames at them where the frames stand at 1 and 3.
+/// The numbers of instructions, and of the frames at them where the frames are at 1 and 3.
 const NUMBERS: [(u32, Option<u32>); 5] = [
     (0, None),
     (1, Some(0)),

@@ -1,4 +1,4 @@
-//! Tests of what stands in a constant pool, of reading code arrays and stack map frames, of a refusal's text and number,
+//! Tests of what is in a constant pool, of reading code arrays and stack map frames, of a refusal's text and number,
 //! and of writing instructions and frames. The program `code_vectors` tries class files.
 #![tactic(auto)]
 

@@ -1,11 +1,11 @@
-//! Tests of what stands at an index of a constant pool.
+//! Tests of what is at an index of a constant pool.
 
 use crate::pool::pool;
 use class_pool::{class_name_at, name_and_type_at, reference_at, utf8_at};
 use class_read::Constant;
 use std::test::Fail;
 
-/// An index of the pool, and what stands there: a text, the name of a class, a name and a type, or a class with a name
+/// An index of the pool, and what is there: a text, the name of a class, a name and a type, or a class with a name
 /// and a type.
 type Case = (u16, &'static [&'static [u8]]);
 

@@ -10,7 +10,7 @@ use instructions::{
 use std::alloc::Global;
 use std::test::Fail;
 
-/// An instruction as a word, and the numbers behind it.
+/// An instruction as a word, and the numbers after it.
 type Shown = (&'static str, i64, i64);
 
 /// The instruction, where it is one of those that the tests read.
@@ -76,7 +76,7 @@ const CODES: [(&[u8], Shown); 23] = [
     (&[185, 0, 7, 4, 0], ("invokeinterface", 7, 0)),
     (&[189, 0, 14], ("anewarray", 14, 0)),
     (&[188, 11], ("newarray long", 0, 0)),
-    // a call of <clinit>, of an interface's <init>, and 255 brackets without the type behind them
+    // a call of <clinit>, of an interface's <init>, and 255 brackets without the type after them
     (&[183, 0, 21], ("operand", 0, 0)),
     (&[185, 0, 18, 4, 0], ("operand", 0, 0)),
     (&[189, 0, 23], ("operand", 0, 0)),

@@ -1,4 +1,4 @@
-//! Printing codes: each place as its offset, and behind a `/` the number of the instruction there.
+//! Printing codes: each place as its offset, and after a `/` the number of the instruction there.
 
 use code_decode::{Code, Handler, LocalsChange, MapFrame, Target, VType, What};
 use std::io;
@@ -83,7 +83,7 @@ fn show_frame<R: Print>(rt: &R, number: Option<u32>, frame: &MapFrame) -> io::Re
     println!(rt; "")
 }
 
-/// Prints the offsets of the instructions, each with its targets behind it, the handlers and the frames.
+/// Prints the offsets of the instructions, each with its targets after it, the handlers and the frames.
 pub(crate) fn show_code<R: Print>(rt: &R, code: &Code) -> io::Result<()> {
     let (stack, locals) = (code.max_stack, code.max_locals);
     println!(rt; ": stack {stack}, locals {locals}")?;

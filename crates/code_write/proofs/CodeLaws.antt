@@ -118,7 +118,7 @@ is_lookup at default cases fits keys rising = record {
 
 -- ---- operands
 
--- the operands are those of the form, or those of the form behind wide
+-- the operands are those of the form, or those of the form after wide
 abbrev Coded : List Constant → ℕ → Form → Operands ℕ → What ℤ → Type 0
 Coded pool at form o what =
     ((wide_bytes o ≡ []) × IsOperands pool at form what (operand_bytes at o))

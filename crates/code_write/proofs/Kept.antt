@@ -1,4 +1,4 @@
--- What is put behind a list keeps it.
+-- What is appended to a list leaves it as it was.
 use Rattle.std.proofs.Common.{◌≡◌, ℕ, List, [], ◌∷◌, ◌++◌, length, take, refl, ◌∙◌, arith, append_assoc}
 use Rattle.std.proofs.lemmas.Grind.{common_steps}
 use Rattle.code_write.specs.Instruction.{Keeps}
@@ -17,7 +17,7 @@ kept_behind old more now new put keeps = record { front = front_kept old more ne
 pub kept_same : (old new : List ℕ) → new ≡ old → Keeps old new
 kept_same old new same = record { front = grind (arith, common_steps) }
 
--- five parts, one put behind the other
+-- five parts, one put after another
 pub put_parts : (old m n o p new a b c d e : List ℕ) → m ≡ old ++ a → n ≡ m ++ b → o ≡ n ++ c → p ≡ o ++ d → new ≡ p ++ e → new ≡ old ++ (a ++ (b ++ (c ++ (d ++ e))))
 put_parts old m n o p new a b c d e first second third fourth fifth = rw (fifth, fourth, third, second, first) (
     append_assoc (old ++ a ++ b ++ c) d e

@@ -33,7 +33,7 @@ type_bytes t = item (type_of t)
 abbrev pub full_frame : ℕ → List VerificationType → List VerificationType → List ℕ
 full_frame delta locals stack = u1 255 ++ u2 delta ++ table type_bytes locals ++ table type_bytes stack
 
--- a full frame where it stands: the offset and the number of its instruction, and its types
+-- a full frame at its place: the offset and the number of its instruction, and its types
 pub record Placed : Type 0 where
   pub at : ℕ
   pub step : ℕ
@@ -47,8 +47,8 @@ types_of types = map type_of types
 abbrev pub frame_of : Placed → MapFrame
 frame_of p = record { at = p.at; step = p.step; locals = Full (types_of p.locals); stack = types_of p.stack }
 
--- full frames one behind the other, the first of which stands at this offset or behind it; each delta counts from the
--- least offset that the frame may have
+-- full frames one after another, the first of which is at this offset or after it; each delta counts from the least
+-- offset that the frame may have
 abbrev pub frames_bytes : ℕ → List Placed → List ℕ
 frames_bytes least [] = []
 frames_bytes least (p ∷ others) = full_frame (p.at - least) p.locals p.stack ++ frames_bytes (p.at + 1) others
@@ -69,7 +69,7 @@ abbrev pub ArePlaced : List Constant → List (Instr Target) → ℕ → List Pl
 ArePlaced pool steps least [] = Unit {0}
 ArePlaced pool steps least (p ∷ others) = IsPlaced pool steps least p × ArePlaced pool steps (p.at + 1) others
 
--- the least offset that a frame may have behind these
+-- the least offset that a frame after these may have
 abbrev pub least_behind : ℕ → List Placed → ℕ
 least_behind least [] = least
 least_behind least (p ∷ others) = least_behind (p.at + 1) others

@@ -80,7 +80,7 @@ operand_bytes at (LookupSwitch default cases) = lookup_bytes at default cases
 operand_bytes at (InterfaceCall index count) = u2 index ++ (u1 count ++ u1 0)
 operand_bytes at (NewArray element) = u1 (element_code element)
 
--- the number of wide, before operands that are those behind wide
+-- the number of wide, before operands that are those of a widened instruction
 abbrev pub wide_bytes : Operands ℕ → List ℕ
 wide_bytes (WideLocal local) = 196 ∷ []
 wide_bytes (WideIncrement local by) = 196 ∷ []
@@ -165,6 +165,6 @@ size at (shapes.Fixed bytes) = bytes
 size at (shapes.TableSwitch targets) = 1 + padding_of at + 12 + 4 * targets
 size at (shapes.LookupSwitch cases) = 1 + padding_of at + 8 + 8 * cases
 
--- what was there still stands at the front
+-- what was there is still at the front
 pub record Keeps (old new : List ℕ) : Type 0 where
   pub front : take (length old) new ≡ old

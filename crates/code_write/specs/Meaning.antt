@@ -60,12 +60,12 @@ pub record IsMeant (pool : List Constant) (at : ℕ) (w : Written ℕ) (what : W
   pub widths : HasWidths w.operands
   pub means : Means pool row.form w.operands what
 
--- instructions one behind the other, the first at this offset
+-- the bytes of consecutive instructions, the first at this offset
 abbrev pub code_bytes : ℕ → List (Written ℕ) → List ℕ
 code_bytes at [] = []
 code_bytes at (w ∷ others) = instruction_bytes at w ++ code_bytes (at + length (instruction_bytes at w)) others
 
--- they are these instructions, each of which stands where the one before it ends
+-- they are these instructions, each at the offset at which the one before it ends
 abbrev pub AreMeant : List Constant → ℕ → List (Written ℕ) → List (Instr ℤ) → Type 0
 AreMeant pool at [] steps = steps ≡ []
 AreMeant pool at (w ∷ others) [] = ⊥

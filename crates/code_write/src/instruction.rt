@@ -87,7 +87,7 @@ fn put_operands(out: &mut Vec<u8>, at: u32, operands: &Operands<u32>) -> Result<
     }
 }
 
-/// Puts the number of wide at the end, where the operands are those behind it.
+/// Appends the opcode of wide where the operands are those of a widened instruction.
 fn put_wide(out: &mut Vec<u8>, operands: &Operands<u32>) -> Result<(), AllocError>
     ensures ok { OnOk result (out.new.items ≡ out.old.items ++ wide_bytes operands.now) }
     ensures err { OnErr result (Keeps out.old.items out.new.items) }
@@ -112,8 +112,8 @@ fn put_bytes(out: &mut Vec<u8>, at: u32, written: &Written<u32>) -> Result<(), A
     Ok(())
 }
 
-/// Puts the bytes of an instruction at the end; its first byte stands at this offset in the code (JVMS 6.5). With
-/// [`PutRefusal::OutOfRange`] nothing was put, and without memory some of the bytes may have been.
+/// Appends the bytes of an instruction whose first byte is at this offset of the code (JVMS 6.5). After
+/// [`PutRefusal::OutOfRange`] nothing was put; when memory runs out, some of the bytes may have been.
 pub fn put_instruction(out: &mut Vec<u8>, at: u32, written: &Written<u32>) -> Result<(), PutRefusal>
     ensures ok { OnOk result (out.new.items ≡ out.old.items ++ instruction_bytes at written.now) }
     ensures in_range { OnOk result (IsInRange at written.now.operands) }

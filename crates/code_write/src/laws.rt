@@ -19,8 +19,8 @@ pub fn shapes_have_sizes()
     ensures { (at : ℕ) (w : Written ℕ) → length (instruction_bytes at w) ≡ size at (shape w.operands) }
 {}
 
-/// Instructions that are written one behind the other are laid out as their reader wants, and are a code array
-/// where the code has a right length and the targets are among the instructions.
+/// Instructions that are written one after the other are laid out as their reader wants, and are a code array
+/// where the length of the code is allowed and the targets are among the instructions.
 pub fn written_code_is_read()
     ensures laid { (pool : List Constant) (ws : List (Written ℕ)) (steps : List (Instr ℤ)) →
         AreMeant pool 0 ws steps → AreLaidOut pool (code_bytes 0 ws) 0 steps (length (code_bytes 0 ws)) }
@@ -31,7 +31,7 @@ pub fn written_code_is_read()
         IsCodeArray pool (code_bytes 0 ws) steps }
 {}
 
-/// Full frames that are written one behind the other, with their count before them, are the frames of that
+/// Full frames that are written one after the other, with their count before them, are the frames of that
 /// StackMapTable.
 pub fn written_frames_are_read()
     ensures { (pool : List Constant) (steps : List (Instr Target)) (locals : ℕ) (frames : List Placed) →

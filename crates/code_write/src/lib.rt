@@ -1,9 +1,8 @@
 //! Instructions and stack map frames as bytes (JVMS SE 8, 4.7.3, 4.7.4 and 6.5).
 //!
 //! The operands are numbers: a target is an offset, and a constant is an index of the pool. [`Shape`] says how
-//! many bytes an instruction takes before its targets are known, [`put_instruction`] puts its bytes behind
-//! others, and [`put_full_frame`] does so for a frame. What is written is what `code_steps` and `code_frames`
-//! read again.
+//! many bytes an instruction takes before its targets are known, [`put_instruction`] appends the bytes of an
+//! instruction, and [`put_full_frame`] those of a frame. `code_steps` and `code_frames` read back what is written.
 #![tactic(auto, using(crate::proofs::Kept::kept_behind, crate::proofs::Kept::kept_same))]
 
 mod frames;

@@ -23,14 +23,14 @@ pub enum Operands<T> {
     Index(u16),
     /// A local, of one byte.
     Local(u8),
-    /// A local, of two bytes: behind wide.
+    /// A local, of two bytes: after wide.
     WideLocal(u16),
     /// A local and what is added to it, of one byte each: iinc.
     Increment {
         local: u8,
         by: i8,
     },
-    /// The same, of two bytes each: iinc behind wide.
+    /// The same, of two bytes each: iinc after wide.
     WideIncrement {
         local: u16,
         by: i16,
@@ -87,7 +87,7 @@ impl<T> Operands<T> {
 /// An instruction as it is written.
 #[derive(Drop)]
 pub struct Written<T> {
-    /// Its number; behind wide that of the instruction which is widened.
+    /// Its opcode; after wide, that of the widened instruction.
     pub number: u8,
     pub operands: Operands<T>,
 }

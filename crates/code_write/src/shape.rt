@@ -4,14 +4,14 @@ ghost use Rattle.std.specs.Prelude.{◌≡◌};
 ghost use Rattle.code_steps.specs.Operands.{padding_of};
 ghost use Rattle.code_write.specs.Instruction.{size};
 
-/// What the size of an instruction depends on, beside the offset that it stands at.
+/// What the size of an instruction depends on, apart from its offset.
 #[derive(Clone, Copy)]
 pub enum Shape {
-    /// It has so many bytes at any offset, with the byte of wide before it.
+    /// It has this many bytes at any offset, counting the byte of a wide before it.
     Fixed(u8),
-    /// A tableswitch with so many targets beside the default one.
+    /// A tableswitch with this many targets besides the default one.
     TableSwitch(u32),
-    /// A lookupswitch with so many cases.
+    /// A lookupswitch with this many cases.
     LookupSwitch(u32),
 }
 
@@ -29,7 +29,7 @@ impl Shape {
     }
 }
 
-/// How many bytes stand between the number of a switch and the next offset that is a multiple of 4.
+/// How many bytes lie between the opcode of a switch at this offset and the next offset that is a multiple of 4.
 fn padding_at(at: u32) -> u64
     ensures { result ≡ padding_of at }
 {

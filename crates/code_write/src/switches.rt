@@ -65,7 +65,7 @@ fn put_each_case(out: &mut Vec<u8>, at: u32, cases: &[Case<u32>]) -> Result<(), 
     Ok(())
 }
 
-/// Puts the zeros at the end that stand behind the number of a switch at this offset.
+/// Appends the zeros that follow the opcode of a switch at this offset.
 fn put_padding(out: &mut Vec<u8>, at: u32) -> Result<(), AllocError>
     ensures ok { OnOk result (out.new.items ≡ out.old.items ++ padding_bytes at) }
     ensures err { OnErr result (Keeps out.old.items out.new.items) }

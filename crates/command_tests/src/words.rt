@@ -339,7 +339,7 @@ fn what_these_words_ask_for_is_not_carried_out(rt: HostRuntime) -> Result<(), Fa
     Ok(())
 }
 
-/// How many items an order that is so many times `1*1` has, where its words ask for something.
+/// How many items an order of `count` times `1*1` has, where its words ask for something.
 fn items_of(alloc: Global, count: u32) -> Result<Option<usize>, Fail> {
     let mut option = String::from_str(alloc, "--order=1*1")?;
     for _ in 1..count {

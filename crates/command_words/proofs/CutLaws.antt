@@ -11,7 +11,7 @@ Parts = Option (List ℕ × List ℕ)
 abbrev pub after_byte : ℕ → Parts → Parts
 after_byte b parts = option_map (λ p. (b ∷ p.0, p.1)) parts
 
--- what stands before a place and behind it, where it is inside
+-- what comes before a place and after it, where it is inside
 abbrev pub parts_at : ℕ → List ℕ → Bool → Parts
 parts_at at text t = option_map (λ at. (take at text, drop (at + 1) text)) (cond t (Some at) None)
 
@@ -61,7 +61,7 @@ pub pieces-cut : (byte : ℕ) (text : List ℕ) → pieces byte text ≡ pieces_
 pieces-cut byte [] = refl
 pieces-cut byte (b ∷ text) = first-byte byte b text (b == byte) refl (pieces-cut byte text)
 
--- what is left behind a cut is shorter
+-- what is left after a cut is shorter
 abbrev pub IsShorter : List ℕ → Parts → Type 0
 IsShorter text None = Unit {0}
 IsShorter text (Some p) = length p.1 < length text

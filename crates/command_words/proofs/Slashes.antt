@@ -1,4 +1,4 @@
--- A text stays one where slashes stand for its dots.
+-- A text is still UTF-8 after slashes have replaced its dots.
 use Rattle.std.proofs.Common.{◌≡◌, ℕ, ◌<◌, ◌≤◌, Bool, true, false, List, cond, refl, arith}
 use Rattle.std.specs.Prelude.{◌==◌}
 use Rattle.std.proofs.lemmas.Bool.Decides.{nat_tests}

@@ -34,7 +34,7 @@ command_named word =
     else if bytes_eq word (codes "load") then Some commands.Load
     else None
 
--- the options of a schedule, which tell whose turns come when
+-- the options of a schedule, which decide whose turns come when
 abbrev pub is_of_schedule : CommandOption → Bool
 is_of_schedule (options.Number Seed n) = true
 is_of_schedule (options.Order order) = true
@@ -89,7 +89,7 @@ program_request word dir name written =
     then option_and_then (λ command. command_request command dir name written) (command_named word)
     else None
 
--- a command that stands alone
+-- a command that is a single word
 abbrev pub lone_request : List ℕ → Option Request
 lone_request word =
     if bytes_eq word (codes "make") then Some Make

@@ -71,7 +71,7 @@ abbrev pub numbered_option : List ℕ → List ℕ → Option CommandOption
 numbered_option name value =
     option_and_then (λ o. option_map (λ n. Number o n) (number_between (least o) (most o) value)) (number_option name)
 
--- what a name and the text behind the equals sign say
+-- what a name and the text after the equals sign mean
 abbrev pub valued_option : List ℕ → List ℕ → Option CommandOption
 valued_option name value =
     if bytes_eq name (codes "--order")

@@ -57,7 +57,7 @@ pub enum Request {
     },
     /// Makes a class file of the text on the standard input.
     Make,
-    /// Executes a program that a number stands for, twice.
+    /// Executes the program that a number stands for, twice.
     Stress {
         number: u64,
     },

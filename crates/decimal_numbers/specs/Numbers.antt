@@ -14,7 +14,7 @@ abbrev pub digits_value : ℕ → List ℕ → ℕ
 digits_value n [] = n
 digits_value n (b ∷ bytes) = digits_value (n * 10 + (b - 48)) bytes
 
--- whether a number may begin so: a zero stands alone
+-- whether a number may begin so: with a zero only where that is its one digit
 abbrev pub has_no_leading_zero : List ℕ → Bool
 has_no_leading_zero [] = false
 has_no_leading_zero (b ∷ []) = true

@@ -44,7 +44,7 @@ pub fn number_up_to(limit: u64, bytes: &[u8]) -> Option<u64>
     }
 }
 
-/// The number below zero whose digits stand behind the sign.
+/// The number below zero whose digits follow the sign.
 fn negative(number: u64) -> Option<i64>
     requires { number ≤ 2 ^ 63 }
     ensures { result ≡ negative number }

@@ -117,7 +117,7 @@ seen_deeper kept f fs size below end depth (s ∷ ss) within are =
     let others = seen_deeper kept f fs size below s.from s.depth ss at are.4 in
     simp (first, others) refl
 
--- other kept words behind those of the saves
+-- other kept words after those of the saves
 pub kept_same : (kept other : List ℕ) (size : ℕ) (end : ℕ) (s : Save) → IsPlaced size s.here → s.from + (s.here.top - s.here.base) ≤ end → take end kept ≡ take end other → kept_frame kept s ≡ kept_frame other s
 kept_same kept other size end s placed within same =
     let locals = cut_same kept other end s.from (s.here.floor - s.here.base) same (omega (arith, placed.base, placed.floor, within)) in

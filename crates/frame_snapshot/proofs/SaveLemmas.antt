@@ -174,7 +174,7 @@ unsaved_shallower K fs size c es end (s ∷ ss) count none are =
     let shallow : s.depth ≤ length es = grind (arith, nat_tests, count, are.2) in
     (are.0, are.1, shallow, are.3, are.4)
 
--- ---- lists from behind
+-- ---- lists from the end
 
 pub drop-reverse : {X : Type 0} (xs : List X) (d : ℕ) → reverse (take d xs) ≡ drop (length (reverse xs) - d) (reverse xs)
 drop-reverse xs d =

@@ -1,4 +1,4 @@
--- A cut of a row of words, behind a write of one word.
+-- A part of a row of words, after a write of one word.
 use Rattle.std.proofs.Common.{◌≡◌, ℕ, ◌+◌, ◌-◌, ◌<◌, ◌≤◌, List, [], ◌∷◌, length, take, drop, set, reverse, get_or, sym, ◌∙◌, ap, arith, length-drop}
 use Rattle.std.proofs.lemmas.List.{take-set-le, drop-set-lt, drop-set-add, take_more, reverse-append}
 use Rattle.std.proofs.Math.Seq.{take-set-lt}

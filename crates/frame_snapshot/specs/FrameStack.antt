@@ -6,7 +6,7 @@ use Rattle.frame_snapshot.specs.declared.stage.FrameStage.{FrameStage}
 use Rattle.frame_snapshot.specs.declared.stage.FrameStage.TheVariants.{Begun}
 use Rattle.frame_snapshot.specs.declared.frames.NewFrame.{NewFrame}
 
--- a frame; the top of the operand stack stands first
+-- a frame; the top of the operand stack comes first
 pub record Frame : Type 0 where
   pub method : MethodId
   -- the number of the instruction
@@ -89,7 +89,7 @@ with_call s call = record {
   saves = s.saves;
 }
 
--- the nearest of some frames has room for so many words
+-- how many words the nearest of some frames has room for
 abbrev pub nearest_room : List Frame → ℕ
 nearest_room [] = 0
 nearest_room (f ∷ fs) = f.free

@@ -52,14 +52,14 @@ frames_over words here below saves kept = record {
 abbrev pub frames_of : Inside → FrameStack
 frames_of x = frames_over x.words.items x.here (reverse x.below.items) (reverse x.saves.items) x.kept.items
 
--- the places of a frame, in so many words
+-- the places of a frame are in order, within `size` words
 pub record IsPlaced (size : ℕ) (e : Activation) : Type 0 where
   pub base : e.base ≤ e.floor
   pub floor : e.floor ≤ e.top
   pub top : e.top ≤ e.limit
   pub limit : e.limit ≤ size
 
--- frames lie one behind another, the nearest first, and the nearest ends at a place or before
+-- frames lie one below the other, the nearest first, which ends at a place or before it
 abbrev pub LieBelow : ℕ → ℕ → List Activation → Type 0
 LieBelow size end [] = Unit {0}
 LieBelow size end (e ∷ es) = IsPlaced size e × (e.top ≤ end) × LieBelow size e.base es

@@ -17,7 +17,7 @@ pub struct Activation {
     pub limit: usize,
 }
 
-/// A copy of the top frame: its words begin at a place of the kept words, and so many frames lay below it.
+/// A copy of the top frame: its words begin at the place `from` of the kept words, and `depth` frames lay below it.
 #[derive(Clone, Copy)]
 pub struct Save {
     pub here: Activation,

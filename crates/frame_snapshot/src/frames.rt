@@ -46,7 +46,7 @@ pub struct NewFrame {
     pub max_locals: u16,
     /// The most words that the operand stack may have.
     pub max_stack: u16,
-    /// Where the caller stands while the call goes on.
+    /// Where the caller is in its instruction while the call goes on.
     pub caller: FrameStage,
 }
 
@@ -160,7 +160,7 @@ impl Frames {
         self.here.step
     }
 
-    /// Where the top frame stands inside its instruction.
+    /// Where the top frame is inside its instruction.
     #[inline(always)]
     pub fn stage(&self) -> FrameStage
         ensures { result ≡ self.now.here.stage }
@@ -183,7 +183,7 @@ impl Frames {
         self.here.monitor
     }
 
-    /// Whether the operand stack has so many words.
+    /// Whether the operand stack has at least `count` words.
     #[inline(always)]
     pub fn has(&self, count: usize) -> bool
         ensures { IsTrue result ↔ (count ≤ length self.now.here.stack) }
@@ -199,7 +199,7 @@ impl Frames {
         self.here.top - self.here.floor
     }
 
-    /// Whether the operand stack has room for so many words more.
+    /// Whether the operand stack has room for `count` more words.
     #[inline(always)]
     pub fn has_room(&self, count: usize) -> bool
         ensures { IsTrue result ↔ (count ≤ self.now.here.free) }
@@ -215,7 +215,7 @@ impl Frames {
         local < self.here.floor - self.here.base
     }
 
-    /// The word that lies so many words below the top of the stack.
+    /// The word that lies `depth` words below the top of the stack.
     #[inline(always)]
     pub fn word(&self, depth: usize) -> u32
         requires { depth < length self.now.here.stack }
@@ -269,7 +269,7 @@ impl Frames {
         self.words[at]
     }
 
-    /// Takes so many words off the stack, which must have them.
+    /// Takes `count` words off the stack, which must have them.
     #[inline(always)]
     pub fn drop_words(&mut self, count: usize)
         requires { count ≤ length self.old.here.stack }
@@ -354,8 +354,8 @@ impl Frames {
         !self.below.is_empty()
     }
 
-    /// Ends the top frame, which has a caller and was on top at no save: so many words of its stack's top, which its
-    /// caller has room for, go onto the caller's stack. Takes no memory.
+    /// Ends the top frame, which has a caller and was on top at no save. The top `words` words of its stack go onto the
+    /// caller's stack, which has room for them. Takes no memory.
     pub fn pop(&mut self, words: usize)
         requires caller { 0 < length self.old.below }
         requires words { words ≤ length self.old.here.stack }

@@ -54,7 +54,7 @@ pub fn append_cut(
     kept.extend_from_slice(&words[from..to])
 }
 
-/// Copies so many kept words to a place.
+/// Copies `count` kept words to a place.
 pub fn put_back(words: &mut [u32], to: usize, kept: &[u32], from: usize, count: usize)
     requires inside { to + count ≤ length words.old }
     requires kept { from + count ≤ length kept.now }

@@ -1,4 +1,4 @@
-//! Where a frame stands inside its instruction.
+//! Where a frame is inside its instruction.
 
 use crate::todo::{Todo, Value};
 
@@ -16,7 +16,7 @@ pub struct CallSite {
     pub operands: u16,
 }
 
-/// How a frame ends, behind the exit of its monitor.
+/// How a frame ends, after the exit of its monitor.
 #[derive(Clone, Copy)]
 pub enum FrameEnd {
     /// It returns a value.
@@ -27,7 +27,7 @@ pub enum FrameEnd {
     Broke,
 }
 
-/// Where a frame stands inside its instruction.
+/// Where a frame is inside its instruction.
 #[derive(Clone, Copy)]
 pub enum FrameStage {
     /// At the instruction's beginning.

@@ -14,11 +14,11 @@ pub enum Appended {
 /// What the method does, with its operands.
 #[derive(Clone, Copy)]
 pub enum TextJob {
-    /// Tells the length of a String.
+    /// Returns the length of a String.
     Lengthens(u32),
-    /// Tells the char of a String at an index.
+    /// Returns the char of a String at an index.
     Picks { string: u32, index: u32 },
-    /// Tells whether another object, which isn't null, is a String with the same text.
+    /// Says whether another object, which isn't null, is a String with the same text.
     Matches { string: u32, other: u32 },
     /// Joins a String and another one, which isn't null.
     Joins { string: u32, other: u32 },
@@ -26,7 +26,7 @@ pub enum TextJob {
     Copies { builder: u32, string: u32 },
     /// Appends to a builder.
     Extends { builder: u32, appended: Appended },
-    /// Tells the length of a builder's text.
+    /// Returns the length of a builder's text.
     Measures(u32),
     /// Makes a String of a builder's text.
     Tells(u32),

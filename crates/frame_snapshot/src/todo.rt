@@ -128,7 +128,7 @@ pub enum Then {
     },
     /// The number of a literal's text is known, which is printed.
     PrintsText(CallSite),
-    /// The priority of the current thread was read for a new thread, whose target is written behind it if it has one.
+    /// The priority of the current thread was read for a new thread. If there is a target, it is written afterwards.
     Inherits {
         site: CallSite,
         thread: u32,

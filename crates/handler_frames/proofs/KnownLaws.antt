@@ -270,7 +270,7 @@ one_begins old new next step at spans active begun locals since held limit = rec
   limit = limit;
 }
 
--- where one begins behind an instruction, so do all that follow
+-- where one span begins after an instruction, so do all that follow
 pub rest_behind : (spans : List Span) (begun step : ℕ) (next : Span) → IsNonDecreasingBy (λ (s : Span). s.first) spans → slice_get spans begun ≡ Some next → step < next.first → BeginBehind spans begun step
 rest_behind spans begun step next sorted at behind j d from inside =
     let first : get_or spans begun d ≡ next = get_or_from_slice_get spans begun next d at in

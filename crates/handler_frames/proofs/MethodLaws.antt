@@ -57,7 +57,7 @@ module _ (classes : Hierarchy) (operands : ℕ → Operand) (old : FrameStores) 
       none_taken [] = refl
       none_taken (h ∷ hs) = refl
 
-  -- what the next handler is told of, as of all
+  -- the handlers up to the next one have the same fault in the frame as it is now
   pub next_told : (now : FrameStores) (i : ℕ) (d : Handler) → Checking classes operands old now method step frame i → i < length method.handlers.now
       → (env : Environment) → env.hierarchy ≡ classes → AreHandlersOf env old operands method
       → handlers_fault env step (shown old frame) (map (typed_handler operands) (take (i + 1) method.handlers.now)) ≡ handlers_fault env step (shown now frame) (typed_handler operands (get_or method.handlers.now i d) ∷ [])

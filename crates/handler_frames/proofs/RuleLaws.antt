@@ -148,7 +148,7 @@ module _ (env : Environment) (k : ℕ) (f : TypeFrame) where
         | inr other ↦ absurd (omega (arith, other.1, below))
       ]
 
--- what is told of the first of two faults is told of both
+-- what an error says of the first of two faults it says of both
 pub told_first : (X Y : Type 0) (e : CheckStop) (a rest : Option VerifyKind) → Tells {X = X} (Err e) a → Tells {X = Y} (Err e) (a or_else rest)
 told_first X Y NoMemory a rest told = tt
 told_first X Y (At kind) a rest told = ap (λ x. x or_else rest) told

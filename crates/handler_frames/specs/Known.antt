@@ -18,7 +18,7 @@ use Rattle.handler_frames.specs.Spans.{AreListed, StandsFor}
 abbrev pub GoTo : Hierarchy → FrameStores → Words → Words → Type 0
 GoTo h stores low high = are_locals_assignable h (shown_locals stores low) (shown_locals stores high) ≡ true
 
--- .. and to those of the first so many spans
+-- .. and to those of the first `count` spans
 abbrev pub GoToFirst : Hierarchy → FrameStores → Words → List Span → ℕ → Type 0
 GoToFirst h stores locals spans count =
     (j : ℕ) (d : Span) → j < count → GoTo h stores locals (slice_index_or spans j d).locals
@@ -28,7 +28,7 @@ pub record AreFixedLocals (stores : FrameStores) (words : Words) : Type 0 where
   pub fixed : IsFixed stores.locals words
   pub end : EndsBy (word_at stores.locals words) stores.locals.most
 
--- .. and go to those of the first so many active spans
+-- .. and go to those of the first `held` active spans
 pub record AreHeld (h : Hierarchy) (stores : FrameStores) (active : List Span) (locals : Words) (held : ℕ) : Type 0 where
   pub there : AreFixedLocals stores locals
   pub inside : held ≤ length active
@@ -38,8 +38,8 @@ pub record AreHeld (h : Hierarchy) (stores : FrameStores) (active : List Span) (
 abbrev pub AreStill : FrameStores → CoveringHandlers → Type 0
 AreStill stores known = stores.locals.given_back ≡ known.since
 
--- What is known of handlers is of these stores and classes: spans by their first instructions, whose lists are kept, and,
--- until lists are given back, locals that go to the first so many of the active ones.
+-- What is known of handlers is of these stores and classes: the spans are ordered by their first instructions, their
+-- lists are kept, and, until lists are given back, the known locals go to the first `known.held` of the active spans.
 pub record FitsStores (h : Hierarchy) (stores : FrameStores) (known : CoveringHandlers) : Type 0 where
   pub sorted : IsNonDecreasingBy (λ (s : Span). s.first) known.spans.items
   pub listed : AreListed stores known.spans.items
@@ -61,14 +61,14 @@ IsFrom spans begun s = (j : ℕ) × (begun ≤ j) × (j < length spans) × (slic
 abbrev pub IsSeen : List Span → ℕ → List Span → ℕ → Span → Type 0
 IsSeen spans begun active step s = IsFrom spans begun s ⊎ (Contains active s ⊎ (s.end ≤ step))
 
--- Before an instruction: one of the spans that have yet to begin, are active, or have ended stands for each handler, but
--- for those that cover no instruction before the limit.
+-- Before an instruction: each handler that covers an instruction before the limit has a span that stands for it, which
+-- has yet to begin, is active, or has ended.
 abbrev pub KnowsHandlers : FrameStores → CoveringHandlers → Environment → ℕ → Type 0
 KnowsHandlers stores known env step =
     (h : TypedHandler) → Contains env.handlers h
     → (known.limit ≤ h.first) ⊎ ((s : Span) × StandsFor env stores h s × IsSeen known.spans.items known.begun known.active.items step s)
 
--- the spans from a number on begin behind an instruction
+-- the spans from a number on begin after an instruction
 abbrev pub BeginBehind : List Span → ℕ → ℕ → Type 0
 BeginBehind spans begun step = (j : ℕ) (d : Span) → begun ≤ j → j < length spans → step < (slice_index_or spans j d).first
 

@@ -22,7 +22,7 @@ pub record StandsFor (env : Environment) (stores : FrameStores) (h : TypedHandle
   pub locals : AreLocals stores s.locals
   pub takes : TakesLocals env h stores.locals.most (shown_locals stores s.locals)
 
--- a span stands for each handler, but for those that cover no instruction before the limit
+-- each handler that covers an instruction before the limit has a span that stands for it
 abbrev pub FindsSpans : Environment → FrameStores → List TypedHandler → ℕ → List Span → Type 0
 FindsSpans env stores handlers limit spans =
     (h : TypedHandler) → Contains handlers h → (limit ≤ h.first) ⊎ ((s : Span) × Contains spans s × StandsFor env stores h s)

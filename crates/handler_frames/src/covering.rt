@@ -85,7 +85,7 @@ impl CoveringHandlers {
         self.spans.get(self.begun).copied()
     }
 
-    // Lets the next span begin, if it begins by an instruction, and tells whether it does.
+    // Lets the next span begin, if it begins by an instruction, and returns whether it does.
     fn begin_next(&mut self, step: u32) -> Result<bool, AllocError>
         ensures goes { IfOk result (λ _. GoesOn self.old self.new step) }
         ensures more { IfOk result (λ b. b ≡ true → (self.new.spans.items ≡ self.old.spans.items) × (self.new.begun ≡ self.old.begun + 1) × (self.new.begun ≤ length self.old.spans.items)) }
@@ -325,9 +325,9 @@ impl CoveringHandlers {
     }
 
     /// Checks that each handler that covers an instruction takes the frame there: the object of a constructor is
-    /// initialized, a map frame stands at the handler's entry to which the locals and what is caught are assignable, and
-    /// that is a Throwable (JVMS 4.10.1.6). It is asked once at each instruction, from the first one on. All frames stay
-    /// as they are, also after an error.
+    /// initialized, there is a map frame at the handler's entry, the locals and what is caught are assignable to it,
+    /// and what is caught is a Throwable (JVMS 4.10.1.6). The check is made once at each instruction, from the first
+    /// one on. All frames stay as they are, also after an error.
     ///
     /// # Errors
     ///

@@ -23,7 +23,7 @@ fn sort_by_first(spans: &mut Vec<Span>)
     spans.sort_unstable_by_key(|span| span.first);
 }
 
-// Puts a span behind the others, or joins it with the last one.
+// Appends a span to the others, or joins it with the last one.
 fn add_span(spans: &mut Vec<Span>, span: Span) -> Result<(), AllocError>
     ensures others { IfOk result (λ _. AreWithin spans.old.items spans.new.items) }
     ensures added { IfOk result (λ _. AreWithin (span ∷ []) spans.new.items) }

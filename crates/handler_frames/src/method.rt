@@ -1,4 +1,4 @@
-//! What the handlers of a method are told by.
+//! What describes the handlers of a method.
 
 use code_decode::Handler;
 use code_frames::Frames;

@@ -77,7 +77,7 @@ fn takes_locals<H: ClassHierarchy>(
         .are_assignable(hierarchy, frame.locals, map.locals)
 }
 
-// Checks that a handler takes a frame, where this map frame stands at its entry.
+// Checks that a handler takes a frame, where this is the map frame at its entry.
 fn check_handler<H: ClassHierarchy>(
     stores: &mut FrameStores,
     hierarchy: &H,

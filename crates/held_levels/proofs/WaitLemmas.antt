@@ -1,4 +1,4 @@
--- Where a wait is noted.
+-- Where the step that records a wait is made.
 use Rattle.std.proofs.Common.{◌≡◌, ℕ, ◌<◌, ◌≤◌, true, false, List, [], ◌∷◌, nat_eq, sym, subst, arith}
 use Rattle.std.specs.Prelude.{nat_lt}
 use Rattle.std.proofs.lemmas.Grind.{common_steps}
@@ -63,7 +63,7 @@ undo_waits_none s w [] (h ∷ deepened) taken is = is
 undo_waits_none s w [] [] (h ∷ taken) is = is
 undo_waits_none s w [] [] [] is = is
 
--- a wait is noted where that was fixed
+-- a thread records a wait where that step was fixed
 pub set_wait : {S : Type 0} (code : Code S) (th : ThreadState S) (q w n : ℕ) (g : Attempt) → move_of code th (Want (Wait q)) g ≡ Make (SetWait n w) → IsWaitStep g (Want (Wait q))
 set_wait code th q w n g makes = by_kind g makes
   where

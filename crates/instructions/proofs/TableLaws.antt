@@ -63,7 +63,7 @@ map-flat : {X Y : Type 0} (f : X → Y) (o : Option (Option X)) → option_map f
 map-flat f None = refl
 map-flat f (Some o) = refl
 
--- the row that stands at a number's place is the number's
+-- the row at a number's place is the number's
 pub shown-at : (rows : List (Option Row)) (n : ℕ) → map (option_map shown_row) rows ≡ numbered_rows → option_map shown_row (option_flatten (slice_get rows n)) ≡ row_numbered n
 shown-at rows n same =
     map-flat shown_row (slice_get rows n)
@@ -88,6 +88,6 @@ shown-named rows m same =
     ∙ ap (λ xs. find (λ i. bytes_eq i.mnemonic m) (filter_map (λ o. o) xs)) same
     ∙ ap (find (λ i. bytes_eq i.mnemonic m)) (present refl)
 
--- the first row of a mnemonic, where another one or no row stands in front
+-- the first row of a mnemonic from a place on: the row there, if there is one, is looked at before the rest
 pub first_named-next : (m : List ℕ) (rows : List (Option Row)) (i : ℕ) (o : Option Row) → i < length rows → o ≡ get_or rows i o → first_named m (o ∷ drop (i + 1) rows) ≡ first_named m (drop i rows)
 first_named-next m rows i o within is = rw (add-one, drop-cons rows i o within, ← is) refl

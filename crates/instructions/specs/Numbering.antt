@@ -3,7 +3,7 @@ use Rattle.std.specs.Prelude.{◌≡◌, ℕ, ◌==◌, List, Option, slice_get}
 use Rattle.std.specs.List.{position_from}
 use Rattle.std.specs.Option.{option_flatten}
 
--- the number of each key stands at it, and nothing stands elsewhere
+-- at each key is its number, and there is nothing elsewhere
 abbrev pub AreNumbersOf : List ℕ → List (Option ℕ) → Type 0
 AreNumbersOf keys numbers =
     (at : ℕ) → option_flatten (slice_get numbers at) ≡ position_from (λ k. k == at) 0 keys

@@ -12,7 +12,7 @@ targets_of (whats.TableSwitch default low targets) = default ∷ targets
 targets_of (whats.LookupSwitch default cases) = default ∷ map (λ c. c.target) cases
 targets_of _ = []
 
--- whether the next instruction may follow: not behind a goto, a switch, a return or an athrow
+-- whether control may fall through to the next instruction: not after a goto, a switch, a return or an athrow
 abbrev pub falls_through : {T : Type 0} → What T → Bool
 falls_through (whats.Plain (plain.Return value)) = false
 falls_through (whats.Plain plain.Throw) = false

@@ -9,7 +9,7 @@ use std::alloc::{AllocError, Global};
 use std::marker::Model;
 
 /// Keys in order, each of which has its number, from 0, and is found by a table: the offsets of instructions, or
-/// the instructions at which stack map frames stand. Contracts see the list of the keys.
+/// the instructions at which there are stack map frames. Contracts see the list of the keys.
 #[derive(Drop)]
 pub struct Numbering {
     keys: Vec<u32>,
@@ -60,7 +60,7 @@ impl Numbering {
         at(&self.numbers, key as usize)
     }
 
-    /// Puts a key behind the others. An error leaves them as they were.
+    /// Appends a key to the others. An error leaves them as they were.
     pub fn push(&mut self, key: u32) -> Result<(), AllocError>
         requires count { length self.old < 2 ^ 32 }
         requires apart { All (λ k. k ≢ key) self.old }

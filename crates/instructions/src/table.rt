@@ -536,7 +536,7 @@ fn rows() -> &'static [Option<Row>]
     &TABLE
 }
 
-/// What stands at an index, if anything does.
+/// The item at an index, if there is one.
 pub fn at<T: Copy>(items: &[Option<T>], index: usize) -> Option<T>
     ensures { result ≡ option_flatten (slice_get items.now index) }
 {

@@ -63,7 +63,7 @@ pub enum What<T> {
 }
 
 impl<T> What<T> {
-    /// Whether the next instruction may follow: not behind a goto, a switch, a return or an athrow.
+    /// Whether control may fall through to the next instruction: not after a goto, a switch, a return or an athrow.
     pub fn falls_through(&self) -> bool
         ensures { result ≡ falls_through self.now }
     {
@@ -92,12 +92,12 @@ impl<T> What<T> {
     }
 }
 
-/// An instruction where it stands.
+/// An instruction at its place in the code.
 #[derive(Drop)]
 pub struct Instr<T> {
     /// The offset of its first byte.
     pub at: u32,
-    /// The offset behind its last byte.
+    /// The offset after its last byte.
     pub next: u32,
     pub what: What<T>,
 }

@@ -79,7 +79,7 @@ use_by_stack : (f : Frame) (caller : Caller) (stack rest : List ℕ) → after_c
 use_by_stack f Instruction stack rest = refl
 use_by_stack f Launch stack rest = refl
 
--- how the caller goes on behind a call doesn't depend on the arguments
+-- how the caller goes on after a call doesn't depend on the arguments
 pub paused_waits : (us : List ClassUnit) (me : ℕ) (f : StackFrame) (call : MethodCall) (caller : Caller) → call.arguments ≤ length f.stack
     → waiting us me (frame_of (paused f call)) (stages.Calls caller) ≡ after_call (use_by (frame_of f) caller (drop call.arguments f.stack))
 paused_waits us me f call caller within =

@@ -10,7 +10,7 @@ use Rattle.java_rows.specs.Plan.{Frame, at_step, stuck}
 use Rattle.java_rows.specs.Thread.{first_frame, frame_of_code, begun, begun_first}
 use Rattle.interp_calls.specs.Local.{room_for, room_in}
 
--- the frame of a method with so many words of locals, and a stack of so many
+-- the frame of a method with room for `room.0` words of locals and `room.1` words of stack
 abbrev first : MethodId → List ℕ → ℕ → ℕ × ℕ → Frame
 first id args monitor room = record {
   method = id;

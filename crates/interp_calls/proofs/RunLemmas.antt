@@ -64,7 +64,7 @@ steps_stay us old new stays = ap (steps_of us) (sym stays.method)
 some_same : {A : Type 0} {x y : A} → Some x ≡ Some y → x ≡ y
 some_same is = search
 
--- so many local steps are so many quiet steps
+-- n local steps are n quiet steps
 pub run_quiet : (us : List ClassUnit) (me : ℕ) (n : ℕ) (old new : FrameStack) → old.here.stage ≡ Begun → frame_count old ≤ 1024
     → IsLocalRun us (steps_of us old.here.method) n old new → quiet_steps java_code n (local_of us me old) ≡ Some (local_of us me new)
 run_quiet us me zero old new is few run = ap (λ (s : FrameStack). Some (local_of us me s)) (sym run)

@@ -72,7 +72,7 @@ paused f call = record f {
   free = f.free + call.arguments;
 }
 
--- the words of the locals and of the stack of a method's frame, which has so many arguments
+-- the words of the locals and of the stack of a method's frame, which has this number of argument words
 abbrev pub room_in : ℕ → Code → Option (ℕ × ℕ)
 room_in arguments code =
     if nat_le arguments code.max_locals then Some (code.max_locals, code.max_stack) else None

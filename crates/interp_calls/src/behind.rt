@@ -1,4 +1,4 @@
-//! How the top frame goes on behind the reply to an operation.
+//! How the top frame goes on after the reply to an operation.
 
 ghost use Rattle.std.specs.Prelude.{◌≡◌};
 ghost use Rattle.interp_plans.specs.Replies.{then_of};
@@ -33,7 +33,7 @@ pub fn go_on_behind_any<P: JavaProgram>(
     apply(program, thread, frames, reached);
 }
 
-/// The same, with replies about fields and elements told apart first.
+/// The same, but replies about fields and elements are distinguished first.
 #[inline(always)]
 pub fn go_on_behind<P: JavaProgram>(
     program: &P,

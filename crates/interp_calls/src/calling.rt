@@ -21,12 +21,12 @@ pub struct MethodCall {
     pub arguments: u16,
     /// The object whose monitor was entered for it, or 0.
     pub monitor: u32,
-    /// Where the caller stands meanwhile.
+    /// Where the caller is in its instruction meanwhile.
     pub caller: FrameStage,
 }
 
-// The words of the locals and of the stack of a method's frame that has so many arguments; none where it has no code or
-// too few locals.
+// The words of the locals and of the stack of the frame of a method with `arguments` words of arguments; none where the
+// method has no code or too few locals.
 fn room_of<P: JavaProgram>(program: &P, method: MethodId, arguments: u16) -> Option<(u16, u16)>
     ensures { result ≡ room_for (P.units program.now) method arguments }
 {
@@ -38,7 +38,7 @@ fn room_of<P: JavaProgram>(program: &P, method: MethodId, arguments: u16) -> Opt
     }
 }
 
-/// Makes the frame of a method, whose arguments are on the stack of the top frame, which stands at a stage meanwhile.
+/// Makes the frame of a method. Its arguments are on the stack of the top frame, which is at `call.caller` meanwhile.
 /// `Full` comes exactly where there are 1,024 frames; after an error the frames are as before.
 #[tactic(auto, using(crate::proofs::CallLemmas::first_is, crate::proofs::CallLemmas::first_none))]
 pub fn call<P: JavaProgram>(

@@ -43,8 +43,8 @@ fn keep_next<P: JavaProgram>(
     }
 }
 
-/// Makes silent steps of instructions that need no operation, from the beginning of one on, at most so many, and answers how many. What the instruction
-/// behind them wants is kept, so that it isn't found anew. Takes no memory.
+/// Makes at most `most` silent steps of instructions that need no operation, beginning at the start of an instruction,
+/// and returns how many it made. What the next instruction wants is kept, so that it isn't found anew. Takes no memory.
 pub fn run<P: JavaProgram>(program: &P, thread: u32, frames: &mut Frames, most: u64) -> u64
     requires { frames.old.here.stage ≡ FrameStage.Begun }
     ensures steps { quiet_steps java_code result (local_of (P.units program.now) thread frames.old) ≡ Some (local_of (P.units program.now) thread frames.new) }

@@ -1,4 +1,4 @@
--- Runs of local steps: one behind the other, and of one step at most.
+-- Runs of local steps: one run after another, and runs of at most one step.
 use Rattle.std.proofs.Common.{◌≡◌, ◌↔◌, ◌≤◌, ◌<◌, ◌+◌, ℕ, zero, suc, List, refl, sym, ap, subst, ◌∙◌, arith}
 use Rattle.code_decode.specs.declared.code.ClassUnit.{ClassUnit}
 use Rattle.instructions.specs.declared.what.Instr.{Instr}

@@ -1,4 +1,4 @@
--- Instructions told apart by one look, and what they make of a frame.
+-- Instructions that one look identifies, and what they make of a frame.
 use Rattle.std.specs.Prelude.{ℕ, suc, ◌∷◌, List, map, slice_get}
 use Rattle.std.specs.Int.{w32, cast_unsigned}
 use Rattle.code_decode.specs.declared.code.ClassUnit.{ClassUnit}

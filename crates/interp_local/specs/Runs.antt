@@ -13,7 +13,7 @@ pub record IsLocalStep (us : List ClassUnit) (steps : List (Instr Target)) (old 
   pub moved : local_now us steps old ≡ moves (frame_now new)
   pub local : IsLocal old new
 
--- so many such steps, one after the other
+-- n such steps, one after the other
 abbrev pub IsLocalRun : List ClassUnit → List (Instr Target) → ℕ → FrameStack → FrameStack → Type 0
 IsLocalRun us steps zero old new = new ≡ old
 IsLocalRun us steps (suc n) old new =

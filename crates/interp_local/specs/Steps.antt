@@ -21,7 +21,7 @@ row_at us f None = no_row
 abbrev pub local_now : List ClassUnit → List (Instr Target) → FrameStack → LocalRow
 local_now us steps s = row_at us (frame_now s) (slice_get steps s.here.step)
 
--- what a step came to, with the frames behind it
+-- what a step came to, with the frames after it
 abbrev pub outcome : LocalStep → FrameStack → LocalRow
 outcome Moved s = moves (frame_now s)
 outcome (Throw c) s = fails_by c
@@ -33,7 +33,7 @@ kind_of (moves f) = Moved
 kind_of (fails_by c) = Throw c
 kind_of no_row = Other
 
--- what no step changes: the frames below, the saves, the method, and where the frame stands inside its instruction
+-- what no step changes: the frames below, the saves, the method, and where the frame is inside its instruction
 pub record IsLocal (old new : FrameStack) : Type 0 where
   pub below : new.below ≡ old.below
   pub saves : new.saves ≡ old.saves

@@ -42,12 +42,12 @@ impl Words {
 /// What an instruction that needs no operation does.
 #[derive(Clone, Copy)]
 pub enum Effect {
-    /// So many words are taken off the stack, and these are pushed.
+    /// `taken` words are taken off the stack, and `words` are pushed.
     Leaves {
         taken: usize,
         words: Words,
     },
-    /// So many words are taken off the stack, and a local has another word.
+    /// `taken` words are taken off the stack, and a local gets another word.
     Stores {
         taken: usize,
         local: usize,
@@ -59,7 +59,7 @@ pub enum Effect {
         low: u32,
         high: u32,
     },
-    /// So many words are taken off the stack, and another instruction follows.
+    /// `taken` words are taken off the stack, and another instruction follows.
     Jumps {
         taken: usize,
         step: u32,
@@ -84,7 +84,7 @@ impl Effect {
     }
 }
 
-/// So many words are taken off the stack, and these are pushed, if there is room.
+/// `taken` words are taken off the stack, and `words` are pushed, if there is room.
 #[inline(always)]
 pub fn leaves(frames: &Frames, taken: usize, words: Words) -> Effect
     requires { taken ≤ length frames.now.here.stack }

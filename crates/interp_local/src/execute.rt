@@ -1,4 +1,4 @@
-//! One instruction that one look tells, executed where it stands.
+//! Executes one instruction that one look identifies, in the top frame.
 
 ghost use Rattle.std.specs.Prelude.{◌≡◌, true, false, ◌≤◌, ◌<◌, ◌+◌, ◌++◌, ◌^◌, length, drop, slice_get};
 ghost use Rattle.instructions.specs.declared.operation.Test.{Test as tests};
@@ -21,7 +21,7 @@ use crate::quick::Quick;
 use frame_snapshot::Frames;
 use instructions::{Arithmetic, Condition, Shift};
 
-/// So many words are taken off the stack, and these are pushed, if there is room.
+/// `taken` words are taken off the stack, and `words` are pushed, if there is room.
 #[inline(always)]
 pub fn leave(frames: &mut Frames, taken: usize, words: Words) -> bool
     requires words { taken ≤ length frames.old.here.stack }
@@ -118,7 +118,7 @@ fn shift(frames: &mut Frames, op: Shift) -> bool
     }
 }
 
-/// So many words are taken off the stack, and a branch is taken or not.
+/// `taken` words are taken off the stack, and a branch is taken or not.
 #[inline(always)]
 pub fn jump_if(frames: &mut Frames, taken: usize, step: u32, holds: bool) -> bool
     requires words { taken ≤ length frames.old.here.stack }
@@ -162,8 +162,8 @@ fn branch_ints(frames: &mut Frames, condition: Condition, step: u32) -> bool
     }
 }
 
-/// Executes an instruction in the top frame, and says that it did. It doesn't where the instruction isn't told by one look,
-/// where an operand, a local or room is missing, and where a divisor is zero; then nothing is changed.
+/// Executes an instruction in the top frame, and returns whether it did. It doesn't where one look doesn't identify the
+/// instruction, where an operand, a local or room is missing, and where a divisor is zero; then nothing is changed.
 #[inline(always)]
 pub fn execute<P: Constants>(program: &P, quick: Quick, frames: &mut Frames) -> bool
     requires { frames.old.here.step + 1 < 2 ^ 64 }

@@ -1,4 +1,4 @@
-//! Instructions on longs, references and constants that one look tells, executed where they stand.
+//! Executes instructions on longs, references and constants that one look identifies, in the top frame.
 
 ghost use Rattle.std.specs.Prelude.{◌≡◌, true, false, ◌+◌, ◌<◌, ◌^◌, suc, slice_get, if◌then◌else◌};
 ghost use Rattle.std.specs.Option.{option_map};

@@ -1,7 +1,7 @@
 //! The instructions that need no operation (JVMS SE 8, 2.11.2 to 2.11.4, 2.11.6, 2.11.7, 6.5): what they make of the
 //! top frame of a thread.
 //!
-//! [`local_step`] executes one, [`look_ahead`] tells what it would come to, [`run_local`] executes many. None takes
+//! [`local_step`] executes one, [`look_ahead`] says what it would come to, [`run_local`] executes many. None takes
 //! memory, and nothing is copied or searched by name.
 #![tactic(auto)]
 

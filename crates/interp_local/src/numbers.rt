@@ -110,7 +110,7 @@ pub fn compare(condition: Condition, a: u32, b: u32) -> bool
     }
 }
 
-/// The int that tells how two longs compare.
+/// The int that says how two longs compare.
 #[inline(always)]
 pub fn compare_longs(a: u64, b: u64) -> u32
     ensures { result ≡ compared a b }

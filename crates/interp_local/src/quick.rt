@@ -1,4 +1,4 @@
-//! Instructions told apart by one look.
+//! Instructions that one look identifies.
 
 ghost use Rattle.std.specs.Prelude.{◌≡◌, IfOk};
 ghost use Rattle.interp_local.specs.Quick.{quick_of, quicks_of, quick_arithmetic, quick_long_arithmetic, quick_shift, quick_long_shift, quick_plain, quick_local, quick_if, quick_if_ints, quick_branch};
@@ -9,8 +9,8 @@ use instructions::{
 };
 use std::alloc::{AllocError, Global};
 
-/// An instruction so small that one look tells it: on ints, longs, references and branches, where it needs no operation. A
-/// branch has the number of the instruction that it leads to.
+/// An instruction so small that one look identifies it: on ints, longs, references and branches, where it needs no
+/// operation. A branch has the number of the instruction that it leads to.
 #[derive(Clone, Copy)]
 pub enum Quick {
     /// An int or a reference of a local.

@@ -33,7 +33,7 @@ fn needs_operation(_steps: &[Instr<Target>], quicks: &[Quick], frames: &Frames) 
     matches!(quicks.get(frames.step()), None | Some(Quick::Operation))
 }
 
-// One step where one look tells the instruction. Says whether it was made.
+// Makes one step where one look identifies the instruction. Returns whether it was made.
 #[inline(always)]
 fn quick_step<P: Constants>(
     program: &P,
@@ -93,8 +93,8 @@ fn run_few<P: Constants>(
     most
 }
 
-// Steps that one look tells, of frames that are nowhere else meanwhile, so that the place of the top frame stays in
-// registers. Says how many.
+// Makes steps of instructions that one look identifies. Meanwhile the frames are nowhere else, so the place of the top
+// frame stays in registers. Returns how many steps were made.
 #[inline(never)]
 fn run_many<P: Constants>(
     program: &P,
@@ -133,7 +133,8 @@ fn run_taken<P: Constants>(
     made
 }
 
-// Steps that one look tells. Most runs are short, so the frames are taken out behind the first few steps. Says how many.
+// Makes steps of instructions that one look identifies. Most runs are short, so the frames are taken out only after the
+// first few steps. Returns how many steps were made.
 #[tactic(auto, using(crate::proofs::RunLemmas::runs_join))]
 fn run_quick<P: Constants>(
     program: &P,
@@ -163,7 +164,7 @@ fn step_apart<P: Constants>(program: &P, steps: &[Instr<Target>], frames: &mut F
     local_step(program, steps, frames)
 }
 
-// Such steps, and one behind them where that is told by no look. `Moved` where there may be more.
+// Makes such steps, and then one more where no look identifies its instruction. `Moved` where there may be more.
 #[tactic(auto, using(crate::proofs::RunLemmas::run_of_one, crate::proofs::RunLemmas::stop_is))]
 fn run_stretch<P: Constants>(
     program: &P,
@@ -202,7 +203,7 @@ fn run_stretch<P: Constants>(
     LocalRun { steps, stop }
 }
 
-/// Makes the steps that come next in the top frame, at most so many, each one what [`local_step`] makes, and says why
+/// Makes the steps that come next in the top frame, at most `most`, each one as [`local_step`] makes it, and says why
 /// it stopped. `quicks` are those of [`crate::make_quicks`]. Takes no memory.
 #[tactic(auto, using(crate::proofs::RunLemmas::runs_join))]
 pub fn run_local<P: Constants>(

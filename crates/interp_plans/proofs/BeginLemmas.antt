@@ -55,7 +55,7 @@ pub begun_other : (us : List ClassUnit) (me : ℕ) (s : FrameStack) (i : Instr T
 begun_other us me s i is kind = begun_is us me s.here i is
     ∙ other_for us me (frame_of s.here) i.what (local_row us (frame_of s.here) i.what s.here.stack) (sym (kind ∙ kind_at us s i is))
 
--- a place behind the end has no instruction
+-- a place past the end has no instruction
 pub begun_none : (us : List ClassUnit) (me : ℕ) (f : StackFrame) → slice_get (steps_of us f.method) f.step ≡ None
     → begun us me (frame_of f) ≡ stuck
 begun_none us me f none = has_room us me f ∙ ap (at_instruction us me (frame_of f)) none

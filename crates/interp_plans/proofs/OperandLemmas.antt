@@ -37,7 +37,7 @@ receiver_missing f words k lacks =
     let test : nat_le (suc words) (length f.stack) ≡ false = grind (arith, nat_tests) in
     ap (λ b. if b then by_receiver f (λ r args. k r args (drop (suc words) f.stack)) (reverse (take (suc words) f.stack)) else stuck) test
 
--- operands behind the end of the stack are none
+-- there are no operands past the end of the stack
 pub take_all : (s : List ℕ) (n : ℕ) → length s ≤ n → take (length s) s ≡ take n s
 take_all [] zero all = refl
 take_all [] (suc n) all = refl

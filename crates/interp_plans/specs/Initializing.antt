@@ -1,5 +1,5 @@
--- An instruction, or the launch of a thread, that stands inside the initialization of a class: the classes from the
--- named one upward have places from 0 (JVMS 5.5).
+-- An instruction, or the launch of a thread, that is initializing a class: the classes from the named one upward have
+-- places from 0 (JVMS 5.5).
 use Rattle.std.specs.Prelude.{ℕ, zero, suc, true, Option, None, Some, List, [], ◌∷◌, ◌++◌, slice_get, drop, take, reverse, option_and_then}
 use Rattle.std.specs.Option.{option_map_or}
 use Rattle.code_decode.specs.declared.code.ClassUnit.{ClassUnit}
@@ -54,7 +54,7 @@ initialized_class us f Launch = f.method.class
 abbrev pub chain_of : List ClassUnit → Frame → Caller → List ℕ
 chain_of us f caller = initialized_with us (initialized_class us f caller)
 
--- ---- what is executed behind it
+-- ---- what is executed after it
 
 abbrev pub made_behind : Frame → Option ℕ → Plan
 made_behind f (Some c) = makes c 0 (λ r. completes f (r ∷ f.stack))
@@ -101,7 +101,7 @@ abbrev pub behind : List ClassUnit → ℕ → Frame → Caller → Plan
 behind us me f Instruction = option_map_or (instruction_behind us me f) (instruction_at us f) stuck
 behind us me f Launch = invokes us me f.method (reverse (take 1 f.stack)) launch
 
--- ---- at a place of the chain, with what is behind it
+-- ---- at a place of the chain, with what comes after it
 
 -- a thrown object ends the initializations below the place, one after the other
 abbrev pub broken_at : List ClassUnit → Frame → Caller → List ℕ → ℕ → ℕ → ℕ → Plan

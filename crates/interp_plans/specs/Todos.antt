@@ -32,7 +32,7 @@ plan_of us me f (todos.Texts site job) =
 plan_of us me f todos.Over = over
 plan_of us me f todos.Stuck = stuck
 
--- ---- behind a reply or a silent step
+-- ---- after a reply or a silent step
 
 abbrev pub again_with : Frame → Caller → List ℕ → (ℕ → Plan) → Plan
 again_with f caller (r ∷ rest) plan = plan r

@@ -1,8 +1,8 @@
-//! Where a thread stands.
+//! Where a thread is.
 
 use frame_snapshot::Frames;
 
-/// Where a thread stands: its program, its own object, and its frames.
+/// Where a thread is: its program, its own object, and its frames.
 #[derive(Clone, Copy)]
 pub struct Here<'a, P> {
     pub program: &'a P,

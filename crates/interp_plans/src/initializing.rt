@@ -79,7 +79,7 @@ impl<'a, P: JavaProgram> Here<'a, P> {
             .initialized_with(self.initialized_class(caller), place)
     }
 
-    // ---- what is executed behind it
+    // ---- what is executed after it
 
     fn made_behind(&self, index: u16) -> Todo
         ensures { spec.made_behind (frame_of self.now.frames.now.here) (class_at (P.units self.now.program.now) self.now.frames.now.here.method.class index)

@@ -21,7 +21,7 @@ fn covers(step: usize, handler: &Handler) -> bool
 }
 
 impl<'a, P: JavaProgram> Here<'a, P> {
-    /// The frame ends, behind the exit of its monitor.
+    /// The frame ends, after the exit of its monitor.
     pub fn leave(&self, outcome: FrameEnd) -> Todo
         ensures { leaves (frame_of self.now.frames.now.here) (end_of outcome)
             ≡ plan_of (P.units self.now.program.now) self.now.thread (frame_of self.now.frames.now.here) result }

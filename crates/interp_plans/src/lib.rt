@@ -1,7 +1,7 @@
 //! What a Java thread does next where operations are needed, as data: [`Todo`](frame_snapshot::Todo) is what is left of
 //! an instruction, and `specs/Todos.antt` says which plan of `java_rows` it stands for.
 //!
-//! [`Here`] is where a thread stands. Its calls tell what is to be done; nothing is changed, and no memory is taken.
+//! [`Here`] is where a thread is. Its calls return what is to be done; nothing is changed, and no memory is taken.
 #![tactic(auto)]
 
 mod arrays;

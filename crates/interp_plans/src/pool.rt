@@ -88,7 +88,7 @@ impl<'a, P: JavaProgram> Here<'a, P> {
         }
     }
 
-    /// The instruction at which the frame stands, if there is one, given those of its method.
+    /// The instruction at which the frame is, if there is one, given the instructions of its method.
     #[inline(always)]
     pub fn instruction_among<'s>(&self, steps: &'s [Instr<Target>]) -> Option<&'s Instr<Target>>
         requires { steps.now ≡ steps_of (P.units self.now.program.now) self.now.frames.now.here.method }
@@ -98,7 +98,7 @@ impl<'a, P: JavaProgram> Here<'a, P> {
         steps.get(self.frames.step())
     }
 
-    /// The instruction at which the frame stands, if there is one.
+    /// The instruction at which the frame is, if there is one.
     pub fn instruction(&self) -> Option<&Instr<Target>>
         ensures { option_copied result
             ≡ slice_get (steps_of (P.units self.now.program.now) self.now.frames.now.here.method) self.now.frames.now.here.step }

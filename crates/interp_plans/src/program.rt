@@ -104,7 +104,7 @@ pub trait JavaProgram: Constants {
     fn literal_units(&self, string: u32) -> &[u16]
         ensures { result.now ≡ literal_units (Self.units self.now) string };
 
-    /// How many words a new object of a class has, with so many elements where it is an array.
+    /// How many words a new object of a class has, with `elements` elements where it is an array.
     fn words(&self, class: u32, elements: u32) -> u64
         ensures { result ≡ object_words (program_names (Self.units self.now)) class elements };
 }

@@ -7,7 +7,7 @@ use frame_snapshot::{Caller, Todo, Value};
 pub enum Reached {
     /// The instruction, or the launch of the thread, goes on.
     Goes(Todo),
-    /// The instruction is complete: so many words are taken off the stack, and those of a value are pushed.
+    /// The instruction is complete: `operands` words are taken off the stack, and those of a value are pushed.
     Completed { operands: u16, value: Value },
     /// An object of a class is thrown in the frame.
     Throws { object: u32, class: u32 },

@@ -15,7 +15,7 @@ use interp_local::{to_byte, to_char, to_short};
 use link_types::ValueType;
 use op_core::Op;
 
-/// A part of an instruction with so many operands.
+/// A part of an instruction with `count` operands.
 pub fn with_operands(count: u16) -> CallSite
     ensures { result ≡ record { caller = Caller.Instruction; operands = count } }
 {
@@ -39,7 +39,7 @@ pub fn kept_word(kind: ValueType, word: u32) -> u32
 }
 
 impl<'a, P: JavaProgram> Here<'a, P> {
-    /// A long is read from a place of an object, which takes the place of so many operands.
+    /// A long is read from a place of an object, and takes the place of `count` operands.
     pub fn read_long(&self, count: u16, object: u32, place: u32) -> Todo
         requires { place + 1 < 2 ^ 32 }
         ensures { reads_long object place (λ words. completes (frame_of self.now.frames.now.here) (words ++ drop count self.now.frames.now.here.stack))
@@ -53,7 +53,7 @@ impl<'a, P: JavaProgram> Here<'a, P> {
         Todo::Wants(Op::Read(object, place), then)
     }
 
-    /// A value of a type is read, which takes the place of so many operands.
+    /// A value of a type is read, and takes the place of `count` operands.
     pub fn read_value(&self, count: u16, kind: ValueType, object: u32, place: u32) -> Todo
         requires { place + 1 < 2 ^ 32 }
         ensures { reads_value kind object place (λ words. completes (frame_of self.now.frames.now.here) (words ++ drop count self.now.frames.now.here.stack))
@@ -65,7 +65,7 @@ impl<'a, P: JavaProgram> Here<'a, P> {
         }
     }
 
-    /// A long is written to a place of an object, which takes so many operands.
+    /// A long is written to a place of an object, which takes `count` operands off the stack.
     pub fn write_long(&self, count: u16, object: u32, place: u32, low: u32, high: u32) -> Todo
         requires { place + 1 < 2 ^ 32 }
         ensures { writes_long object place low high (completes (frame_of self.now.frames.now.here) (drop count self.now.frames.now.here.stack))

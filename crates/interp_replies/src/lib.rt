@@ -1,5 +1,5 @@
-//! How a Java thread goes on with the reply to an operation (JVMS 6.5): [`answer`] tells what is to be done then;
-//! [`read`], [`loads`] and others tell it of one way to go on.
+//! How a Java thread goes on with the reply to an operation (JVMS 6.5): [`answer`] returns what is to be done then;
+//! [`read`], [`loads`] and others return it for one way to go on.
 #![tactic(auto)]
 
 mod classes;

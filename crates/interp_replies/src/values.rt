@@ -14,7 +14,7 @@ use op_core::{Op, Reply};
 
 pub const STUCK: Reached = Reached::Goes(Todo::Stuck);
 
-/// Nothing is to be told.
+/// The operation is done, and gives the instruction no value.
 #[inline(always)]
 pub fn done<P: JavaProgram>(here: &Here<'_, P>, site: CallSite, reply: Reply) -> Reached
     ensures { then_of (P.units here.now.program.now) here.now.thread (frame_of here.now.frames.now.here) (Then.Done site) reply

@@ -20,7 +20,7 @@ fn enter(frames: &mut Frames, arguments: usize) -> Option<PushRefusal> {
     frames.push(call).err()
 }
 
-/// Ends the top frame with so many words, where that can be.
+/// Ends the top frame with `words` words for its caller, where that can be, and returns whether it did.
 fn leave(frames: &mut Frames, words: usize) -> bool {
     let can = frames.has_caller()
         && frames.has(words)

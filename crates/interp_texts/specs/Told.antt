@@ -1,4 +1,4 @@
--- What a call tells, with the rows that it leaves.
+-- What a call returns, with the rows that it leaves.
 use Rattle.std.specs.Prelude.{◌≡◌, ◌≤◌, ℕ, List, [], ◌∷◌}
 use Rattle.interp_texts.specs.declared.stage.Known.TheVariants as knowns
 use Rattle.code_decode.specs.declared.code.ClassUnit.{ClassUnit}
@@ -37,7 +37,7 @@ abbrev pub known_now : List ClassUnit → Part → TextRun → List ℕ
 known_now us parts.First run = first_text us run
 known_now us parts.Second run = second_text us run
 
--- a part has no units, and room for so many; the other one is as before
+-- a part has no units, and room for `count` of them; the other part is as before
 abbrev pub HasBegun : Part → ℕ → TextRun → TextRun → Type 0
 HasBegun parts.First count old new = (new.first ≡ knowns.Read) × (new.firsts.units ≡ []) × (count ≤ new.firsts.spare)
 HasBegun parts.Second count old new =

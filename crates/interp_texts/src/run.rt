@@ -125,7 +125,7 @@ impl TextRun {
         }
     }
 
-    // Stands at a stage with the first text alone.
+    // Is at a stage with the first text alone.
     fn stand(&mut self, stage: TextStage)
         ensures job { self.new.job ≡ self.old.job }
         ensures stage { self.new.stage ≡ stage }

@@ -1,4 +1,4 @@
-//! Where a thread stands in a method that reads or makes texts.
+//! Where a thread is in a method that reads or makes texts.
 
 use frame_snapshot::Appended;
 

@@ -48,7 +48,7 @@ pub enum Answer {
     Endless,
 }
 
-/// The answer of a frame that stands at a return of a value.
+/// The answer of a frame that is at a return of a value.
 fn returned(frames: &Frames, kind: ValueKind) -> Option<Answer> {
     match kind {
         ValueKind::Int if frames.has(1) => Some(Answer::Int(frames.word(0).cast_signed())),

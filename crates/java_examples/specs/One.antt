@@ -77,7 +77,7 @@ main_method = record { class = 29; method = 0 }
 
 -- ---- how thread 1 goes on
 
--- so many silent steps, or the reply to what is wanted
+-- the given number of silent steps, or the reply to what is wanted
 pub data Move : Type 0 where
   silent : ℕ → Move
   told : Reply → Move

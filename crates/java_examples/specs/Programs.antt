@@ -105,11 +105,11 @@ adds_to_long = unit_of
 
 -- ---- how threads go on
 
--- what thread 1 wants behind these moves
+-- what thread 1 wants after these moves
 abbrev pub main_wants : List ClassUnit → List Move → Option Next
 main_wants us moves = option_map java_code.next (fold moved (Some (first_state us main_method)) moves)
 
--- what the thread wants that an object starts, behind these replies
+-- what the thread that an object starts wants after these replies
 abbrev pub child_wants : List ClassUnit → ℕ → List Reply → Option Next
 child_wants us r replies =
     option_map java_code.next (fold moved (Some (child_of us r)) (map told replies))

@@ -29,7 +29,7 @@ pub fn the_class_is_initialized_first()
 {}
 
 /// The frame of main, the fixed object `out`, two constants and their sum: five silent steps, then the line. The return
-/// is one silent step, and the thread ends right behind it.
+/// is one silent step, and the thread ends right after it.
 #[tactic(auto, unfolding(builtin_world::specs::Library::library, class_names::specs::Reading::kind_at, class_names::specs::Reading::base_at, class_names::specs::Reading::split_at_semicolon, class_names::specs::Reading::spells_class_name, class_names::specs::Kinds::kinds_within))]
 pub fn five_steps_lead_to_a_line()
     ensures line { wanted plain prints_sum (initialized ++ silent 5 ∷ []) ≡ Some (Want (Print (lines.Int (pos 5)))) }
@@ -45,8 +45,8 @@ pub fn a_zero_divisor_is_an_exception()
     ensures caught { wanted plain (code_of division (takes_all ∷ [])) (initialized ++ silent 3 ∷ told (Made 99) ∷ silent 2 ∷ []) ≡ Some (Want (End None)) }
 {}
 
-/// A static synchronized main enters the object of its class behind the initialization, and exits it before the silent
-/// step that ends its frame. Where it isn't owned then, the caller makes an IllegalMonitorStateException.
+/// A static synchronized main enters the object of its class after the initialization, and exits it before the silent
+/// step that ends its frame. If the monitor isn't owned then, the caller makes an IllegalMonitorStateException.
 #[tactic(auto, unfolding(builtin_world::specs::Library::library))]
 pub fn a_synchronized_main_enters_its_class()
     ensures entered { wanted synchronized (code_of division []) initialized ≡ Some (Want (Enter 57)) }

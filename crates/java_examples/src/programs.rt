@@ -48,7 +48,7 @@ pub fn a_failed_initializer_is_one_error()
     ensures dies { main_wants below_two (initializer_throws ++ told Done ∷ told (Made 101) ∷ told Done ∷ []) ≡ Some (Want (End (Some EXCEPTION_IN_INITIALIZER_ERROR))) }
 {}
 
-/// A long among the arguments of a call is two locals, its low half in the lower one, and the next argument is behind
+/// A long among the arguments of a call takes two locals, with its low half in the lower one. The next argument follows
 /// them (JVMS 2.6.1, 6.5 invokestatic).
 #[tactic(auto, unfolding(builtin_world::specs::Library::library, class_names::specs::Reading::kind_at, class_names::specs::Reading::base_at, class_names::specs::Reading::split_at_semicolon, class_names::specs::Reading::spells_class_name, class_names::specs::Kinds::kinds_within))]
 pub fn a_long_argument_is_two_locals()

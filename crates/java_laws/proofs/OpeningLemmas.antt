@@ -110,7 +110,7 @@ openings_lie_below_first us =
 abbrev is_at : ℕ → FixedObject → Bool
 is_at r o = nat_eq r o.reference
 
--- a list from behind
+-- a list from the end
 last_of : {X : Type 0} (x : X) (xs : List X) → reverse (x ∷ xs) ≡ reverse xs ++ x ∷ []
 last_of x xs = reverse-append (x ∷ []) xs
 

@@ -6,7 +6,7 @@ use Rattle.fixed_objects.specs.Opening.{LiesBelowFirst, StartsMain}
 use Rattle.plain_words.specs.Opening.{HasPlace}
 use Rattle.java_rows.specs.Start.{opening_of}
 
--- the words of a program have their places, wherever the heap behind the fixed objects ends below 2 ^ 32
+-- the words of a program have their places, wherever the heap after the fixed objects ends below 2 ^ 32
 abbrev pub OpeningsHavePlace : Type 0
 OpeningsHavePlace = (us : List ClassUnit) (limits : Limits) → (opening_of us).first + limits.heap ≤ 2 ^ 32 → HasPlace (opening_of us) limits
 

@@ -2,8 +2,8 @@
 
 ghost use Rattle.java_laws.specs.Laws.{OpeningsHavePlace, OpeningsLieBelowFirst, OpeningsStartMain};
 
-/// The fixed objects of a program lie one behind another below the first free place, so its words can be laid out
-/// wherever the heap behind them ends below 2^32.
+/// The fixed objects of a program lie one after the other below the first free place, so its words can be laid out
+/// wherever the heap after them ends below 2^32.
 pub fn openings_have_place()
     ensures { OpeningsHavePlace }
 {}

@@ -22,7 +22,7 @@ range_next a (suc n) =
 
 -- ---- the words of a class object
 
--- what lies in a row behind objects that a function gives, where it gives the place of the next one too
+-- what lies in a row after objects that a function gives, where it gives the place of the next one too
 row_step : (f : ℕ → ObjectAtStart) (a n at end : ℕ) (o : ObjectAtStart) (rest : List ObjectAtStart)
     → LieInARow at (map f (range_with_len a n) ++ o ∷ rest) end → o.reference ≡ (f (a + n)).reference
     → (i : ℕ) → i < n → (f (a + i)).reference + 2 + length (f (a + i)).words ≡ (f (a + i + 1)).reference
@@ -87,7 +87,7 @@ made_of f (x ∷ xs) = ap (λ os. fixed_object (f x) ∷ os) (made_of f xs)
 abbrev pub fixed_classes : ProgramNames → List ClassUnit → List FixedObject
 fixed_classes p us = map (λ c. fixed_object (class_object_at_start p us c)) (range_with_len 1 (class_count p))
 
--- the classes, System.out, the Thread and the arguments of main and the Strings, put one behind the other
+-- the classes, System.out, the Thread and the arguments of main and the Strings, put one after the other
 pub objects_made : (p : ProgramNames) (us : List ClassUnit) →
     (((fixed_classes p us ++ fixed_object (object_at_start (system_out_object p) PRINT_STREAM 0 []) ∷ []) ++ fixed_object (main_thread_at_start p) ∷ [])
     ++ fixed_object (object_at_start (arguments_object p) (arguments_class p) 0 []) ∷ [])

@@ -51,8 +51,8 @@ fn died_text(alloc: Global, world: &World, thread: u8, class: u32) -> Result<Vec
 }
 
 /// The line `died: thread N CLASS` with byte 10, of a thread that ended by an exception: its number, and the internal
-/// name of the exception's class in UTF-8 (JVMS 4.2.1), which is empty where that is no class, or an array class. `None`
-/// of a thread that ended normally. It fails for want of memory alone.
+/// name of the exception's class in UTF-8 (JVMS 4.2.1), which is empty where that is no class, or an array class.
+/// `None` for a thread that ended normally. It fails only when memory runs out.
 pub fn died_line(alloc: Global, world: &World, end: ThreadEnd) -> Result<Option<Bytes>, NoMemory>
     ensures { IfOk result (λ line. line ≡ died_line world.now end) }
 {
@@ -78,7 +78,7 @@ pub fn limit_word(limit: Limit) -> &'static str
     }
 }
 
-/// The line `limit: WORD thread N` with byte 10, of the thread that met a limit. It fails for want of memory alone.
+/// The line `limit: WORD thread N` with byte 10, of the thread that met a limit. It fails only when memory runs out.
 pub fn limit_line(alloc: Global, limit: Limit, thread: u8) -> Result<Bytes, NoMemory>
     ensures { IfOk result (λ line. line ≡ limit_line limit thread) }
 {

@@ -143,7 +143,7 @@ fn literal_object(alloc: Global, reference: u32, string: u32) -> Result<FixedObj
     })
 }
 
-/// Puts the Strings of the literals behind other objects. The length of each is the number of its text.
+/// Appends the Strings of the literals to the other objects. The length of each is the number of its text.
 fn push_strings(
     alloc: Global,
     world: &World,

@@ -27,7 +27,7 @@ fn ready_classes(alloc: Global) -> Result<Rows<u32>, AllocError>
 
 /// What is there as a program begins: its class objects, `System.out`, the Thread and the arguments of `main` and the
 /// Strings of its literals, in the order in which they lie; the built-in classes, ready; and where new objects begin.
-/// It fails for want of memory alone.
+/// It fails only when memory runs out.
 pub fn opening(alloc: Global, world: &World) -> Result<Opening, NoMemory>
     ensures value { IfOk result (λ opening. opening ≡ opening_of world.now) }
     ensures below { IfOk result (λ opening. LiesBelowFirst opening) }

@@ -67,7 +67,7 @@ goes_on_at us me u (finds v) =
 
 -- ---- the operands of a call
 
--- the words of the arguments are taken off; they stand in the order of locals then
+-- the words of the arguments are taken off the stack; they are then in the order of locals
 abbrev pub with_arguments : Frame → ℕ → (List ℕ → List ℕ → Plan) → Plan
 with_arguments f words k =
     if nat_le words (length f.stack) then k (reverse (take words f.stack)) (drop words f.stack) else stuck

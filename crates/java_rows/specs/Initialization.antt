@@ -44,7 +44,7 @@ initializes us (c ∷ above) k bad = want (Init c) (on_init k
     (makes NO_CLASS_DEF_FOUND_ERROR 0 (λ r. bad r NO_CLASS_DEF_FOUND_ERROR))
     (initializes us above (runs_initializer us c k bad (initializer (classes_of us) c)) (breaks us c bad)))
 
--- a part of an instruction behind the initialization of a class
+-- a part of an instruction after the initialization of a class
 abbrev pub behind_class : List ClassUnit → Frame → ℕ → Plan → Plan
 behind_class us f c k = initializes us (initialized_with us c) k (thrown_in f)
 

@@ -26,7 +26,7 @@ use Rattle.java_rows.specs.Program.{constant_at}
 
 -- what an instruction that needs no operation makes of its frame
 pub data LocalRow : Type 0 where
-  -- the frame behind it
+  -- the frame after it
   moves : Frame → LocalRow
   -- an exception of this class
   fails_by : ℕ → LocalRow

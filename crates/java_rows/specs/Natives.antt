@@ -1,4 +1,4 @@
--- What the methods of the built-in classes do (the Java SE 8 API). They make no frame. Arguments stand in the order of
+-- What the methods of the built-in classes do (the Java SE 8 API). They make no frame. Arguments are in the order of
 -- locals, the receiver first, a long's low half before its high half.
 use Rattle.std.specs.Prelude.{ℕ, zero, suc, ◌%◌, ◌^◌, ◌==◌, ◌&&◌, nat_le, List, [], ◌∷◌, if◌then◌else◌}
 use Rattle.std.specs.Int.{w32, w64, cast_signed}
@@ -32,7 +32,7 @@ on_started k other _ = stuck
 abbrev pub not_owner : Use → Plan
 not_owner u = raises u ILLEGAL_MONITOR_STATE_EXCEPTION
 
--- Object.wait gives the monitor up, and has it again behind a notification (JLS 17.2.1)
+-- Object.wait gives the monitor up, and has it again after a notification (JLS 17.2.1)
 abbrev pub waits : ℕ → Use → Plan
 waits r u = want (Wait r) (on_owner (want (Rewake r) (on_done (u.value []))) (not_owner u))
 

@@ -51,7 +51,7 @@ puts_field f None stack = stuck
 
 -- ---- elements of arrays (JVMS 6.5 iaload, lastore)
 
--- behind the null check, the class of the array and the check of the index
+-- after the null check, the class of the array and the check of the index
 abbrev pub at_element : Frame → ℕ → ℕ → (ℕ → Plan) → Plan
 at_element f r i k =
     unless_null f r (asks_class r (λ c n. if is_index i n then k c else fails f ARRAY_INDEX_OUT_OF_BOUNDS_EXCEPTION))

@@ -7,7 +7,7 @@ use Rattle.op_core.specs.declared.Op.TheVariants.{ClassOf, Read, Write, New, Ent
 use Rattle.op_core.specs.declared.Reply.{Reply}
 use Rattle.op_core.specs.declared.Reply.TheVariants.{Class, Value, Made, Done, NotOwner, Ready, Bad, Claimed}
 
--- where an instruction stands that begins again
+-- where an instruction that begins again is
 pub data Task : Type 0 where
   -- at its beginning
   at_step : Task
@@ -16,7 +16,7 @@ pub data Task : Type 0 where
   -- at the call of run on the target of a thread
   finds : ℕ → Task
 
--- a frame (JVMS 2.6); the top of the operand stack stands first
+-- a frame (JVMS 2.6); the top of the operand stack comes first
 pub record Frame : Type 0 where
   pub method : MethodId
   -- the number of the instruction

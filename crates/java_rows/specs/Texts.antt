@@ -12,7 +12,7 @@ use Rattle.java_rows.specs.Numbers.{char_of, is_index}
 use Rattle.java_rows.specs.Plan.{Plan, silently, stuck, asks_class, reads, writes, makes, Use, raises}
 use Rattle.java_rows.specs.Units.{Appended, an_int, a_long, a_char, a_boolean, a_string, units_without_reading, literal_units}
 
--- ---- a text is read: so many units from a place of a char array on, behind those that were read
+-- ---- a text is read: the given number of units from a place of a char array on, after those that were read
 
 abbrev pub reads_units : ℕ → ℕ → ℕ → List ℕ → (List ℕ → Plan) → Plan
 reads_units array i zero before k = k before
@@ -34,7 +34,7 @@ reads_text us s k = reads s STRING_UNITS (λ array.
 abbrev pub is_short : List ℕ → Bool
 is_short units = nat_lt (length units) (2 ^ 31)
 
--- so many of the units from a place on are written
+-- the given number of the units from a place on are written
 abbrev pub writes_units : ℕ → List ℕ → ℕ → ℕ → Plan → Plan
 writes_units array units i zero k = k
 writes_units array units i (suc n) k =

@@ -14,7 +14,7 @@ use Rattle.java_rows.specs.Program.{class_at, handlers_of, is_subclass}
 abbrev pub exits_for : ℕ → Plan → Plan → Plan
 exits_for monitor k other = if monitor == 0 then k else exits monitor k other
 
--- one silent step ends the frame, behind the monitor
+-- one silent step ends the frame, after the exit of its monitor
 abbrev pub leaves : Frame → FrameEnd → Plan
 leaves f outcome = exits_for f.monitor (silently (ready (ends outcome))) (silently (ready (ends broke)))
 

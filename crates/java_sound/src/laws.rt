@@ -11,7 +11,7 @@ ghost use Rattle.soundness_runs.specs.ClassesFollow.{ClassesFollow};
 ghost use Rattle.java_sound.specs.Sound.{HasRoom, BlockedThreadsWait, ExecutionsFit, ListsFit, LiveThreadsGoOn, StartsAreGrounded, StartsKeepStartWords};
 
 /// Each state of a list in which undoing is seen fits where the first one does: its objects are of the program, each
-/// word may stand where it stands, and the frames of each live thread have the types that verification gives them.
+/// word may be at its place, and the frames of each live thread have the types that verification gives them.
 pub fn lists_fit()
     ensures { (us : List ClassUnit) → Accepted us → HasRoom us → ClassesFollow us → ListsFit us }
 {}

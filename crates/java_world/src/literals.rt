@@ -21,7 +21,7 @@ fn literal(alloc: Global, world: &World, string: u32) -> Result<Rows<u16>, Alloc
     Ok(Rows::from_vec(units))
 }
 
-/// The UTF-16 code units of all string literals, by their numbers. It fails for want of memory alone.
+/// The UTF-16 code units of all string literals, by their numbers. It fails only when memory runs out.
 #[tactic(auto, using(crate::proofs::LiteralUnitLaws::one_more))]
 pub fn make_literals(alloc: Global, world: &World) -> Result<Vec<Rows<u16>>, AllocError>
     ensures { IfOk result (λ literals. literals.items ≡ literals_of world.now) }

@@ -33,7 +33,7 @@ fn unit_quicks(alloc: Global, unit: &ClassUnit) -> Result<Rows<Rows<Quick>>, All
 }
 
 /// The quick forms of the instructions of all methods, by the file of the class and the place of the method there. It
-/// fails for want of memory alone.
+/// fails only when memory runs out.
 pub fn make_program_quicks(
     alloc: Global,
     units: &[ClassUnit],

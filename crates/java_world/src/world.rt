@@ -39,11 +39,11 @@ impl<'p> Model for JavaWorld<'p> {
 }
 
 impl<'p> JavaWorld<'p> {
-    /// The program with the quick forms of its instructions, one entry for each instruction, and the units of its string
-    /// literals, which are given back with it.
+    /// The program with the quick forms of its instructions, one entry for each instruction, and the units of its
+    /// string literals, which are given back with it.
     ///
     /// # Errors
-    /// It fails for want of memory alone.
+    /// It fails only when memory runs out.
     pub fn new(alloc: Global, program: &'p Program) -> Result<Self, AllocError>
         ensures { IfOk result (λ world. world ≡ program.now) }
     {

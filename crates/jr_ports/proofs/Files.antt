@@ -54,7 +54,7 @@ AreDifferent-drop names zero all = all
 AreDifferent-drop [] (suc i) all = tt
 AreDifferent-drop (name ∷ names) (suc i) all = AreDifferent-drop names i all.1
 
--- a name that stands again behind its place
+-- a name that occurs again after its place
 pub AreDifferent-not : (files : List (String Global × Vec ℕ Global)) (i j : ℕ) (f : String Global × Vec ℕ Global) (name bytes : List ℕ) → suc i ≡ j → i < length files → f ≡ get_or files i f → name ≡ string_bytes f.0 → IsOneOf (files_of (drop j files)) name bytes → AreDifferent (names_of (files_of files)) → ⊥
 AreDifferent-not files i j f name bytes next below at same found all =
     let split : drop i files ≡ f ∷ drop (suc i) files = drop-cons files i f below ∙ ap (λ g. g ∷ drop (suc i) files) (sym at) in

@@ -14,7 +14,7 @@ pub record Asked : Type 0 where
 abbrev pub names_of : List File → List (List ℕ)
 names_of files = map (λ f. f.name) files
 
--- no name stands twice
+-- no name occurs twice
 abbrev pub AreDifferent : List (List ℕ) → Type 0
 AreDifferent [] = Unit {0}
 AreDifferent (name ∷ names) = (Contains names name → ⊥) × AreDifferent names
@@ -36,7 +36,7 @@ IsListed asked dir name =
 abbrev pub IsOneOf : List File → List ℕ → List ℕ → Type 0
 IsOneOf files name bytes = (f : File) × Contains files f × (f.name ≡ name) × (f.bytes ≡ bytes)
 
--- one of the files has this name and these bytes, but for what lies behind the most that is read
+-- one of the files has this name and these bytes, except for what lies past the most that is read
 abbrev pub IsRead : List File → List ℕ → List ℕ → Type 0
 IsRead files name bytes =
     (f : File) × Contains files f × (f.name ≡ name) × (bytes ≡ take most_read f.bytes)

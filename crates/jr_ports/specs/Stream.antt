@@ -11,7 +11,7 @@ IsBegun begun [] = ⊥
 IsBegun [] (first ∷ whole) = Unit {0}
 IsBegun (piece ∷ begun) (first ∷ whole) = ((piece ≡ first) × IsBegun begun whole) ⊎ ((begun ≡ []) × IsProperPrefix piece first)
 
--- The list that was told before, where one was told, has these items more at its end.
+-- The list that was known before, where one was known, has these additional items at its end.
 abbrev pub Gains : {A : Type 0} → Option (List A) → Option (List A) → List A → Type 0
 Gains before after more = after ≡ option_map (λ told. told ++ more) before
 

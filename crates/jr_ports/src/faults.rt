@@ -12,7 +12,7 @@ pub enum Refusal {
     NoMemory,
 }
 
-/// Counts a fault; `false` where the count stands at its end, and then it stays.
+/// Counts a fault. Returns `false` where the count is at its maximum, 2^64 - 1, and then it doesn't change.
 pub fn count_fault(faults: &mut u64) -> bool
     ensures counted { OnTrue result (faults.new ≡ faults.old + 1) }
     ensures full { OnFalse result ((faults.old + 1 ≡ 2 ^ 64) × (faults.new ≡ faults.old)) }
@@ -26,8 +26,8 @@ pub fn count_fault(faults: &mut u64) -> bool
     }
 }
 
-/// What an error of the system is to a caller. One that is no want of memory raises the count of faults;
-/// where the count stands at its end, it passes for want of memory.
+/// What an error of the system is to a caller. An error that isn't out of memory raises the count of faults; where
+/// the count is at its maximum, the error is reported as out of memory.
 pub fn refusal_of(faults: &mut u64, error: &Error) -> Refusal
     ensures cause { result ≡ Refusal.Failed → faults.old < faults.new }
     ensures memory { result ≡ Refusal.NoMemory → faults.new ≡ faults.old }

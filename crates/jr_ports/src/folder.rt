@@ -18,8 +18,8 @@ pub struct Listing {
     names: Vec<String>,
 }
 
-/// A folder of the system. It gives the regular files in it, links followed; a link to nothing is left
-/// out, and a name that isn't UTF-8 fails the listing. It tells nothing of its files to a proof.
+/// A folder of the system. It gives the regular files in it, and links are followed. A link to nothing is left
+/// out, and a name that isn't UTF-8 fails the listing. A proof learns nothing about its files.
 #[derive(Drop)]
 pub struct FolderDir<R> {
     rt: R,

@@ -45,7 +45,7 @@ impl Calls {
         self.fail.contains(&self.made)
     }
 
-    /// The answer of a call that fails: a fault, or want of memory where the count stands at its end.
+    /// The answer of a call that fails: a fault, or out of memory where the count is at its maximum.
     fn refuse(&mut self) -> Refusal
         ensures cause { result ≡ Refusal.Failed → self.old.faults < self.new.faults }
         ensures memory { result ≡ Refusal.NoMemory → self.new.faults ≡ self.old.faults }

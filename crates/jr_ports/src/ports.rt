@@ -45,15 +45,15 @@ pub trait ClassDir {
     /// How often it failed: a call that answers `Failed` raises it, and no other call changes it.
     ghost faults: { Self → ℕ };
 
-    /// Its files, where it tells them.
+    /// Its files, where they are known.
     ghost contents: { Self → Option (List File) };
 
-    /// The names of the files that were read of it, in order, where it tells them.
+    /// The names of the files that were read from it, in order, where they are known.
     ghost read_names: { Self → Option (List (List ℕ)) };
 
-    /// The names of the files of the folder `dir`, in any order; where the folder tells its files, exactly
-    /// their names, each once. After a refusal it was asked for `dir` and gave no names, or, for want of
-    /// memory, it may still have been asked for nothing.
+    /// The names of the files of the folder `dir`, in any order; where its files are known, exactly their names, each
+    /// once. After a refusal it was asked for `dir` and gave no names. When memory runs out, it may also not have been
+    /// asked at all.
     fn names(&mut self, alloc: Global, dir: &str) -> Result<Vec<String>, DirFault>
         requires { asked self.old ≡ None }
         ensures told { IfOk result (λ names. IfSome (contents self.old) (λ files. IsPermutation (names_of files) (map string_bytes names.items))) }
@@ -83,10 +83,10 @@ pub trait ClassDir {
 
 /// Input that is taken piece by piece.
 pub trait Source {
-    /// The bytes that are left, where the source tells them.
+    /// The bytes that are left, where they are known.
     ghost left: { Self → Option (List ℕ) };
 
-    /// What was taken of it, call by call, where it tells that.
+    /// What was taken from it, call by call, where that is known.
     ghost taken: { Self → Option (List Taken) };
 
     /// How often it failed: a call that answers `Failed` raises it, and no other call changes it.
@@ -106,7 +106,7 @@ pub trait Source {
 
 /// Output that is given piece by piece.
 pub trait Sink {
-    /// The pieces that it was given so far, one for each put, where the sink tells them.
+    /// The pieces that it was given so far, one for each put, where they are known.
     ghost given: { Self → Option (List (List ℕ)) };
 
     /// How often it failed: a call that answers `Failed` raises it, and no other call changes it.

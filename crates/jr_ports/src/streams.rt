@@ -7,7 +7,7 @@ use crate::ports::{Sink, SinkFault, Source, SourceFault};
 use std::alloc::Global;
 use std::io::{Print, Read, Stderr, Stdin, Stdout};
 
-/// A sink over a stream of the system, which tells nothing of what it was given.
+/// A sink over a stream of the system. What it was given isn't known to proofs.
 #[derive(Drop)]
 pub struct StreamSink<P> {
     stream: P,
@@ -45,11 +45,11 @@ impl<P: Print> Sink for StreamSink<P> {
     }
 }
 
-/// The standard input, which tells nothing of what it holds. Nothing is read behind its first end.
+/// The standard input. What it holds isn't known to proofs. Nothing is read after its first end.
 #[derive(Drop)]
 pub struct StdSource {
     stream: Stdin,
-    // The end of the input was seen. A terminal would go on behind it.
+    // The end of the input was seen. A terminal would go on after it.
     is_ended: bool,
     faults: u64,
 }

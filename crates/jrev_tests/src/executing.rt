@@ -94,7 +94,7 @@ const ALONE: [Execution; 12] = [
         out: "",
         err: "no main\n",
     },
-    // A division by zero ends main behind its two lines.
+    // A division by zero ends main after its two lines.
     Execution {
         words: &["pick", "D", "Main"],
         files: &[File::Made(Class::Divides)],
@@ -183,7 +183,7 @@ const TOGETHER: [Execution; 18] = [
         out: "1\n",
         err: "stuck\n",
     },
-    // One behind the other they end.
+    // Run one after the other, they end.
     Execution {
         words: &["pick", "D", "Main", "--order=1*400,2*400,3*400"],
         files: &[File::Made(Class::Locker), File::Made(Class::Crosswise)],
@@ -242,7 +242,7 @@ const TOGETHER: [Execution; 18] = [
         out: "",
         err: "limit: turns thread 2\n",
     },
-    // Behind the order the turns are the lowest thread's that can go on.
+    // After the order, the turns belong to the lowest thread that can go on.
     Execution {
         words: &["pick", "D", "Main"],
         files: &[File::Made(Class::Tells)],
@@ -310,7 +310,7 @@ const TOGETHER: [Execution; 18] = [
         out: "",
         err: "limit: threads thread 1\n",
     },
-    // A thread that dies keeps its monitors. It is told first.
+    // A thread that dies keeps its monitors. Its line comes first.
     Execution {
         words: &["pick", "D", "Main"],
         files: &[File::Made(Class::Holds)],
@@ -318,7 +318,7 @@ const TOGETHER: [Execution; 18] = [
         out: "1\n",
         err: "died: thread 2 java/lang/ArithmeticException\nstuck\n",
     },
-    // Threads that died are told by number, not in the order in which they died.
+    // The lines of threads that died come by number, not in the order in which they died.
     Execution {
         words: &["pick", "D", "Main", "--order=1*400,3*400"],
         files: &[File::Made(Class::Dies)],

@@ -263,7 +263,7 @@ fn many(alloc: Global, end: u32) -> Result<Vec<(String, Vec<u8>)>, Fail> {
     Ok(files)
 }
 
-/// 1,024 files are read; of more the last one that is read is told, and none is looked into.
+/// 1,024 files are read; with more, the refusal names the last one that is read, and none is looked into.
 const MANY: [(u32, &str); 3] = [
     (2024, "refused: read 1000.class 3 0 3\n"),
     (2025, "refused: link 2024.class 13 0 0\n"),

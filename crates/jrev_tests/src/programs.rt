@@ -17,9 +17,10 @@ pub enum Class {
     Tells,
     /// Two threads that each count to 100 under a monitor, and then their sum.
     Counts,
-    /// Three threads wait on one object. Main notifies all once they wait, each then prints 1, and main prints 2 behind them.
+    /// Three threads wait on one object. Main notifies all once they wait, each then prints 1, and main prints 2 after
+    /// them.
     Waits,
-    /// Starts so many threads, which do nothing.
+    /// Starts the number of threads that `begin` is given, which do nothing.
     Many,
     /// Starts 254 threads.
     Starts254,

@@ -32,8 +32,8 @@ pub const ONE_FILE: &[u8] = &[
     0x00, 0x00, 0x00, 0x00,
 ];
 
-/// The file of the class One with these entries behind those of its pool, so many of all, and this code in its main
-/// method.
+/// The file of the class One with these entries appended to its pool, `count` as the count of the pool, and this code
+/// in its main method.
 fn one_with(alloc: Global, count: u8, entries: &[u8], code: &[u8]) -> Result<Vec<u8>, Fail> {
     let mut file = Vec::from_slice(alloc, &ONE_FILE[..9])?;
     file.push(count)?;
@@ -52,7 +52,7 @@ fn one_with(alloc: Global, count: u8, entries: &[u8], code: &[u8]) -> Result<Vec
 pub enum File {
     /// The class One with this code.
     One(&'static str, &'static [u8]),
-    /// The class One with this code, and with a float and an invokedynamic behind the other entries of its pool.
+    /// The class One with this code, and with a float and an invokedynamic after the other entries of its pool.
     Pooled(&'static str, &'static [u8]),
     /// The class of an assembler's text.
     Text(&'static str, &'static str),

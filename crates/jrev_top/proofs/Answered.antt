@@ -51,7 +51,7 @@ only-one : (e wanted o : AcceptRefusal) → (e ≡ NoMemory) ⊎ (e ≡ o) → e
 only-one e wanted o (inl none) same other = absurd (other (sym same ∙ none))
 only-one e wanted o (inr is) same other = sym is ∙ same
 
--- what is refused by the rules, want of memory aside, and alone, where it isn't want of memory
+-- what the rules refuse, out of memory aside; only that, where it isn't out of memory
 pub refuses-only : (rules : Rules AcceptRefusal) (e wanted : AcceptRefusal) → (e ≡ NoMemory) ⊎ rules.Refuse e → ((o : AcceptRefusal) → rules.Refuse o → (e ≡ NoMemory) ⊎ (e ≡ o)) → (rules.Hold → e ≡ NoMemory)
     → e ≡ wanted → (wanted ≡ NoMemory → ⊥) → RefuseOnly rules wanted
 refuses-only rules e wanted exact first hold same other = record {

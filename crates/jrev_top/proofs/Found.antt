@@ -8,7 +8,7 @@ use Rattle.jr_ports.specs.Stream.{Gains}
 use Rattle.program_input.specs.Folder.{AreClassNames, ReadsFront}
 use Rattle.jrev_top.specs.Folder.{AreListed, ReadsInOrder}
 
--- what a folder that was asked for its names told
+-- what is known of a folder that was asked for its names
 abbrev pub Told : Option Asked → Option (List File) → List ℕ → List (List ℕ) → Type 0
 Told asked files dir sorted =
     (names : List (List ℕ)) × (asked ≡ Some (record { dir = dir; names = names })) × AreClassNames names sorted × IfSome files (λ all. IsPermutation (names_of all) names)

@@ -41,7 +41,7 @@ help_text = HELP.now
 unfoldable pub version_text : List ℕ
 version_text = VERSION.now
 
--- a text, and a word behind a space
+-- a text, a space and a word
 abbrev pub with_word : List ℕ → List ℕ → List ℕ
 with_word text word = text ++ 32 ∷ word
 
@@ -56,7 +56,7 @@ stage_word stages.Code = codes "code"
 stage_word stages.Link = codes "link"
 stage_word stages.Verify = codes "verify"
 
--- so many classes were read
+-- `count` classes were read
 abbrev pub accepted : ℕ → Answer
 accepted count = given (line (codes "accepted " ++ decimal count))
 
@@ -90,7 +90,7 @@ abbrev pub IsDecided : (ℕ → Accepted → Answer → Type 0) → List ℕ →
 IsDecided answers main files names answer =
     (read : List (List ℕ)) × AreRead files names read × IsJudged answers main names read answer
 
--- what load answers to a program of so many classes
+-- what load answers to a program of `count` classes
 abbrev pub Counts : ℕ → Accepted → Answer → Type 0
 Counts count program answer = answer ≡ accepted count
 

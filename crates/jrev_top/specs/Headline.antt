@@ -17,8 +17,8 @@ use Rattle.jrev_top.specs.declared.failure.Failure.TheVariants.{Failed, NoMemory
 use Rattle.jrev_top.specs.Touches.{folder_named, input_wanted, may_end}
 use Rattle.jrev_top.specs.Folder.{AreListed}
 
--- What the program has from outside: what the folder was asked and gave; where they tell it, what the folder and the input
--- hold; and the names of the files that were read of the folder, before the run and behind it.
+-- What the program has from outside: what the folder was asked and gave; what the folder and the input hold, where that
+-- is known; and the names of the files that were read from the folder, before the run and after it.
 pub record Outside : Type 0 where
   pub asked : Option Asked
   pub files : Option (List File)
@@ -50,7 +50,7 @@ abbrev pub IsAnswer : Option Request → Outside → Answer → Type 0
 IsAnswer None outside answer = answer ≡ usage
 IsAnswer (Some request) outside answer = IsAnswerTo request outside answer
 
--- a sink that a call changes: what it was given before and behind it, and how often it had failed
+-- a sink that a call changes: what it was given before and after the call, and how often it had failed
 abbrev pub sink_run : Option (List (List ℕ)) → Option (List (List ℕ)) → ℕ → ℕ → SinkRun
 sink_run given_before given_after faults_before faults_after = record {
   before = given_before;

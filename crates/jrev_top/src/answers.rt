@@ -133,7 +133,7 @@ pub(crate) fn refused(
     told(alloc, Status::Refused, text)
 }
 
-/// So many classes were read.
+/// `count` classes were read.
 pub(crate) fn accepted(alloc: Global, count: usize) -> Result<Answer, AllocError>
     ensures { IfOk result (λ answer. answer ≡ answers.accepted count) }
 {

@@ -20,11 +20,11 @@ use std::alloc::Global;
 /// How many class files are read at most: one more than a program has, so that too many are seen.
 const MOST_READ: usize = 1025;
 
-/// The answer to class files of these names and bytes, and to the name of a class, whose parts are joined by slashes: where
-/// they are a program that begins with that class, the verdict's, and else the first rule that they break.
+/// The answer to class files of these names and bytes, and to the name of a class, whose parts are joined by slashes:
+/// where they are a program that begins with that class, the verdict's, and else the first rule that they break.
 ///
 /// # Errors
-/// It fails for want of memory alone.
+/// It fails only when memory runs out.
 pub fn answer_to_files<V: Verdict>(
     alloc: Global,
     names: &[String],

@@ -20,7 +20,7 @@ use std::alloc::Global;
 /// The answer of `make` to a text.
 ///
 /// # Errors
-/// It fails for want of memory alone.
+/// It fails only when memory runs out.
 pub fn answer_to_text(alloc: Global, text: &[u8]) -> Result<Answer, NoMemory>
     ensures { IfOk result (λ answer. IsMade text.now answer) }
 {

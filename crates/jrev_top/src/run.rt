@@ -22,14 +22,14 @@ use std::thread::Threads;
 /// - `Done`, `Usage`, `Refused`, `NoMain` and `MakeRefused` come exactly where the words, the files and the text say
 ///   so; under `pick` `Done` and `Died` where all threads have ended, normally or one by an exception, `Stuck` where no
 ///   thread can go on, `Limit` where the next turn meets a limit;
-/// - `WriteFault` comes exactly where the count of faults of `out` or of `err` rose in this call, and `ReadFault` exactly
-///   where neither did and that of `classes` rose, or under `make` that of `input`;
+/// - `WriteFault` comes exactly where the count of faults of `out` or of `err` rose in this call, and `ReadFault`
+///   exactly where neither did and that of `classes` rose, or under `make` that of `input`;
 /// - `Memory` may come anywhere, but not where one of these counts rose.
 ///
-/// `out` is written before `err`. After a fault or want of memory `out` was given a part of the answer, from its
-/// front, and `err` the line of that failure alone, or a part of it. `classes` is asked for DIR alone; all files that an
-/// answer is of were read before it. `input` is read by `make` alone, and no further than its end or one byte more than a
-/// text has at most.
+/// `out` is written before `err`. After a fault, or when memory runs out, `out` was given a part of the answer, from
+/// its front, and `err` the line of that failure alone, or a part of it. `classes` is asked for DIR alone; all files
+/// that an answer is based on were read before it. `input` is read by `make` alone, up to its end or one byte past the
+/// longest text, whichever comes first.
 pub fn jrev<R: Threads + Sync, D: ClassDir, I: Source, O: Sink, E: Sink, G: Gate + Sync>(
     _rt: &R,
     alloc: Global,
@@ -58,12 +58,12 @@ pub fn jrev<R: Threads + Sync, D: ClassDir, I: Source, O: Sink, E: Sink, G: Gate
           err = sink_run (E.given err.old) (E.given err.new) (E.faults err.old) (E.faults err.new);
         }) result }
 
-    // Where no count of faults rose, the status is one of the answer, or that of want of memory.
+    // Where no count of faults rose, the status is one of the answer, or out of memory.
     ensures complete { (D.faults classes.old < D.faults classes.new → ⊥) → (I.faults input.old < I.faults input.new → ⊥)
         → (O.faults out.old < O.faults out.new → ⊥) → (E.faults err.old < E.faults err.new → ⊥)
         → MayEnd (asked_by words.now) result }
 
-    // A fault that came is told: that of a stream, or else that of the folder or the input.
+    // The status says that a fault came: one of a stream, or else one of the folder or the input.
     ensures read_fault { result ≡ Status.ReadFault ↔ (FailsAsked (asked_by words.now)
         (D.faults classes.old < D.faults classes.new) (I.faults input.old < I.faults input.new)
         × ¬ ((O.faults out.old < O.faults out.new) ⊎ (E.faults err.old < E.faults err.new))) }
@@ -79,7 +79,7 @@ pub fn jrev<R: Threads + Sync, D: ClassDir, I: Source, O: Sink, E: Sink, G: Gate
     ensures order { ReadsInOrder (files_wanted (asked_by words.now)) (D.asked classes.new)
         (D.read_names classes.old) (D.read_names classes.new) }
 
-    // No more is taken of the input than is wanted, and that in pieces, none of them behind the end.
+    // No more is taken of the input than is wanted, and it is taken in pieces, none of them past the end.
     ensures unread { input_wanted (asked_by words.now) ≡ None → input.new ≡ input.old }
     ensures taken { IfSome (input_wanted (asked_by words.now))
         (λ most. TakesAtMost most (I.left input.old) (I.left input.new)) }

@@ -7,7 +7,7 @@ use crate::failure::Failure;
 use jr_ports::Sink;
 use program_answers::{Answer, Status, report, say, say_fault};
 
-/// Writes the answer, or why there is none, and tells the status with which the program ends.
+/// Writes the answer, or why there is none, and returns the status with which the program ends.
 pub(crate) fn tell<O: Sink, E: Sink>(
     decided: Result<Answer, Failure>,
     out: &mut O,

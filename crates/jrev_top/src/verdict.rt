@@ -17,10 +17,10 @@ pub trait Verdict {
     ghost use Rattle.program_accept.specs.Accepted.{Accepted};
     ghost use Rattle.program_answers.specs.declared.answer.Answer.{Answer};
 
-    /// What holds of the answer to a program of so many classes.
+    /// What holds of the answer to a program of `count` classes.
     ghost answers: { Self → ℕ → Accepted → Answer → Type 0 };
 
-    /// The answer to a program of so many classes. It fails for want of memory alone.
+    /// The answer to a program of `count` classes. It fails only when memory runs out.
     fn answer(&self, alloc: Global, count: usize, accepted: &Program) -> Result<Answer, NoMemory>
         ensures { IfOk result (λ answer. answers self.now count accepted.now answer) };
 }

@@ -26,7 +26,7 @@ pub record IsObject (O : ℕ → Object → Type 0) (h : Objects) (r c n : ℕ) 
   pub length : object.length ≡ n
   pub stands : O r object
 
--- what a reply tells that is true; W says which word may be at a place of an object
+-- a reply says what is true; W says which word may be at a place of an object
 abbrev pub IsTrueReply : (O : ℕ → Object → Type 0) (W : Objects → ℕ → ℕ → ℕ → Type 0) → Objects → Op → Reply → Type 0
 IsTrueReply O W h (ClassOf r) (Class c n) = IsObject O h r c n
 IsTrueReply O W h (Read r i) (Value v) = W h r i v

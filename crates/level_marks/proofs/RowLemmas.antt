@@ -54,7 +54,7 @@ falls_suc zero n (m ∷ marks) falls = falls_more m.noted n marks falls.0 falls.
 falls_suc (suc j) n [] falls = tt
 falls_suc (suc j) n (m ∷ marks) falls = falls_suc j n marks falls
 
--- where the newest that counts was made with fewer words noted
+-- where the newest that counts was made with fewer words logged
 falls_less : (j n : ℕ) (marks : List Mark) → (nth_or no_mark j marks).noted < n → MarksFall n (drop j marks) → MarksFall (n - 1) (drop j marks)
 falls_less zero n [] low falls = tt
 falls_less zero n (m ∷ marks) low falls = (less m.noted n low, falls.1, falls.2)
@@ -78,7 +78,7 @@ length_drop (suc j) (m ∷ marks) = length_drop j marks ∙ shift (length marks)
     shift : (n m : ℕ) → n - m ≡ suc n - suc m
     shift n m = omega arith
 
--- a word is noted since then
+-- a word is logged since then
 some_since : (n : ℕ) (log : List Noted) (x : Noted) (rest : List Noted) → noted_since n log ≡ x ∷ rest → n < length log
 some_since n log x rest is = by_size (length log - n) refl is
   where
@@ -89,7 +89,7 @@ some_since n log x rest is = by_size (length log - n) refl is
     by_size zero size is = cc
     by_size (suc d) size is = above (length log) n d size
 
--- a word is put back where one was noted since
+-- a word is put back where one was logged since
 restored_more : (n s w p o : ℕ) (log : List Noted) (deepened taken : List Held) → undo_step s w (noted_since n log) deepened taken ≡ RestoreWord p o → n < length log
 restored_more n s w p o log deepened taken is = by_noted (noted_since n log) refl deepened taken is
   where
@@ -237,7 +237,7 @@ module _ {S : Type 0} (code : Code S) (b : Bounds) (th : ThreadState S) (marked 
   to_pin_keeps next falls = by_if (λ g. Keeps (goes g)) (is_open th) (Fixed (own_pin th)) (behind_pin th next) (λ yes. plainly (goes (Fixed (own_pin th))) (λ h. h) falls)
       (λ no. plainly (goes (behind_pin th next)) (behind_undoes_none next) falls)
 
-  -- where no marks are left nothing is noted
+  -- where no marks are left, nothing is logged
   oldest : th.marks ≡ [] → length th.log ≡ 0
   oldest none = by_test (is_open th) refl
     where

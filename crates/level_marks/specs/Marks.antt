@@ -10,8 +10,8 @@ use Rattle.core_runs.specs.Cores.{Core}
 use Rattle.core_runs.specs.Acts.{Act}
 use Rattle.held_levels.specs.HeldLevels.{IsOrderlyRun}
 
--- Of marks, the newest first: the newest was made with n words noted at most, each with no more than the next newer one, and
--- the oldest with none.
+-- Marks, the newest first: the newest was made when at most n words were logged, each other one when no more were
+-- logged than for the next newer one, and the oldest when none was.
 abbrev pub MarksFall : ℕ → List Mark → Type 0
 MarksFall n [] = Unit {0}
 MarksFall n (m ∷ marks) = (m.noted ≤ n) × (marks ≡ [] → m.noted ≡ 0) × MarksFall m.noted marks

@@ -1,5 +1,5 @@
-//! The marks of the levels that threads have open, along a run: which levels have one, and how many words were noted as they
-//! were made. Laws alone.
+//! The marks of the levels that threads have open, along a run: which levels have one, and how many words were logged
+//! when they were made. Laws alone.
 //!
 //! Each function does nothing: its contract is the law.
 #![tactic(auto)]
@@ -13,7 +13,7 @@ pub fn marks_are_there<C: ThreadCode>()
     ensures { MarksAreThere C.code }
 {}
 
-/// No mark was made with more words noted than a newer one, or than are noted; the oldest was made with none.
+/// No mark was made with more words logged than a newer mark, or than are logged now; the oldest was made with none.
 pub fn marks_fall<C: ThreadCode>()
     ensures { MarksOfThreadsFall C.code }
 {}

@@ -44,7 +44,7 @@ in_drop zero p levels is = is
 in_drop (suc j) p [] is = absurd is
 in_drop (suc j) p (q ∷ levels) is = inr (in_drop j p levels is)
 
--- it is among the first j, or behind them
+-- it is among the first j, or after them
 in_parts : (j p : ℕ) (levels : List ℕ) → In p levels → In p (take j levels) ⊎ In p (drop j levels)
 in_parts zero p levels is = inr is
 in_parts (suc j) p [] is = absurd is
@@ -70,7 +70,7 @@ not_both (suc j) k p (q ∷ levels) falls first behind = elim first [
     no : (p q : ℕ) → p ≡ q → p < q → ⊥
     no p q is low = omega (arith, is, low)
 
--- number j of the list is the last of the first j + 1, and newer than what stands behind
+-- number j of the list is the last of the first j + 1, and newer than what follows
 nth_in : (j p : ℕ) (levels : List ℕ) → slice_get levels j ≡ Some p → In p (take (suc j) levels)
 nth_in j p [] is = cc
 nth_in zero p (q ∷ levels) is = inl (sym (same_Some q p is))
@@ -261,7 +261,7 @@ module _ (levels : ℕ → List ℕ) (revoked : ℕ → Option ℕ) (act : ℕ �
     pub low : p < doomed.0
     low = below doomed.0 p (levels doomed.0) (falls doomed.0) was
 
-    -- behind the revocation the section is being undone with the same levels, or was undone and the level is gone
+    -- after the revocation the section is being undone with the same levels, or was undone and the level is gone
     pub data Since (k : ℕ) : Type 0 where
       keeps_on : revoked k ≡ Some doomed.1 → levels k ≡ levels doomed.0 → Since k
       is_gone : (In p (levels k) → ⊥) → Since k
@@ -307,7 +307,7 @@ module _ (levels : ℕ → List ℕ) (revoked : ℕ → Option ℕ) (act : ℕ �
             is_gone (λ is. last (d + suc doomed.0) n (same_Some n doomed.1 (sym step.1 ∙ some)) stays (subst (λ l. In p l) step.0 is))
         by_act a step (is_gone none) = is_gone (gone_on (d + suc doomed.0) (above d p doomed.0 low) none)
 
-    -- where the level isn't open behind act number k, the act has undone the section to it or further out
+    -- where the level isn't open after act number k, the act has undone the section to it or further out
     pub closes_by_undoing : (k : ℕ) → In p (levels k) → (In p (levels (suc k)) → ⊥) → (n q : ℕ) × GoesBackAt levels act k n q × (q ≤ p)
     closes_by_undoing k is none = by_place (order k doomed.0)
       where
@@ -500,7 +500,7 @@ module _ (levels : ℕ → List ℕ) (revoked : ℕ → Option ℕ) (act : ℕ �
       chain : (a c e : ℕ) → a ≤ c → c ≤ e → a ≤ e
       chain a c e low high = omega (arith, low, high)
 
-  -- and behind it, while the level is open, it stays
+  -- and after it, while the level is open, it stays
   stays_from : (j k : ℕ) → k ≡ j + suc doomed.0 → In p (levels k) → pinned k ≡ pinned doomed.0
   stays_from zero k is open_now = ap pinned (same k doomed.0 is) ∙ ((pins doomed.0).above doomed.1 doomed.2).1
     where

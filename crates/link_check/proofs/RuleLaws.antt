@@ -1,4 +1,4 @@
--- The groups of rules one behind the other.
+-- The groups of rules, one after the other.
 use Rattle.std.proofs.Common.{◌≡◌, inl, inr, List, Result, Ok, Err, subst}
 use Rattle.std.specs.Bool.{⊤}
 use Rattle.rules.specs.Rules.{Rules, ◌then◌}
@@ -15,7 +15,7 @@ first_refuses a b e refused = elim refused [ inl none ↦ inl none | inr broken 
 pub then_refuses : (a b : Rules LinkRefusal) (e : LinkRefusal) → a.Hold → Refuses e b → Refuses e (a then b)
 then_refuses a b e holds refused = elim refused [ inl none ↦ inl none | inr broken ↦ inr (inr (holds, broken)) ]
 
--- those of what stands above classes
+-- those of what lies above classes
 pub above_refuses : (us : List ClassUnit) (e : LinkRefusal) → Refuses e (hierarchy_rules us) → Refuses e (link_rules us)
 above_refuses us e refused = elim refused [
   | inl none ↦ inl none
@@ -33,7 +33,7 @@ groups_refuse us e above refused = elim refused [
 pub groups_hold : (us : List ClassUnit) → (hierarchy_rules us).Hold → (member_groups us).Hold → (link_rules us).Hold
 groups_hold us above groups = (above.0, (above.1.0, (above.1.1, groups)))
 
--- an answer by the rules behind those of what stands above classes is one by all
+-- an answer by the rules after those of what lies above classes is an answer by all rules
 pub all_given : {X : Type 0} (us : List ClassUnit) (Is : X → Type 0) (r : Result X LinkRefusal) → (hierarchy_rules us).Hold → Gives r (member_groups us) Is → Gives r (link_rules us) Is
 all_given us Is (Ok x) above given = (groups_hold us above given.0, given.1)
 all_given us Is (Err e) above refused = groups_refuse us e above refused

@@ -1,4 +1,4 @@
--- The groups of rules behind those of what stands above classes.
+-- The groups of rules after those of what lies above classes.
 use Rattle.std.specs.Prelude.{List}
 use Rattle.rules.specs.Rules.{Rules, ◌then◌, each}
 use Rattle.code_decode.specs.declared.code.ClassUnit.{ClassUnit}

@@ -1,4 +1,4 @@
-//! The groups of rules, one behind the other.
+//! The groups of rules, one after the other.
 
 ghost use Rattle.std.specs.Prelude.{◌≡◌, ◌≤◌, IfOk, IfErr, length, ⊤};
 ghost use Rattle.rules.specs.Rules.{◌then◌};
@@ -29,7 +29,7 @@ fn check_groups(alloc: Global, lookup: &MemberLookup<'_>) -> Result<(), LinkRefu
     check_uses(alloc, lookup)
 }
 
-/// The members of a program that keeps those rules, where the rules of what stands above classes hold.
+/// The members of a program that keeps those rules, where the rules of what lies above classes hold.
 fn checked_lookup(alloc: Global, supers: Supers<'_>) -> Result<MemberLookup<'_>, LinkRefusal>
     requires few { length supers ≤ 1024 }
     requires above { (hierarchy_rules supers).Hold }
@@ -53,11 +53,11 @@ fn all_checked(alloc: Global, units: &[ClassUnit]) -> Result<MemberLookup<'_>, L
 }
 
 /// The members of a program whose class files keep the rules of linking (JVMS 5.3 to 5.5): `Ok` exactly where all of
-/// them hold, want of memory aside.
+/// them hold, unless memory runs out.
 ///
 /// # Errors
 /// The refusal of the first rule that is broken, in the order of `link_rules`: of how many files there are and what
-/// their classes are named, of what stands above classes, of members, of implementations, and of what instructions and
+/// their classes are named, of what lies above classes, of members, of implementations, and of what instructions and
 /// handlers name. `NoMemory` where memory runs out.
 pub fn linked_lookup(alloc: Global, units: &[ClassUnit]) -> Result<MemberLookup<'_>, LinkRefusal>
     requires decoded { AreUnits units.now }

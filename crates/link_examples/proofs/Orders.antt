@@ -1,4 +1,4 @@
--- An order of the classes of a program in which supers stand first.
+-- An order of the classes of a program in which supers come first.
 use Rattle.std.proofs.Common.{◌≡◌, ◌≢◌, ◌<◌, ◌≤◌, ℕ, ◌+◌, ◌-◌, Bool, true, List, length, map, Some, slice_get, All, nat_lt, inl, inr, refl, sym, ap, subst, ◌∙◌, arith}
 use Rattle.std.specs.List.{range_with_len, list_all}
 use Rattle.std.proofs.lemmas.Bool.{ltb-true}

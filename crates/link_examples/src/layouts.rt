@@ -17,7 +17,7 @@ pub fn numbers_begin_with_the_library()
     ensures missing { class_number (classes_of mixed) (codes "mixed") ≡ 0 }
 {}
 
-/// Fields stand in the order of the file behind the words of the superclass, a long as two words: here behind the one
+/// Fields follow the words of the superclass in the order of the file, a long as two words: here after the one
 /// word of a Throwable.
 #[tactic(auto, unfolding(builtin_world::specs::Library::library))]
 pub fn long_fields_take_two_words()
@@ -36,7 +36,7 @@ pub fn constants_stand_as_they_are_stored()
     ensures { class_words_of_unit (program_names mixed) mixed_unit ≡ 4294967295 ∷ 0 ∷ 0 ∷ [] }
 {}
 
-/// Array classes stand in the order of the bytes of their descriptors, each once.
+/// Array classes come in the order of the bytes of their descriptors, each once.
 pub fn array_classes_stand_by_their_bytes()
     ensures names { in_order (codes "[LA;" ∷ codes "[[I" ∷ codes "[LA/B;" ∷ codes "[I" ∷ codes "[LA;" ∷ [])
         ≡ codes "[I" ∷ codes "[LA/B;" ∷ codes "[LA;" ∷ codes "[[I" ∷ [] }
@@ -45,8 +45,8 @@ pub fn array_classes_stand_by_their_bytes()
     ensures made_of_arrays { array_of (codes "[J") ≡ codes "[[J" }
 {}
 
-/// Class objects stand by number from place 1, header, monitor and words; behind them System.out, the main thread, the
-/// arguments and the literals.
+/// Class objects lie by number from place 1, each with header, monitor and words; after them come System.out, the main
+/// thread, the arguments and the literals.
 #[tactic(auto, unfolding(builtin_world::specs::Library::library))]
 pub fn fixed_objects_follow_each_other()
     ensures count { class_count (program_names mixed) ≡ 31 }

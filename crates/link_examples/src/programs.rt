@@ -14,7 +14,7 @@ pub fn a_program_is_linked()
     ensures one { (link_rules mixed).Hold }
 {}
 
-/// The classes of a program have an order in which each one stands behind those above it.
+/// The classes of a program have an order in which each one comes after those above it.
 pub fn a_program_has_an_order()
     ensures { (order : List ℕ) × PutsSupersFirst (classes_of mixed) order }
 {}

@@ -26,7 +26,7 @@ use member_table::MemberRow;
 use rows::Rows;
 use std::alloc::Global;
 
-/// From so many methods of one signature on, a test is remembered.
+/// From 8 methods of the same signature on, a test is remembered.
 const MANY: usize = 8;
 
 /// The first of some methods, unless they are so few that a look among them is as cheap as one into the memo.

@@ -12,7 +12,7 @@ use access_flags::{ABSTRACT, PUBLIC, has};
 use member_lookup::{Found, MemberLookup};
 use member_table::MemberRow;
 
-/// What is asked of the method that objects of a class answer with where an abstract method stands above the class.
+/// What the method that objects of a class answer with must be, where an abstract method is above the class.
 #[derive(Clone, Copy)]
 pub enum Asked {
     /// It is there and isn't abstract.

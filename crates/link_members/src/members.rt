@@ -55,7 +55,7 @@ fn check_texts(alloc: Global, lookup: &MemberLookup<'_>) -> Result<(), LinkRefus
     check_declared(lookup, &floats)
 }
 
-/// The rules of the fields and methods that files declare (JVMS 4.5, 4.6, 5.4.5): no float or double stands in their
+/// The rules of the fields and methods that files declare (JVMS 4.5, 4.6, 5.4.5): no float or double occurs in their
 /// descriptors, no volatile field is a long, no method is native, overrides a final one, or is a method of an interface
 /// that has code. The refusal is that of the first file that breaks one, and of its fields before its methods.
 ///

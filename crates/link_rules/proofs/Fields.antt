@@ -35,7 +35,7 @@ own_share : (kind : Bool) (f : NamedMember) → is_stored kind f ≡ true → sh
 unfolding share
 own_share kind f is = ap (λ b. cond b (field_words f) 0) is
 
--- a field of the kind ends before another place behind it
+-- a field of the kind ends before any later place
 own_before : (kind : Bool) (fs : List NamedMember) (i : ℕ) (f : NamedMember) → slice_get fs i ≡ Some f → is_stored kind f ≡ true → (j : ℕ) → i < j → own_words kind (take i fs) + field_words f ≤ own_words kind (take j fs)
 own_before kind [] i f at is j less = absurd (none-some f at)
 own_before kind (g ∷ fs) zero f at is zero less = absurd (omega arith)

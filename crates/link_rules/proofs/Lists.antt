@@ -66,7 +66,7 @@ slice_get-behind (x ∷ xs) ys k =
     let more : suc (length xs) + k ≡ suc (length xs + k) = suc-add (length xs) k in
     ap (slice_get (x ∷ (xs ++ ys))) more ∙ slice_get-behind xs ys k
 
--- the first item that passes a test stands where none before it does
+-- the first item that passes a test is where none before it does
 position_first : {X : Type 0} (test : X → Bool) (n : ℕ) (xs : List X) (i : ℕ) (x : X) → slice_get xs i ≡ Some x → test x ≡ true → position_from test n (take i xs) ≡ None → position_from test n xs ≡ Some (n + i)
 position_first test n [] i x at passes none = absurd (none-some x at)
 position_first test n (y ∷ xs) zero x at passes none =
@@ -144,7 +144,7 @@ position_stays test n i (x ∷ xs) ys e = elim (test x) as (λ b. cond b (Some n
   | false ↦ λ e. position_stays test (n + 1) i xs ys e
 ] e
 
--- what is found with one item more behind the others
+-- what is found with one item more after the others
 abbrev pub next : Option ℕ → Bool → ℕ → Option ℕ
 next None passes n = cond passes (Some n) None
 next (Some m) passes n = Some m
@@ -158,7 +158,7 @@ position_next test n (y ∷ ys) x =
       | false ↦ position_next test (n + 1) ys x ∙ ap (next (position_from test (n + 1) ys) (test x)) sum
     ]
 
--- behind others, none of which passes, an item is found at their count
+-- after others, none of which passes, an item is found at their count
 pub position_push : {X : Type 0} (test : X → Bool) (n : ℕ) (xs : List X) (x : X) → position_from test n xs ≡ None → position_from test n (xs ++ x ∷ []) ≡ cond (test x) (Some (n + length xs)) None
 position_push test n xs x none = position_next test n xs x ∙ ap (λ o. next o (test x) (n + length xs)) none
 

@@ -36,7 +36,7 @@ file_class us k u at =
     slice_get-behind (map library_class library) (map class_of_unit us) k in
     behind ∙ slice_get-map class_of_unit us k ∙ ap (option_map class_of_unit) at
 
--- a class behind the library is that of a file
+-- a class past the library is that of a file
 pub is_file : (us : List ClassUnit) (c : ℕ) → 28 < c → c ≤ length (classes_of us) → (k : ℕ) × (u : ClassUnit) × (slice_get us k ≡ Some u) × (c ≡ number_of_file k)
 is_file us c low high =
     let count : length (classes_of us) ≡ 28 + length us = class_count_is us in
@@ -91,7 +91,7 @@ only_object us c hold some within none =
     of_file h =
         (hold.1.1.0 h.0 h.1 h.2).0 (subst (λ x. superclass_of (classes_of us) x ≡ 0) h.3 none)
 
--- a number behind those of all classes is that of none
+-- a number past those of all classes is that of none
 pub past_all : (cs : List NamedClass) (c : ℕ) → length cs < c → class_numbered cs c ≡ None
 past_all cs zero lt = absurd (omega (arith, lt))
 past_all cs (suc i) lt = slice_get_past cs i (omega (arith, lt))

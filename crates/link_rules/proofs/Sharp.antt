@@ -20,7 +20,7 @@ use Rattle.link_rules.specs.Classes.{NamedClass, NamedMember, class_of_unit, cla
 use Rattle.link_rules.specs.Members.{found_field, found_method}
 use Rattle.link_rules.specs.LinkRules.{nothing_asked, named_class_rules, named_interface_rules, supers_rules, declared_field_rules, declared_method_rules, members_rules, implementation_rules, class_use_rules, constant_rules, field_use_rules, found_rules, call_rules, interface_call_rules, what_rules, caught_rules, code_use_rules, uses_rules, twice_rules, rules_over, link_rules}
 
--- rules behind one rule
+-- rules after one rule
 after_must : {E : Type 0} (Rule : Type 0) (e : E) (rules : Rules E) → IsSharp rules → IsSharp (must Rule e then rules)
 after_must Rule e rules sharp = sharp_then (must Rule e) rules (sharp_must Rule e) sharp
 

@@ -62,7 +62,7 @@ module _ (us : List ClassUnit) (order : List ℕ) (linked : IsLinked us order) w
       go true e = tt
       go false e = of_name name e
 
-  right_number : (c : ℕ) → is_class_number (program_names us) c ≡ true → IsType (is_class_below (classes_of us)) (IsClassNumber (classes_of us)) itself classes.top only_top upward (type_numbered (program_names us) c)
+  pub right_number : (c : ℕ) → is_class_number (program_names us) c ≡ true → IsType (is_class_below (classes_of us)) (IsClassNumber (classes_of us)) itself classes.top only_top upward (type_numbered (program_names us) c)
   right_number c is =
       elim (cases_lt (length (classes_of us)) c) [
         | inr plain ↦ of_class plain

@@ -1,4 +1,4 @@
--- Going up from a class ends within its bound where supers stand first.
+-- Going up from a class ends within its bound where supers come first.
 use Rattle.std.proofs.Common.{◌≡◌, ◌≢◌, ◌⊎◌, ℕ, zero, suc, ◌<◌, ◌≤◌, List, [], ◌∷◌, length, Contains, None, Some, slice_get, inl, inr, refl, sym, ap, subst, ◌∙◌, arith}
 use Rattle.std.specs.List.{last_or}
 use Rattle.std.proofs.lemmas.Bool.{cases_eq}
@@ -20,7 +20,7 @@ up_none cs zero = refl
 up_none cs (suc n) = refl
 
 module _ (cs : List NamedClass) (order : List ℕ) (first : PutsSupersFirst cs order) where
-  -- the superclass stands before the class
+  -- the superclass comes before the class
   before : (i c s : ℕ) → slice_get order i ≡ Some c → superclass_of cs c ≡ suc s → (j : ℕ) × (j < i) × (slice_get order j ≡ Some (suc s))
   before i c s at e = first.before i c (suc s) at (some s, inl e)
 
@@ -83,7 +83,7 @@ module _ (cs : List NamedClass) (order : List ℕ) (first : PutsSupersFirst cs o
   pub superclasses_none : (c : ℕ) → superclass_of cs c ≡ 0 → c ≢ 0 → c ≤ length cs → superclasses cs c ≡ c ∷ []
   superclasses_none c e ne within = superclasses_step c ne within ∙ ap (λ s. c ∷ superclasses cs s) e ∙ ap (λ xs. c ∷ xs) (up_none cs (length cs))
 
-  -- what stands on the list is a class
+  -- what is on the list is a class
   pub above_is_class : (c : ℕ) → c ≢ 0 → c ≤ length cs → (d : ℕ) → Contains (superclasses cs c) d → IsClassNumber cs d
   above_is_class = of_all (λ c. (d : ℕ) → Contains (superclasses cs c) d → IsClassNumber cs d) base step
     where

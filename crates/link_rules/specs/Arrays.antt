@@ -55,13 +55,13 @@ abbrev pub with_elements : List ℕ → List (List ℕ)
 with_elements [] = []
 with_elements (b ∷ name) = if b == 91 then (b ∷ name) ∷ with_elements name else []
 
--- a text stands before another one by its bytes
+-- a text comes before another one by its bytes
 abbrev pub is_before : List ℕ → List ℕ → Bool
 is_before text [] = false
 is_before [] (b ∷ other) = true
 is_before (a ∷ text) (b ∷ other) = nat_lt a b || (a == b && is_before text other)
 
--- a text put into others that stand in order; one that is there isn't put again
+-- a text put into others that are in order; one that is there isn't put again
 abbrev pub put_in_order : List ℕ → List (List ℕ) → List (List ℕ)
 put_in_order text [] = text ∷ []
 put_in_order text (other ∷ others) =

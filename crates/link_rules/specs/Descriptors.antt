@@ -9,7 +9,7 @@ use Rattle.class_names.specs.declared.kind.Kind.TheVariants.{Base, Array}
 use Rattle.class_names.specs.Kinds.{field_kind, method_kinds}
 use Rattle.link_rules.specs.Classes.{is_array_name}
 
--- the kinds that stand in a field's or a method's descriptor; none in another text
+-- the kinds in a field's or a method's descriptor; none in another text
 abbrev pub descriptor_kinds : List ℕ → List Kind
 descriptor_kinds text =
     option_map_or (λ (m : List Kind × Option Kind). m.0 ++ option_to_list m.1) (method_kinds text) (option_to_list (field_kind text))

@@ -25,7 +25,7 @@ class_object_size cs c = 2 + static_words cs c
 abbrev pub class_object : ProgramNames → ℕ → ℕ
 class_object p c = 1 + sum_by (class_object_size p.classes) (range_with_len 1 (c - 1))
 
--- behind them System.out, the Thread of `main`, its arguments, and the string literals by number
+-- after them System.out, the Thread of `main`, its arguments, and the string literals by number
 abbrev pub system_out_object : ProgramNames → ℕ
 system_out_object p = class_object p (class_count p + 1)
 
@@ -40,7 +40,7 @@ arguments_object p = main_thread_object p + 5
 abbrev pub string_object : ProgramNames → ℕ → ℕ
 string_object p n = arguments_object p + 2 + 3 * n
 
--- the first place behind them
+-- the first place after them
 abbrev pub first_free : ProgramNames → ℕ
 first_free p = string_object p (length p.strings)
 

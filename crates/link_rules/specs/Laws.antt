@@ -51,7 +51,7 @@ pub record StaticFieldsLieApart (cs : List NamedClass) : Type 0 where
   pub inside : (c i : ℕ) (f : NamedMember) → IsFieldOf true cs c i f → field_place cs c i f + field_words f ≤ static_words cs c
   pub apart : (c i j : ℕ) (f g : NamedMember) → IsFieldOf true cs c i f → IsFieldOf true cs c j g → i ≢ j → LieApart cs c i f c j g
 
--- the words of another field lie in each object of its class and of the classes below it, behind the words of the
+-- the words of another field lie in each object of its class and of the classes below it, after the words of the
 -- superclass's objects, and apart from those of the other fields
 pub record ObjectFieldsLieApart (cs : List NamedClass) : Type 0 where
   pub behind : (c i : ℕ) (f : NamedMember) → IsFieldOf false cs c i f → instance_words cs (superclass_of cs c) ≤ field_place cs c i f
@@ -64,7 +64,7 @@ pub record ObjectFieldsLieApart (cs : List NamedClass) : Type 0 where
 abbrev pub ObjectsGrow : List NamedClass → Type 0
 ObjectsGrow cs = (c d : ℕ) → c ≢ 0 → c ≤ length cs → Contains (superclasses cs c) d → instance_words cs d ≤ instance_words cs c
 
--- objects lie one behind the other, from a place up to another one: header, monitor and words
+-- objects lie one after the other, from a place up to another one: header, monitor and words
 abbrev pub LieInARow : ℕ → List ObjectAtStart → ℕ → Type 0
 LieInARow at [] end = at ≡ end
 LieInARow at (o ∷ os) end = (o.reference ≡ at) × LieInARow (at + 2 + length o.words) os end
@@ -104,7 +104,7 @@ pub record IsFoundMethod (cs : List NamedClass) (r : Reference) (d : Declared) :
 abbrev pub ExceptionsAreThrowable : List NamedClass → Type 0
 ExceptionsAreThrowable cs = (c : ℕ) → THROWABLE ≤ c → c < STRING_BUILDER → Contains (superclasses cs c) THROWABLE
 
--- the literal of each Str entry stands at its number
+-- the literal of each Str entry is found at its number
 abbrev pub LiteralsAreThere : List ClassUnit → Type 0
 LiteralsAreThere us =
     (k i at : ℕ) (u : ClassUnit) → slice_get us k ≡ Some u → slice_get u.file.pool i ≡ Some (Str at)

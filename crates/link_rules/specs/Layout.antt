@@ -57,7 +57,7 @@ field_place cs c i f =
 abbrev pub array_words : List ℕ → ℕ → ℕ
 array_words name elements = if bytes_eq name (codes "[J") then 2 * elements else elements
 
--- the words of a new object of a class, or of a new array of so many elements, without header and monitor
+-- the words of a new object of a class, or of a new array of `elements` elements, without header and monitor
 abbrev pub object_words : ProgramNames → ℕ → ℕ → ℕ
 object_words p c elements =
     option_map_or (λ name. array_words name elements) (array_numbered p c) (instance_words p.classes c)

@@ -214,7 +214,7 @@ module _ (cs : List NamedClass) (k : ℕ) where
 abbrev pub twice_rules : List NamedClass → ℕ → NamedClass → Rules LinkRefusal
 twice_rules cs k c = must (class_number (take (COUNT + k) cs) c.name ≡ 0) (At Twice k 0)
 
--- there are few enough files, each defines a class of its own, and what stands above these classes may stand there
+-- there are few enough files, each defines a class of its own, and what is above these classes may be there
 abbrev pub count_rules : List ClassUnit → Rules LinkRefusal
 count_rules us = must (length us ≤ 1024) (At TooMany 1024 0)
 

@@ -5,7 +5,7 @@ use Rattle.link_rules.specs.Classes.{NamedClass, classes_of}
 use Rattle.link_rules.specs.Supers.{PutsSupersFirst}
 use Rattle.link_rules.specs.LinkRules.{link_rules}
 
--- the rules of linking hold, and in an order of the classes each one stands behind those above it
+-- the rules of linking hold, and in an order of the classes each one comes after those above it
 pub record IsLinked (us : List ClassUnit) (upward : List ℕ) : Type 0 where
   pub rules : (link_rules us).Hold
   pub order : PutsSupersFirst (classes_of us) upward

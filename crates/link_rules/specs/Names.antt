@@ -24,7 +24,7 @@ use Rattle.link_rules.specs.Descriptors.{descriptor_kinds, named_kind, class_of_
 use Rattle.link_rules.specs.Arrays.{array_names}
 use Rattle.link_rules.specs.Strings.{string_texts}
 
--- the class name that a text is, and the class names that stand in it as a descriptor
+-- the class name that a text is, and the class names that occur in it as a descriptor
 abbrev pub class_names_in : List ℕ → List (List ℕ)
 class_names_in text = (if spells_class_name false text then text ∷ [] else []) ++ filter_map class_of_kind (descriptor_kinds text)
 
@@ -32,7 +32,7 @@ abbrev pub class_names_of : Constant → List (List ℕ)
 class_names_of (Utf8 text) = class_names_in text
 class_names_of _ = []
 
--- What has a number in a program, each by its place: the classes from 1 on and the array classes behind them, any
+-- What has a number in a program, each by its place: the classes from 1 on and the array classes after them, any
 -- class name that a file has from 0 on, and the string literals from 0 on.
 pub record ProgramNames : Type 0 where
   pub classes : List NamedClass

@@ -73,13 +73,13 @@ abbrev pub IsMethodOperand : List NamedClass → ℕ → Call → Operand → Ty
 IsMethodOperand cs this call (operands.Method o) = FitsCall cs this call o
 IsMethodOperand cs this call _ = ⊥
 
--- instructions on classes, behind the rule that a Class entry stands at their operands (JVMS 4.9.1)
+-- instructions on classes, given the rule that there is a Class entry at their operands (JVMS 4.9.1)
 abbrev pub ClassUsesResolve : List ClassUnit → Type 0
 ClassUsesResolve us =
     (k at n : ℕ) (u : ClassUnit) (purpose : ClassUse) → IsInstruction us k u (whats.Class purpose at)
     → slice_get u.file.pool at ≡ Some (constants.Class n) → IsClassOperand (classes_of us) purpose (operand us (number_of_file k) at)
 
--- calls, behind the rule that a Method entry stands at their operands
+-- calls, given the rule that there is a Method entry at their operands
 abbrev pub CallsResolve : List ClassUnit → Type 0
 CallsResolve us =
     (k at c n : ℕ) (u : ClassUnit) (call : Call) → IsInstruction us k u (whats.Call call at)
@@ -109,7 +109,7 @@ IsFieldOperand p this access operands.Out = access ≡ fields.GetStatic
 IsFieldOperand p this access (operands.Field o) = FitsField p this access o
 IsFieldOperand p this access _ = ⊥
 
--- instructions on fields, behind the rule that a Field entry stands at their operands
+-- instructions on fields, given the rule that there is a Field entry at their operands
 abbrev pub FieldUsesResolve : List ClassUnit → Type 0
 FieldUsesResolve us =
     (k at c n : ℕ) (u : ClassUnit) (access : FieldAccess) → IsInstruction us k u (whats.Field access at)

@@ -42,7 +42,7 @@ pub fn object_fields_lie_apart()
     ensures { (us : List ClassUnit) (order : List ℕ) → IsLinked us order → ObjectFieldsLieApart (classes_of us) }
 {}
 
-/// The objects that are there as a program begins lie one behind the other from place 1 to the first free place.
+/// The objects that are there as a program begins lie one after the other from place 1 to the first free place.
 pub fn fixed_objects_lie_in_a_row()
     ensures { (us : List ClassUnit) → LieInARow 1 (objects_at_start (program_names us) us) (first_free (program_names us)) }
 {}
@@ -83,7 +83,7 @@ pub fn arrays_are_there()
     ensures { (us : List ClassUnit) → ArraysAreThere us }
 {}
 
-/// Each string literal has a number, at which its text stands.
+/// Each string literal has a number, at which its text is found.
 pub fn literals_are_there()
     ensures { (us : List ClassUnit) → LiteralsAreThere us }
 {}

@@ -8,7 +8,7 @@ use std::alloc::{AllocError, Global};
 /// A class file: its access flags, its name, the superclass, and two interfaces at most, the others empty.
 pub type File<'a> = (u16, &'a str, &'a str, [&'a str; 2]);
 
-/// Adds a name, which comes to stand at an index, and its Class entry.
+/// Adds a name, which gets an index of the pool, and its Class entry.
 fn add_class(
     alloc: Global,
     pool: &mut Vec<Constant>,
@@ -20,7 +20,7 @@ fn add_class(
     Ok(())
 }
 
-/// The pool of a file: the Class entries of its name, its superclass and its interfaces stand at 2, 4, 6 and 8.
+/// The pool of a file: the Class entries of its name, its superclass and its interfaces are at 2, 4, 6 and 8.
 fn pool(alloc: Global, file: File<'_>) -> Result<Vec<Constant>, AllocError> {
     let (_, name, superclass, named) = file;
     let mut pool = Vec::new(alloc);

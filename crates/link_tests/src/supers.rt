@@ -240,7 +240,7 @@ fn programs_are_refused_for_the_first_rule_that_is_broken(rt: HostRuntime) -> Re
     Ok(())
 }
 
-/// A program of so many files without a name in common.
+/// A program of `count` files, no two of which have a name in common.
 fn many(alloc: Global, count: u32) -> Result<(u8, u32, u16), Fail> {
     let mut units = Vec::new(alloc);
     for number in 0..count {
@@ -268,7 +268,7 @@ fn ordered(alloc: Global, units: &[ClassUnit]) -> Result<Vec<u32>, Fail> {
     }
 }
 
-/// A chain that stands in the files upside down; its classes have the numbers 29, 30 and 31.
+/// A chain whose files come in the reverse order; its classes have the numbers 29, 30 and 31.
 static CHAIN: [File<'static>; 3] = [
     (CLASS, "C", "B", NONE),
     (CLASS, "B", "A", NONE),

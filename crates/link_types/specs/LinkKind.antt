@@ -1,9 +1,9 @@
--- What a refusal of linking is told by.
+-- What identifies a refusal of linking.
 use Rattle.std.specs.Prelude.{ℕ}
 use Rattle.link_types.specs.declared.refusal.LinkKind.{LinkKind}
 use Rattle.link_types.specs.declared.refusal.LinkKind.TheVariants.{Twice, Missing, Cycle, FinalSuper, NotInterface, NoField, NoMethod, StaticMismatch, Private, VolatileLong, Native, DefaultMethod, TooMany, FloatUse, FinalMethod, NotClass}
 
--- the number by which a kind is told, from 1 in this order
+-- the number that identifies a kind, from 1 in this order
 abbrev pub kind_number : LinkKind → ℕ
 kind_number Twice = 1
 kind_number Missing = 2

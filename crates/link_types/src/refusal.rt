@@ -57,7 +57,7 @@ pub enum LinkKind {
 }
 
 impl LinkKind {
-    /// The number by which the kind is told, from 1 in the order of the variants.
+    /// The number that identifies the kind, from 1 in the order of the variants.
     pub fn number(self) -> u8
         ensures { result ≡ kind_number self }
     {

@@ -27,7 +27,7 @@ pub enum ObjectType {
     Class(u32),
     /// A class that the program hasn't got, by the number of its name. Names have one number where they are the same.
     Other(u32),
-    /// An array of so many dimensions, from 1 to 255, and the type of its innermost elements.
+    /// An array of the given number of dimensions, from 1 to 255, and the type of its innermost elements.
     Array(u8, ElementType),
 }
 

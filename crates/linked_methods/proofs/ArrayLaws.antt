@@ -47,7 +47,7 @@ few_dimensions p name less = go (type_named p name) refl
               absurd (true≢false (sym (ap (has_dimensions 255) (s.spelled ∙ ap (λ n. array_text n (base_text s.base)) most) ∙ begins_with 255 (base_text s.base)) ∙ less))
         ]
 
--- what stands at the index of a Class entry
+-- what is at the index of a Class entry
 class_operand_is : (us : List ClassUnit) (c : ℕ) (u : ClassUnit) (index : ℕ) (purpose : ClassUse) (named : UsesClass u.file.pool purpose index) → unit_numbered us c ≡ Some u
     → operand us c index ≡ operands.Class (class_operand (program_names us) named.0)
 class_operand_is us c u index purpose named at =

@@ -16,7 +16,7 @@ use map_frames::MethodEntry;
 use std::alloc::{AllocError, Global};
 use type_rules::VerificationType;
 
-// Puts the types of parameters behind the others.
+// Appends the types of parameters to the others.
 fn push_parameters(
     values: &mut Vec<VerificationType>,
     parameters: &[ValueType],
@@ -57,7 +57,7 @@ impl<'a> LinkedMethod<'a> {
     }
 
     /// What the method begins with: its receiver, which a constructor has yet to initialize, and its parameters (JVMS
-    /// 4.10.1.6), by which its map frames stand for those that the rules see. It fails for want of memory alone.
+    /// 4.10.1.6). By it, its map frames stand for those that the rules see. It fails only when memory runs out.
     pub fn entry(&self, alloc: Global) -> Result<MethodEntry, AllocError>
         ensures entry { IfOk result (λ entry. IsEntryOf (environment_of_method self.now) entry) }
         ensures values { IfOk result (λ entry. entry.values.items ≡ values_at_entry self.now) }

@@ -19,7 +19,7 @@ pub fn type_of_value(value: ValueType) -> VerificationType
     }
 }
 
-// Puts the words of a value behind the others, as they lie in locals.
+// Appends the words of a value to the others, as they lie in locals.
 fn push_value(words: &mut Vec<VerificationType>, value: VerificationType) -> Result<(), AllocError>
     ensures { OnOk result (words.new.items ≡ words.old.items ++ types.in_locals value) }
 {

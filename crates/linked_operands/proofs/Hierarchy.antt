@@ -57,7 +57,7 @@ from_map_list {X} {Y} f (x ∷ xs) y h = elim (contains_cases (f x) (map f xs) y
     next : (j : ℕ) × (z : X) × (slice_get xs j ≡ Some z) × (f z ≡ y) → (j : ℕ) × (z : X) × (slice_get (x ∷ xs) j ≡ Some z) × (f z ≡ y)
     next g = (suc g.0, g.1, g.2, g.3)
 
--- what is found behind classes is a class
+-- past all classes there are no interfaces
 none_found : (us : List ClassUnit) (c i : ℕ) → length (classes_of us) < c → Contains (interfaces_of (classes_of us) c) i → ⊥
 none_found us c i past h = contains_none i (subst (λ o. Contains (option_map_or (λ (k : NamedClass). map (class_number (classes_of us)) k.interfaces) o []) i) (Rattle.link_rules.proofs.Numbers.past_all (classes_of us) c past) h)
 

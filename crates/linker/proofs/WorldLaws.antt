@@ -51,6 +51,6 @@ given_ok rules Is r x is given = subst (λ s. Gives s rules Is) is given
 pub given_err : {X : Type 0} (rules : Rules LinkRefusal) (Is : X → Type 0) (r : Result X LinkRefusal) (e : LinkRefusal) → r ≡ Err e → Gives r rules Is → Refuses e rules
 given_err rules Is r e is given = subst (λ s. Gives s rules Is) is given
 
--- where all rules hold, those of what stands above classes do
+-- where all rules hold, those of what lies above classes do
 pub hierarchy_holds : (us : List ClassUnit) → (link_rules us).Hold → (hierarchy_rules us).Hold
 hierarchy_holds us holds = (holds.0, (holds.1.0, holds.1.1.0))

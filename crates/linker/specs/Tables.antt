@@ -27,7 +27,7 @@ pub record AreMemberTables (us : List ClassUnit) (t : MemberTables) : Type 0 whe
   pub selection : IsSelectionOf us t.selection
   pub operands : AreOperandsOf us t.operands
 
--- classes can be put in an order in which each stands behind those that it names
+-- classes can be put in an order in which each comes after those that it names
 abbrev pub HasOrder : List ClassUnit → Type 0
 HasOrder us = (order : List ℕ) × PutsSupersFirst (classes_of us) order
 

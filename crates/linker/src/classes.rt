@@ -100,7 +100,7 @@ impl World {
         self.tables.classes.layout.layout(class, classes)
     }
 
-    /// The words of a new object of a class, or of a new array of so many elements, without header and monitor.
+    /// The words of a new object of a class, or of a new array of `elements` elements, without header and monitor.
     pub fn words(&self, class: u32, elements: u32) -> u64
         ensures { result ≡ object_words (program_names self.now) class elements }
     {

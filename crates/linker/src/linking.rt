@@ -52,13 +52,13 @@ fn linked_world(alloc: Global, units: Vec<ClassUnit>) -> Result<World, LinkRefus
     }
 }
 
-/// Links the class files of a program (JVMS 5.3 to 5.5): `Ok` exactly where all rules of linking hold, want of memory
-/// aside. The world is seen as its files, whose classes can then be put in an order in which each stands behind those
+/// Links the class files of a program (JVMS 5.3 to 5.5): `Ok` exactly where all rules of linking hold, unless memory
+/// runs out. The world is seen as its files, whose classes can then be put in an order in which each comes after those
 /// that it names.
 ///
 /// # Errors
 /// The refusal of the first rule that is broken, in the order of `link_rules`: of how many files there are and what
-/// their classes are named, of what stands above classes, of members, of implementations, and of what instructions and
+/// their classes are named, of what lies above classes, of members, of implementations, and of what instructions and
 /// handlers name. `NoMemory` where memory runs out.
 pub fn link(alloc: Global, units: Vec<ClassUnit>) -> Result<World, LinkRefusal>
     requires decoded { AreUnits units.items }

@@ -52,7 +52,7 @@ impl World {
         self.tables.classes.start.arguments()
     }
 
-    /// The first place behind the objects that are there as the program begins, less than 2^30.
+    /// The first place after the objects that are there as the program begins, less than 2^30.
     pub fn first_free(&self) -> u32
         ensures value { result ≡ first_free (program_names self.now) }
         ensures small { result < 2 ^ 30 }

@@ -45,7 +45,7 @@ pub struct Tables {
     pub members: MemberTables,
 }
 
-/// The tables of classes, where the rules of linking hold, in an order in which each class stands behind those that it
+/// The tables of classes, where the rules of linking hold, in an order in which each class comes after those that it
 /// names.
 pub fn class_tables(
     alloc: Global,

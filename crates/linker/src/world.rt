@@ -40,8 +40,8 @@ impl World {
         &self.units
     }
 
-    /// The files were decoded, the rules of linking hold, and the classes can be put in an order in which each stands
-    /// behind those that it names. Does nothing.
+    /// The files were decoded, the rules of linking hold, and the classes can be put in an order in which each comes
+    /// after those that it names. Does nothing.
     pub fn is_linked(&self)
         ensures decoded { AreUnits self.now }
         ensures linked { (link_rules self.now).Hold }

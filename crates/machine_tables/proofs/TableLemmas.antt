@@ -68,7 +68,7 @@ seat_inside seats t d low high inside =
     in_range : (nat_lt 0 t && nat_lt t 256) ≡ true
     in_range = grind (arith, nat_tests)
 
--- the seat at a number changed where it stands
+-- the seat at a number is changed at its place
 pub seat_changed : {C : Type 0} (seats : List (Option (Seat C))) (t place : ℕ) (now new seat : Option (Seat C)) (change : Option (Seat C) → Option (Seat C))
     → (place ≡ t) × (0 < t) × (t < length seats) → t < 256 → now ≡ get_or seats place now → new ≡ change now → seat_in seats t ≡ seat
     → ◌≡◌ {A = ℕ → Option (Seat C)} (λ k. seat_in (slice_set seats place new) k) (set_at (λ k. seat_in seats k) t (change seat))

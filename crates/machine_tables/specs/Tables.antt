@@ -81,7 +81,7 @@ seat_in seats t = if nat_lt 0 t && nat_lt t 256 then unwrap_or (slice_get seats 
 abbrev pub seat_at : {C : Type 0} → Threads C → ℕ → Option (Seat C)
 seat_at threads t = seat_in threads.seats.items t
 
--- a seat whose thread waits for something else, or stands elsewhere
+-- a seat whose thread waits for something else, or is elsewhere
 abbrev pub waiting_at : {C : Type 0} → WaitState → Option (Seat C) → Option (Seat C)
 waiting_at waiting None = None
 waiting_at waiting (Some x) = Some (record x { waiting = waiting })
@@ -94,7 +94,7 @@ abbrev pub placed_at : {C : Type 0} → Standing C → Option (Seat C) → Optio
 placed_at standing None = None
 placed_at standing (Some x) = Some (record x { standing = standing })
 
--- a thread makes n silent steps where it stands; one that has ended makes none
+-- a thread makes n silent steps from where it is; one that has ended makes none
 abbrev pub StandingRuns : {C S : Type 0} → Code S → (C → S) → ℕ → Standing C → Standing C → Type 0
 StandingRuns code state n (Live from) (Live behind) = quiet_steps code n (state from) ≡ Some (state behind)
 StandingRuns code state n (Ended x) (Ended y) = (n ≡ 0) × (y ≡ x)

@@ -58,7 +58,7 @@ impl Classes {
         }
     }
 
-    /// Notes how far the initialization of a class is. Without memory for it the table is as before.
+    /// Records how far the initialization of a class is. When memory runs out, the table is as before.
     pub fn set(&mut self, class: u32, progress: ClassProgress) -> Result<(), NoMemory>
         ensures ok { OnOk result (classes_in self.new ≡ set_at (classes_in self.old) class (class_state_of progress)) }
         ensures err { OnErr result (classes_in self.new ≡ classes_in self.old) }

@@ -91,7 +91,7 @@ pub struct HeapObject {
     pub class: u32,
     /// An array's length, 0 for an object that is no array.
     pub length: u32,
-    /// Its words. Class and length don't tell how many they are.
+    /// Its words. Class and length don't say how many there are.
     pub words: Words,
     /// Its monitor.
     pub monitor: MonitorState,
@@ -223,7 +223,7 @@ impl Objects {
         }
     }
 
-    /// Notes the number of the thread that the object of a reference started. Where none is there, nothing
+    /// Records the number of the thread that the object of a reference started. Where there is no object, nothing
     /// changes.
     pub fn set_started(&mut self, reference: u32, started: u8)
         ensures there { (x : _) → object_at self.old reference ≡ Some x → object_at self.new ≡ set_at (object_at self.old) reference (Some (record x { started = started })) }

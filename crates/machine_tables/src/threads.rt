@@ -1,4 +1,4 @@
-//! The threads that have begun, by number: where each stands, and what it waits for.
+//! The threads that have begun, by number: where each is, and what it waits for.
 
 ghost use Rattle.std.specs.Prelude.{ℕ, ◌≡◌, ◌<◌, Ok, Err, true, false, OnOk, OnErr, Some, None, IsSome, IsNone, ◌↔◌, ◌≤◌, IsTrue, MatchOption, ◌+◌, length, vec_len};
 ghost use Rattle.std.specs.Option.{option_copied, option_map};
@@ -11,7 +11,7 @@ use crate::places::{replace_at, reply_at, run_at, silent_at, stand_at, wait_at};
 use op_core::{CodeStop, NoMemory, Reply, ThreadCode};
 use std::alloc::Global;
 
-/// Where a thread that has begun stands.
+/// Where a thread that has begun is.
 #[derive(Drop)]
 pub enum Standing<C> {
     /// It goes on from this code.
@@ -25,7 +25,7 @@ pub enum Standing<C> {
 pub enum WaitState {
     /// Nothing.
     Awake,
-    /// It is in the wait set of the object of this reference, whose monitor it had entered so many times.
+    /// It is in the wait set of the object of this reference, whose monitor it had entered this many times.
     Waits(u32, u64),
     /// It was notified, and has yet to enter that monitor again as many times.
     Notified(u32, u64),
@@ -77,7 +77,7 @@ impl WaitState {
 /// A thread that has begun.
 #[derive(Drop)]
 pub struct Seat<C> {
-    /// Where it stands.
+    /// Where it is.
     pub standing: Standing<C>,
     /// What it waits for.
     pub waiting: WaitState,
@@ -260,7 +260,7 @@ impl<C: Drop> Threads<C> {
         }
     }
 
-    /// Sets where a thread stands, and how many silent steps it has made since its last event. Where it has
+    /// Sets where a thread is, and how many silent steps it has made since its last event. Where it has
     /// not begun, nothing changes.
     pub fn set_standing(&mut self, thread: u8, standing: Standing<C>, silent: u64)
         ensures there { (x : _) → seat_at self.old thread ≡ Some x → seat_at self.new ≡ set_at (seat_at self.old) thread (Some (record x { standing = standing; silent = silent })) }
@@ -271,7 +271,7 @@ impl<C: Drop> Threads<C> {
         }
     }
 
-    /// Lets a thread stand elsewhere, with the silent steps that it has made, and gives where it stood; `None`
+    /// Puts a thread elsewhere, with the silent steps that it has made, and returns where it was; `None`
     /// where it has not begun, and then nothing changes.
     pub fn replace_standing(&mut self, thread: u8, standing: Standing<C>) -> Option<Standing<C>>
         ensures result { result ≡ option_map (λ x. x.standing) (seat_at self.old thread) }
@@ -286,7 +286,7 @@ impl<C: Drop> Threads<C> {
 }
 
 impl<C: ThreadCode + Drop> Threads<C> {
-    /// Makes silent steps of a thread where it stands, at most so many, and answers how many: none where it
+    /// Makes at most `most` silent steps of a thread from where it is, and returns how many it made: none where it
     /// has not begun or has ended. The count of its silent steps has room for them.
     pub fn run_silent(&mut self, thread: u8, most: u64) -> u64
         ensures runs { SeatRuns C.code C.state result (seat_at self.old thread) (seat_at self.new thread) }
@@ -299,10 +299,10 @@ impl<C: ThreadCode + Drop> Threads<C> {
         }
     }
 
-    /// Makes the silent step of a thread where it stands, and says that it did. It does not exactly where the thread
-    /// isn't silent next, and where the step ends a frame that was on top at a save. `Frames` comes exactly where the step
-    /// would make a 1,025th frame, and `NoMemory` also where its count of silent steps has no room. Where no step
-    /// was made, nothing changes.
+    /// Makes the silent step of a thread from where it is, and returns whether it did. It does not exactly where the
+    /// thread isn't silent next, and where the step ends a frame that was on top at a save. `Frames` comes exactly
+    /// where the step would make a 1,025th frame, and `NoMemory` also where its count of silent steps has no room.
+    /// Where no step was made, nothing changes.
     pub fn silent(&mut self, thread: u8) -> Result<bool, CodeStop>
         ensures made { result ≡ Ok true → SeatRuns C.code C.state 1 (seat_at self.old thread) (seat_at self.new thread) }
         ensures left { result ≡ Ok false → SeatLeaves C.code C.state C.saved (seat_at self.old thread) }
@@ -316,7 +316,7 @@ impl<C: ThreadCode + Drop> Threads<C> {
         }
     }
 
-    /// Goes on with the reply to the operation that a thread wants, where it stands. It has then made no silent
+    /// Goes on with the reply to the operation that a thread wants, from where it is. It has then made no silent
     /// step since its last event. Takes no memory.
     #[inline(always)]
     pub fn reply(&mut self, thread: u8, reply: Reply)

@@ -41,7 +41,7 @@ impl Words {
         Ok(Words { words })
     }
 
-    /// So many words, all 0 as in a new object (JLS 4.12.5), or an error where there is no memory for them.
+    /// `count` words, all 0 as in a new object (JLS 4.12.5), or an error where there is no memory for them.
     pub fn zeros(alloc: Global, count: u64) -> Result<Self, NoMemory>
         ensures { IfOk result (λ words. words ≡ replicate count 0) }
     {

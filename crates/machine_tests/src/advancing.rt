@@ -187,7 +187,7 @@ fn mains_own_thread_was_started(rt: HostRuntime) -> Result<(), Fail> {
     Ok(())
 }
 
-/// Three silent steps before an operation, and none behind it.
+/// Three silent steps before an operation, and none after it.
 const RUNS_AND_HALTS: [ScriptStep; 4] = [
     ScriptStep::Call,
     ScriptStep::Pass,

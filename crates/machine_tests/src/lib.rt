@@ -1,4 +1,4 @@
-//! Tests of the ordinary machine and of what it stands on, over their public calls.
+//! Tests of the ordinary machine and of what it is built on, over their public calls.
 #![tactic(auto)]
 
 /// A step that a thread made: its number, the silent steps before it, the operation and the reply.

@@ -29,7 +29,7 @@ fn two_threads_hand_a_monitor_over(rt: HostRuntime) -> Result<(), Fail> {
     Ok(())
 }
 
-/// A step of thread 2 with one silent step too many stands at place 5.
+/// A step of thread 2 with one silent step too many, at place 5.
 const TOO_SILENT: [Event; 6] = [
     event!(1, 0, Op::Start(7, 5), Reply::Number(2)),
     event!(1, 0, Op::Enter(9), Reply::Done),

@@ -7,7 +7,7 @@ use std::test::Fail;
 
 const ENABLED: [u8; 3] = [2, 5, 9];
 
-/// A number, the one that is drawn behind it, and the thread of those above that it picks.
+/// A number, the one that is drawn after it, and the thread of those above that it picks.
 const DRAWS: [(u64, u64, u8); 4] = [
     (1, 7806831264735756412, 9),
     (7806831264735756412, 9396908728118811419, 2),

@@ -133,7 +133,7 @@ const WAIT: Run = Run {
     left: &[],
 };
 
-/// Who joins a thread goes on behind its end, and who waits without the monitor goes on at once.
+/// A thread that joins another goes on after its end, and one that waits without the monitor goes on at once.
 const JOIN: Run = Run {
     scripts: &[
         ToyScript {

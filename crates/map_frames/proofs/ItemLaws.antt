@@ -1,4 +1,4 @@
--- Items of locals, and words of stacks, one behind the other.
+-- Items of locals, and words of stacks, one after the other.
 use Rattle.std.proofs.Common.{◌≡◌, ◌≢◌, None, ℕ, zero, suc, ◌+◌, ◌-◌, ◌<◌, ◌≤◌, Bool, List, [], ◌∷◌, ◌++◌, map, take, length, get_or, reverse, append_assoc, refl, sym, ◌∙◌, ap, subst, arith}
 use Rattle.std.proofs.lemmas.List.{length-reverse, length-append, length_push, length-map, take_more, take-take, take-map, map-append, reverse-append}
 use Rattle.code_frames.specs.declared.types.VType.{VType}

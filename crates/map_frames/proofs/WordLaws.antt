@@ -12,7 +12,7 @@ use Rattle.map_frames.specs.declared.words.LocalWords.{LocalWords}
 use Rattle.map_frames.specs.Mapped.{is_word}
 use Rattle.map_frames.specs.Making.{one_if, count_words, type_frame, AreWords}
 
--- locals behind which there is nothing are Top
+-- locals after the last word are Top
 abbrev pub pad : ℕ → List VerificationType → List VerificationType
 pad zero ws = []
 pad (suc n) [] = Top ∷ pad n []

@@ -32,7 +32,7 @@ pub record AreWords (stores : FrameStores) (words : LocalWords) (ws : List Verif
 abbrev pub AreItems : FrameStores → LocalItems → Type 0
 AreItems stores locals = AreWords stores locals.words (words_of_values locals.items.items)
 
--- these words are on a stack, the deepest first, as far as it may have so many
+-- these words are on a stack, the deepest first, as far as they are no more than the stack may have
 pub record IsStack (stores : FrameStores) (frame : CurrentFrame) (locals : List VerificationType) (unset : Bool) (ws : List VerificationType) : Type 0 where
   pub depth : frame.depth ≡ length ws
   pub there : length ws ≤ stores.stacks.most → IsFrame stores frame

@@ -36,9 +36,9 @@ abbrev pub only_word : List VerificationType → Option VerificationType
 only_word (w ∷ []) = Some w
 only_word _ = None
 
--- A map frame is the one of the rules. Its locals are the first ones that the method has: how many it names is told
--- beside them, and whether one past those of the method is known. A stack that is too deep has only its depth, and its
--- word where that is one.
+-- A map frame is that of the rules. Its locals are the first ones that the method has. Beside them, it says how many
+-- locals it names, and whether one past those of the method is known. A stack that is too deep has only its depth, and
+-- its word where that is one.
 pub record Maps (stores : FrameStores) (mapped : MappedFrame) (g : TypeFrame) : Type 0 where
   pub locals : AreLocals stores mapped.locals
   pub shown_locals : shown_locals stores mapped.locals ≡ padded stores.locals.most g.locals
@@ -54,7 +54,7 @@ MapsAt stores None None = Unit {0}
 MapsAt stores (Some mapped) (Some g) = Maps stores mapped g
 MapsAt stores _ _ = ⊥
 
--- the first so many frames of a table are made
+-- the first `count` frames of a table are made
 abbrev pub AreMapped : FrameStores → List MappedFrame → (VType → VerificationType) → Bool → List VerificationType → List MapFrame → ℕ → Type 0
 AreMapped stores made item constructs values frames count =
     (j : ℕ) (f : MapFrame) → j < count → slice_get frames j ≡ Some f

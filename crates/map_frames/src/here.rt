@@ -151,7 +151,7 @@ fn frame_met<H: ClassHierarchy>(
     Ok(map.frame)
 }
 
-/// The frame of the instruction of a number: the map frame that stands there, or else what falls into the instruction
+/// The frame of the instruction of a number: the map frame there, or else what falls into the instruction
 /// (JVMS 4.10.1.6). `before` is what falls into it, the entry frame at the first one, and `map` the map frame there. It
 /// is an error where the method has no room for its entry or for the map frame, where there is neither frame, and where
 /// what falls in doesn't fit the map frame. All frames stay as they are, also after an error.

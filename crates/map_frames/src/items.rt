@@ -33,7 +33,7 @@ pub(crate) fn is_wide(item: VerificationType) -> bool
     matches!(item, VerificationType::Long | VerificationType::Double)
 }
 
-// Locals with an item behind them.
+// Locals with an item appended.
 fn with_item(
     words: LocalWords,
     stores: &mut FrameStores,
@@ -53,7 +53,7 @@ fn with_item(
     made.with_word(stores, max_locals, VerificationType::Second)
 }
 
-// Locals without this item behind them.
+// Locals without this item at their end.
 fn without_item(
     words: LocalWords,
     stores: &mut FrameStores,
@@ -85,7 +85,7 @@ impl LocalItems {
         }
     }
 
-    // Puts an item behind the others.
+    // Appends an item.
     fn push(
         &mut self,
         stores: &mut FrameStores,
@@ -120,7 +120,7 @@ impl LocalItems {
         Ok(())
     }
 
-    // Takes so many items away at the end.
+    // Takes `removed` items away at the end.
     fn pop_all(
         &mut self,
         stores: &mut FrameStores,
@@ -140,7 +140,7 @@ impl LocalItems {
         Ok(())
     }
 
-    // Puts values behind the others.
+    // Appends values.
     pub(crate) fn push_values(
         &mut self,
         stores: &mut FrameStores,
@@ -160,7 +160,7 @@ impl LocalItems {
         Ok(())
     }
 
-    // Puts what items of a table stand for behind the others.
+    // Appends what items of a table stand for.
     fn push_types<P: PoolOperands>(
         &mut self,
         stores: &mut FrameStores,

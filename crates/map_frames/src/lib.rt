@@ -1,5 +1,5 @@
 //! The stack map frames of a method (JVMS SE 8, 4.7.4, 4.10.1.4), made one from the other, so that what two of them
-//! share stands once; and what comes to an instruction where one stands.
+//! share is kept once; and what comes to an instruction where there is one.
 #![tactic(auto)]
 
 mod entry;

@@ -92,7 +92,7 @@ fn mapped_frame<P: PoolOperands>(
     })
 }
 
-// The map frame of the next frame of a table, behind that with these locals.
+// The map frame of the next frame of a table, after the one with these locals.
 fn next_frame<P: PoolOperands>(
     stores: &mut FrameStores,
     entry: &MethodEntry,

@@ -34,7 +34,7 @@ pub struct MapFrames {
 }
 
 impl MapFrames {
-    /// The map frame at an instruction, by the instruction's number; `None` where none stands there. `frames` is the
+    /// The map frame at an instruction, by the instruction's number; `None` where there is none. `frames` is the
     /// table that they were made of. Takes no memory.
     pub fn at(&self, frames: &Frames, step: u32) -> Option<MappedFrame>
         ensures { (stores : FrameStores) (item : VType → VerificationType) (constructs : Bool) (values : List VerificationType)

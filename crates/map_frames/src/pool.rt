@@ -9,7 +9,7 @@ use code_frames::VType;
 use link_types::{ObjectType, Operand};
 use type_rules::VerificationType;
 
-/// Tells what the indices of a class's constant pool stand for.
+/// Says what the indices of a class's constant pool stand for.
 pub trait PoolOperands {
     ghost use Rattle.std.specs.Prelude.{◌≡◌, ℕ};
     ghost use Rattle.link_types.specs.declared.operands.Operand.{Operand};

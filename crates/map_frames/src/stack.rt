@@ -15,7 +15,7 @@ use std::alloc::AllocError;
 use type_rules::VerificationType;
 use typing_frames::{CurrentFrame, FrameStores};
 
-// A frame with a word on its stack, of which no more than its depth is told where it is too deep.
+// A frame with one more word on its stack. Of a stack that is too deep, only the depth is kept.
 fn with_word(
     stores: &mut FrameStores,
     max_stack: u16,

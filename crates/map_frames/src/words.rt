@@ -96,7 +96,7 @@ impl LocalWords {
         }
     }
 
-    // The locals with a word behind them.
+    // The locals with a word appended.
     pub(crate) fn with_word(
         self,
         stores: &mut FrameStores,
@@ -122,7 +122,7 @@ impl LocalWords {
         })
     }
 
-    // The locals without this word behind them.
+    // The locals without this word at their end.
     pub(crate) fn without_word(
         self,
         stores: &mut FrameStores,

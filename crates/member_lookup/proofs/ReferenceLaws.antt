@@ -21,7 +21,7 @@ pub no_text : (ts : List (List ℕ)) (o : Option (List ℕ)) (n : ℕ) → n ≡
 no_text ts None n is none known = refl
 no_text ts (Some t) n is none known = absurd (known t refl (sym is ∙ none))
 
--- at the number of a text stands what is made of it
+-- at the number of a text is what is made of it
 at_number : (h : List ℕ → ℕ) (ts : List (List ℕ)) (t : List ℕ) → number_of ts t ≢ 0 → get_or (map h ts) (number_of ts t - 1) 0 ≡ h t
 at_number h ts t some = go (number_of ts t) refl some
   where

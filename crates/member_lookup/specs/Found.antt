@@ -58,7 +58,7 @@ first_virtual p name descriptor =
 abbrev pub holder_named : List NamedClass → List ℕ → ℕ
 holder_named cs name = if is_array_name name then OBJECT else class_number cs name
 
--- what look-up stands on
+-- what look-up is based on
 pub record IsLookup (us : List ClassUnit) (p : ProgramTexts) (holders : List ℕ) (initializer : ℕ) (t : Tables) : Type 0 where
   pub units : p.units ≡ us
   pub tables : AreTables us p.texts (length (classes_of us)) t

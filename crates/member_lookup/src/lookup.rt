@@ -127,8 +127,8 @@ impl<'a> MemberLookup<'a> {
         })
     }
 
-    /// The numbers of the field or method that the entry at an index of the pool of a file names (JVMS 4.4.2), or `None`
-    /// where no such entry stands there. Takes no memory, and no time to speak of.
+    /// The numbers of the field or method that the entry at an index of the pool of a file names (JVMS 4.4.2), or
+    /// `None` where there is no such entry. Takes no memory, and no time to speak of.
     pub fn reference(&self, file: u32, index: u16) -> Option<ReferenceNumbers>
         ensures { (u : ClassUnit) → slice_get self.now.units file ≡ Some u → AreNumbersOf self.now (reference_in u.file.pool (slice_get u.file.pool index)) result }
     {

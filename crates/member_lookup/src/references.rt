@@ -10,7 +10,7 @@ use crate::found::ReferenceNumbers;
 use class_texts::ClassTexts;
 use class_walk::Constant;
 
-/// The number of the text of a Utf8 entry, or `None` where none stands there.
+/// The number of the text of a Utf8 entry, or `None` where there is no such entry.
 fn text_at(texts: &ClassTexts<'_>, file: u32, index: u16) -> Option<u32>
     ensures number { (u : ClassUnit) → slice_get texts.now.units file ≡ Some u → result ≡ option_map (number_of texts.now.texts) (utf8_of (slice_get u.file.pool index)) }
     ensures some { IfSome result (λ n. n ≢ 0) }

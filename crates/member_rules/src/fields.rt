@@ -27,7 +27,7 @@ pub fn refuse(kind: LinkKind, class: u32, place: u16) -> Result<(), LinkRefusal>
     Err(LinkRefusal::At { kind, class, place })
 }
 
-/// Whether the text that stands there is a descriptor with a float or a double, by the numbers of texts.
+/// Whether the text there is a descriptor with a float or a double, by the numbers of texts.
 pub fn has_float_at(texts: &ClassTexts<'_>, floats: &[bool], file: u32, index: u16) -> bool
     requires { floats.now ≡ map has_float texts.now.texts }
     ensures { (u : ClassUnit) → slice_get texts.now.units file ≡ Some u → result ≡ has_float (utf8_at u.file.pool index) }
@@ -39,7 +39,7 @@ pub fn has_float_at(texts: &ClassTexts<'_>, floats: &[bool], file: u32, index: u
     is_float_text(floats, number)
 }
 
-/// Whether the text that stands there is the descriptor of a long.
+/// Whether the text there is the descriptor of a long.
 fn is_long_at(pool: &[Constant], index: u16) -> bool
     ensures { result ≡ bytes_eq (utf8_at pool.now index) (codes "J") }
 {
@@ -72,7 +72,7 @@ fn check_field(
     Ok(())
 }
 
-/// The rules of the fields of the file at a place: no float or double stands in their descriptors, and no volatile one
+/// The rules of the fields of the file at a place: no float or double occurs in their descriptors, and no volatile one
 /// is a long. The refusal is that of the first field that breaks one.
 pub fn check_fields(
     texts: &ClassTexts<'_>,

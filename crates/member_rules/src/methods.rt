@@ -98,7 +98,7 @@ fn check_method(
     Ok(())
 }
 
-/// The rules of the methods of the file at a place: no float or double stands in their descriptors, none is native or a
+/// The rules of the methods of the file at a place: no float or double occurs in their descriptors, none is native or a
 /// method of an interface that has code, and none overrides a final one. The refusal is that of the first method that
 /// breaks one.
 pub fn check_methods(

@@ -47,7 +47,7 @@ found_own (n ∷ ms) c m e = go (n.class == c) refl (found_own ms c m) e
 pub is_own : (ms : List MemberRow) → IsOwn (of_class ms)
 is_own ms c m e = let own : m.class ≡ c = found_own ms c m e in (own, ap (of_class ms) own ∙ e)
 
--- behind one class more the ranks move together
+-- another class in front of the others moves their ranks together
 rank_next : (x : ℕ) (xs : List ℕ) (c : ℕ) → x ≢ c → rank (x ∷ xs) c ≡ one_behind (rank xs c)
 rank_next x xs c ne = let other : (x == c) ≡ false = ne_eqb x c ne in rw other refl
 
@@ -89,7 +89,7 @@ first_own f own (c ∷ cs) m e = go (f c) refl (first_own f own cs m) e
     go None is later e = later e
     go (Some n) is later e = (own c m (is ∙ e)).1
 
--- the rank of what was found behind a class that has nothing
+-- the rank of what was found, where the class in front has nothing
 rank_behind : (x : ℕ) (xs : List ℕ) (o : Option MemberRow) → ((m : MemberRow) → o ≡ Some m → x ≢ m.class) → rank_of (x ∷ xs) o ≡ one_behind (rank_of xs o)
 rank_behind x xs None apart = refl
 rank_behind x xs (Some m) apart = rank_next x xs m.class (apart m refl)

@@ -22,7 +22,7 @@ pub struct MemberRow {
     pub flags: u16,
 }
 
-/// Members in the order in which they were added, which contracts see. Those of one name and descriptor stand together.
+/// Members in the order in which they were added, which contracts see. Those of one name and descriptor are together.
 #[derive(Drop)]
 pub struct MemberTable {
     alloc: Global,

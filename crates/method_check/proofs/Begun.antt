@@ -17,7 +17,7 @@ take_one_more : (ws : List VerificationType) (n : ℕ) (w : VerificationType) �
 take_one_more ws n w there =
     take_more ws n w (slice_get_within ws n w there) ∙ ap (λ x. take n ws ++ x ∷ []) (get_or_from_slice_get ws n w w there)
 
--- one of the first so many words is one of all
+-- one of the first n words is one of all
 pub among_first : (ws : List VerificationType) (n k : ℕ) → k < length (take n ws) → (slice_get ws k ≡ Some (get_or (take n ws) k Top)) × (k < length ws)
 among_first [] zero k h = absurd (omega (arith, h))
 among_first [] (suc n) k h = absurd (omega (arith, h))
@@ -25,7 +25,7 @@ among_first (w ∷ ws) zero k h = absurd (omega (arith, h))
 among_first (w ∷ ws) (suc n) zero h = (refl, omega arith)
 among_first (w ∷ ws) (suc n) (suc k) h = let rest = among_first ws n k (omega (arith, h)) in (rest.0, omega (arith, rest.1))
 
--- so many words are in the locals of a frame
+-- the first `count` words are in the locals of a frame
 pub record Filling (old new : FrameStores) (frame : CurrentFrame) (words : List VerificationType) (unset : Bool) (count : ℕ) : Type 0 where
   pub follows : StoresFollow old new
   pub remembered : (h : Hierarchy) → StoresRemember h old → StoresRemember h new

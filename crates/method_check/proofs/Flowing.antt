@@ -60,7 +60,7 @@ flows_begin h method frame stores all left same remembered = record {
   rest = λ env operands e are. ap (flows_fault env (shown stores frame)) same;
 }
 
--- what a check of the next target tells of the frame as it was
+-- a check of the next target has the same fault in the frame as it was
 pub told_before : (env : Environment) (frame : CurrentFrame) (old now : FrameStores) (step : ℕ) → LeavesFrames old now → IsFrame old frame
     → flow_fault env (shown now frame) step ≡ flow_fault env (shown old frame) step
 told_before env frame old now step leaves there = ap (λ f. flow_fault env f step) (leaves.same frame there)

@@ -33,7 +33,7 @@ module _ (env : Environment) (k : ℕ) (i : Instr Target) where
   falls stores next made f is shows =
       ap (λ o. shown_if stores o) is ∙ falls_as (falls_through i.what) stores made (frame_after env i f) shows
 
-  -- no handler breaks a rule, and the instruction none by itself, and this is the frame behind it
+  -- no handler breaks a rule, and the instruction none by itself, and this is the frame after it
   pub record IsBehind (f behind : TypeFrame) : Type 0 where
     pub handlers : handlers_fault env k f env.handlers ≡ None
     pub own : own_fault env i f ≡ None

@@ -1,4 +1,4 @@
--- What an answer tells of rules that stand one behind the other.
+-- What an answer says about rules that come one after the other.
 use Rattle.std.proofs.Common.{◌≡◌, Option, None, Result, Err, sym, ap, subst}
 use Rattle.type_rules.specs.declared.refusal.VerifyKind.{VerifyKind}
 use Rattle.type_rules.specs.TypeFaults.{◌or_else◌}

@@ -1,4 +1,4 @@
--- A method that is checked, and what its refusal tells.
+-- A method that is checked, and what its refusal says.
 use Rattle.std.specs.Prelude.{◌≡◌, ℕ, Some, map, slice_get}
 use Rattle.instructions.specs.declared.what.Instr.{Instr}
 use Rattle.instructions.specs.declared.what.Target.{Target}
@@ -33,7 +33,7 @@ pub record IsFaultAt (env : Environment) (kind : VerifyKind) (place : ℕ) : Typ
   pub first : IsFirstTypeFault env number kind instruction
   pub at : place ≡ instruction.at
 
--- nothing is told where there is no memory
+-- nothing is said where there is no memory
 abbrev pub TellsMethodFault : Environment → MethodRefusal → Type 0
 TellsMethodFault env NoMemory = Unit {0}
 TellsMethodFault env (At kind place) = IsFaultAt env kind place

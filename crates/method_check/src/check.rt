@@ -40,7 +40,7 @@ fn walk_all<W: MethodWorld, P: PoolOperands>(
     ensures first { IfErr result (λ e. TellsMethodFault (W.environment world.now) e) }
 {
     for (number, instruction) in method.steps.as_slice().iter().enumerate() {
-        // No code has so many instructions.
+        // No code has 2^32 instructions or more.
         let Ok(step) = u32::try_from(number) else {
             return Err(MethodRefusal::NoMemory);
         };
@@ -51,14 +51,14 @@ fn walk_all<W: MethodWorld, P: PoolOperands>(
     Ok(())
 }
 
-/// Checks whether a method is type safe (JVMS 4.10.1.5). `world` is what the rules see of it, `pool` what the indices of
-/// its class's constant pool stand for, `entry` what it begins with, and `code` its code. All memory that is taken is
-/// given back.
+/// Checks whether a method is type safe (JVMS 4.10.1.5). `world` is what the rules see of it, `pool` what the indices
+/// of its class's constant pool stand for, `entry` what it begins with, and `code` its code. All memory that is taken
+/// is given back.
 ///
 /// # Errors
 ///
 /// The first rule that is broken, by the order of the instructions, and the offset of the instruction at which it is.
-/// `NoMemory` may come anywhere, and tells nothing.
+/// `NoMemory` may come anywhere, and says nothing about the method.
 pub fn check_method<'a, W: MethodWorld, P: PoolOperands>(
     alloc: Global,
     world: &W,

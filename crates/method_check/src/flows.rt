@@ -40,7 +40,7 @@ fn check_flow<H: ClassHierarchy>(
     Ok(())
 }
 
-/// The frame behind an instruction is assignable to the map frame at each target, the default of a switch first (JVMS
+/// The frame after an instruction is assignable to the map frame at each target, the default of a switch first (JVMS
 /// 4.10.1.9). All frames stay as they are, also after an error.
 pub(crate) fn check_flows<H: ClassHierarchy>(
     stores: &mut FrameStores,

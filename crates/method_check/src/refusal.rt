@@ -9,7 +9,7 @@ use type_rules::VerifyKind;
 /// Why a method isn't known to be type safe.
 #[derive(Clone, Copy)]
 pub enum MethodRefusal {
-    /// There was no memory. Nothing is told of the method.
+    /// There was no memory. It says nothing about the method.
     NoMemory,
     /// A rule is broken.
     At {

@@ -19,7 +19,7 @@ use step_frames::{after_instruction, check_instruction};
 use step_wants::MethodWorld;
 use typing_frames::{CheckStop, CurrentFrame, FrameStores};
 
-// The frame behind an instruction, in place of the frame.
+// The frame after an instruction, in place of the frame.
 fn frame_behind<W: MethodWorld>(
     world: &W,
     stores: &mut FrameStores,
@@ -40,7 +40,7 @@ fn frame_behind<W: MethodWorld>(
     Ok(after_instruction(world, stores, frame, instruction)?)
 }
 
-// What falls out of an instruction, behind which this frame is, into the next one.
+// What falls through into the next instruction, where this is the frame after the instruction.
 fn fallen(what: &What<Target>, frame: CurrentFrame) -> Option<CurrentFrame>
     ensures { result ≡ (if falls_through what.now then Some frame else None) }
 {
@@ -52,7 +52,7 @@ fn fallen(what: &What<Target>, frame: CurrentFrame) -> Option<CurrentFrame>
 }
 
 impl Walk {
-    // Checks the rules of an instruction in its frame, and gives the frame behind it, in place of that frame.
+    // Checks the rules of an instruction in its frame, and returns the frame after it, in place of that frame.
     fn check_frame<W: MethodWorld, P: PoolOperands>(
         &mut self,
         world: &W,

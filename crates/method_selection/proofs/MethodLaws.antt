@@ -42,7 +42,7 @@ in_one : {X : Type 0} (g : ℕ → List X) (cs : List ℕ) (y : X) → Contains 
 in_one g [] y h = absurd (contains_none y h)
 in_one {X} g (c ∷ cs) y h = elim (Contains-append_cases (g c) (flat_map g cs) y h) [ inl here ↦ (c, here) | inr later ↦ in_one g cs y later ]
 
--- ---- the rows of classes are told by class and place
+-- ---- the rows of classes are identified by class and place
 
 pub in_place : (p : ProgramTexts) (c i : ℕ) (x : MemberRow) → slice_get (rows_of_class p c) i ≡ Some x → (x.class ≡ c) × (x.place ≡ i)
 in_place p c i x at = go (slice_get (methods_of (classes_of p.units) c) i) (sym (row_at p.texts (methods_of (classes_of p.units)) c i) ∙ at)
@@ -53,7 +53,7 @@ in_place p c i x at = go (slice_get (methods_of (classes_of p.units) c) i) (sym 
         let same : row_of p.texts c i m ≡ x = same_Some (row_of p.texts c i m) x e in
         (sym (ap (λ (r : MemberRow). r.class) same), sym (ap (λ (r : MemberRow). r.place) same))
 
--- a row stands where it says
+-- a row is where it says
 IsPlaced : ProgramTexts → MemberRow → Type 0
 IsPlaced p x = slice_get (rows_of_class p x.class) x.place ≡ Some x
 

@@ -61,7 +61,7 @@ fn entries_of(entries: &[Rows<MethodEntry>], class: u32) -> &[MethodEntry]
     }
 }
 
-/// A row of zeros that has pages for so many numbers, so that the rows that begin as it share them.
+/// A row of zeros that has pages for `numbers` numbers. The rows that begin as it share these pages.
 fn first_row(alloc: Global, numbers: usize) -> Result<SharedRow, AllocError>
     ensures { IfOk result (λ row. (place : ℕ) → number_at row place ≡ 0) }
 {
@@ -97,7 +97,7 @@ fn put_row(rows: &mut Vec<SharedRow>, class: u32, row: SharedRow)
     }
 }
 
-/// The row of each class by its number, made in an order in which superclasses stand first.
+/// The row of each class by its number, made in an order in which superclasses come first.
 pub fn selected_rows(
     alloc: Global,
     lookup: &MemberLookup<'_>,

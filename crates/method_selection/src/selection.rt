@@ -30,8 +30,8 @@ pub struct MethodSelection {
 }
 
 impl MethodSelection {
-    /// The selection of a program, made in an order in which superclasses stand first. What a class inherits it shares
-    /// with its superclass. It fails for want of memory alone.
+    /// The selection of a program, made in an order in which superclasses come first. A class shares with its
+    /// superclass what it inherits. It fails only when memory runs out.
     pub fn new(alloc: Global, lookup: &MemberLookup<'_>, order: &[u32]) -> Result<Self, AllocError>
         requires few { length lookup.now.units ≤ 1024 }
         requires decoded { AreUnits lookup.now.units }

@@ -25,7 +25,8 @@ pub struct MethodTable {
 }
 
 impl MethodTable {
-    /// The methods of a program: a row for each, and a type for each different text. It fails for want of memory alone.
+    /// The methods of a program: a row for each, and a type for each different text. It fails only when memory runs
+    /// out.
     pub fn new(
         alloc: Global,
         lookup: &MemberLookup<'_>,

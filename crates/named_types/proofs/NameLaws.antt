@@ -1,4 +1,4 @@
--- More names behind others.
+-- More names after others.
 use Rattle.std.proofs.Common.{◌≡◌, ℕ, List, [], ◌∷◌, ◌++◌, append_assoc, append-nil, subst, sym, refl, ap, ◌∙◌, Option, None, Some, filter_map, option_to_list}
 use Rattle.std.specs.List.{cons_option}
 use Rattle.class_names.specs.declared.kind.Kind.{Kind}

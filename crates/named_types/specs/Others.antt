@@ -14,7 +14,7 @@ use Rattle.named_types.specs.declared.others.ClassNames.{ClassNames}
 abbrev pub place_in : BTreeMap (Bor (List ℕ)) ℕ → List ℕ → Option ℕ
 place_in places name = get_by (λ k. slice_cmp nat_cmp name k.now) places
 
--- where a name first stands
+-- where a name first occurs
 abbrev pub first_place : List (List ℕ) → List ℕ → Option ℕ
 first_place names name = position_from (bytes_eq name) 0 names
 
@@ -27,7 +27,7 @@ pub record AreNames (c : ClassNames) (names : List (List ℕ)) : Type 0 where
   pub places : (name : List ℕ) → place_in c.places name ≡ first_place names name
   pub count : c.count ≡ length names
 
--- the names are more by these, which stand behind the others
+-- these names are added after the others
 abbrev pub HasMore : ClassNames → ClassNames → List (List ℕ) → Type 0
 HasMore old new more = (names : List (List ℕ)) → AreNames old names → AreNames new (names ++ more)
 

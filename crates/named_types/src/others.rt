@@ -6,7 +6,7 @@ ghost use Rattle.named_types.specs.Others.{place_in, first_place, with_place, Ar
 use std::alloc::{AllocError, Global};
 use std::collections::BTreeMap;
 
-/// The places at which class names first stand in a list of them. Contracts say which list it is (`AreNames`).
+/// The places at which class names first occur in a list of them. Contracts say which list it is (`AreNames`).
 #[derive(Drop)]
 pub struct ClassNames<'a> {
     places: BTreeMap<&'a [u8], u32>,

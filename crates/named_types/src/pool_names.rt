@@ -1,4 +1,4 @@
-//! The class names that stand in the pools of class files.
+//! The class names that occur in the pools of class files.
 
 ghost use Rattle.std.specs.Prelude.{◌++◌, ◌∷◌, [], false, OnOk, IfOk, filter_map, flat_map, option_map, option_to_list, if◌then◌else◌};
 ghost use Rattle.class_names.specs.Shape.{kind_of};

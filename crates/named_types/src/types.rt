@@ -37,7 +37,7 @@ impl<'a, 'b> Model for NamedTypes<'a, 'b> {
 }
 
 impl<'a, 'b> NamedTypes<'a, 'b> {
-    /// Gives each class name that a file has a number. One look at each text. It fails for want of memory alone.
+    /// Gives each class name that a file has a number. One look at each text. It fails only when memory runs out.
     pub fn new(alloc: Global, supers: &'a Supers<'b>) -> Result<Self, AllocError>
         ensures { IfOk result (λ types. types ≡ supers.now) }
     {

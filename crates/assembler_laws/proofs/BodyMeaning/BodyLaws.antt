@@ -42,7 +42,7 @@ mark_of marks label offset e =
 
 module _ (marks : Marks) (places : Places) (pool : List Constant) (ws : List (Written ℕ)) (read : List (Instr Target)) (meant : AreMeant pool 0 ws (map by_offsets read))
     (labels : (name : List ℕ) (mark : Mark) → marks name ≡ Some mark → HasPlace 0 0 ws places name mark) where
-  -- a label that leads to an instruction stands before it
+  -- a label that leads to an instruction comes right before it
   leads_before : (label : List ℕ) (offset j : ℕ) → Leads marks label offset → number_at read offset ≡ Some j → places label ≡ Some j
   leads_before label offset j leads e =
       let mark = mark_of marks label offset leads in
@@ -51,7 +51,7 @@ module _ (marks : Marks) (places : Places) (pool : List Constant) (ws : List (Wr
       let same : j ≡ place.0 = number_is pool ws read meant offset place.0 j here e in
       place.1 ∙ ap (λ (k : ℕ). Some k) (sym same)
 
-  -- a label at the code's end stands behind all instructions
+  -- a label at the code's end comes after all instructions
   leads_to_end : (size : ℕ) → size ≡ length (code_bytes 0 ws) → (label : List ℕ) (offset : ℕ) → Leads marks label offset → offset ≡ size → places label ≡ Some (length read)
   leads_to_end size size_is label offset leads e =
       let mark = mark_of marks label offset leads in

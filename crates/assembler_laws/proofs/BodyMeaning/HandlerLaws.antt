@@ -1,4 +1,4 @@
--- A line that is a handler puts an entry behind the exception table, as the line says it.
+-- A line that is a handler appends an entry to the exception table, as the line says it.
 use Rattle.std.proofs.Common.{◌≡◌, ℕ, nat_lt, List, [], ◌∷◌, ◌++◌, length, Option, Some, None, sym, subst}
 use Rattle.std.proofs.lemmas.Option.{same_Some}
 use Rattle.class_walk.specs.declared.class.Constant.{Constant}

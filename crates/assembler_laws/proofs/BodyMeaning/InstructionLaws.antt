@@ -1,4 +1,4 @@
--- A line that is an instruction puts it behind the code, as the line says it.
+-- A line that is an instruction appends it to the code, as the line says it.
 use Rattle.std.proofs.Common.{◌≡◌, ℕ, List, ◌++◌, length, Some, refl, sym, ap, subst, ◌∙◌}
 use Rattle.std.proofs.lemmas.Option.{same_Some}
 use Rattle.class_walk.specs.declared.class.Constant.{Constant}

@@ -27,7 +27,7 @@ line_right operation is = instruction_right is.1.0 operation is.1.2
 
 module _ (marks : Marks) (last : List Constant) (number n : ℕ) (old : MadeBody) (pool : List Constant) (x : List Constant × MadeBody) (new : MadeBody)
     (operations : List Operation) (handlers : List SaidHandler) (frames : List SaidFrame) (there : ℕ → Marks) (places : Places) where
-  -- what is put behind the line, before which so many instructions stand
+  -- what is put after the line, where k instructions come before
   abbrev Behind : ℕ → MadeBody → Type 0
   Behind k body = Grows marks last (length body.code) k body new operations handlers frames (there (length body.code)) places
 

@@ -21,12 +21,12 @@ use Rattle.assembler_laws.proofs.BodyMeaning.InstructionLaws.{IsWritten, suited_
 use Rattle.assembler_laws.proofs.BodyMeaning.HandlerLaws.{IsRaw, with_raw}
 use Rattle.assembler_laws.proofs.BodyMeaning.FrameLaws.{IsType, IsPut}
 
--- the label has a place, where so many instructions stand before it
+-- the place of the label is how many instructions come before it
 abbrev pub HasPlace : ℕ → ℕ → List (Written ℕ) → Places → List ℕ → Mark → Type 0
 HasPlace at n ws places name mark = (k : ℕ) × (places name ≡ Some k) × Stands at n ws mark.offset k
 
--- From one body to another, these instructions, handlers and frames are put, as lines say them. Before them the code is
--- so long, and has so many instructions.
+-- From one body to another, these instructions, handlers and frames are put, as lines say them. Before them the code
+-- has `at` bytes and `n` instructions.
 pub record Grows (marks : Marks) (pool : List Constant) (at n : ℕ) (old new : MadeBody) (operations : List Operation) (handlers : List SaidHandler) (frames : List SaidFrame) (there : Marks) (places : Places) : Type 0 where
   pub written : List (Written ℕ)
   pub code_is : new.code ≡ old.code ++ code_bytes at written

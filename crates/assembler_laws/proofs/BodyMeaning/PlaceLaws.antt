@@ -1,4 +1,4 @@
--- Places between instructions, by their offsets and by how many instructions stand before them.
+-- Places between instructions, by their offsets and by how many instructions come before them.
 use Rattle.std.proofs.Common.{◌≡◌, ℕ, suc, ◌+◌, ◌<◌, ◌≤◌, nat_eq, List, [], ◌∷◌, length, map, Some, refl, sym, ap, subst, ◌∙◌, ◌⊎◌, inl, inr, arith, length-append}
 use Rattle.std.specs.List.{position_from}
 use Rattle.std.proofs.lemmas.Bool.{eqb-true}
@@ -14,8 +14,8 @@ use Rattle.code_write.specs.Meaning.{code_bytes, AreMeant}
 use Rattle.class_names.proofs.Cases.{chosen}
 use Rattle.assembler_laws.proofs.BodyMeaning.RowLaws.{same_number}
 
--- an offset between or behind instructions, and how many stand before it; the first one stands at this offset, and so
--- many before it
+-- an offset between or after instructions, and how many come before it; the first one is at the offset `at`, and `n`
+-- come before it
 abbrev pub Stands : ℕ → ℕ → List (Written ℕ) → ℕ → ℕ → Type 0
 Stands at n [] offset k = (offset ≡ at) × (k ≡ n)
 Stands at n (w ∷ ws) offset k = ((offset ≡ at) × (k ≡ n)) ⊎ Stands (at + length (instruction_bytes at w)) (n + 1) ws offset k
@@ -54,7 +54,7 @@ place_is at n (w ∷ ws) offset k j (inr is) e =
       | inr there ↦ place_is (at + length (instruction_bytes at w)) (n + 1) ws offset k j is there.1
     ]
 
--- all instructions stand before the code's end
+-- all instructions come before the code's end
 pub end_is : (at n : ℕ) (ws : List (Written ℕ)) (offset k : ℕ) → Stands at n ws offset k → offset ≡ at + length (code_bytes at ws) → k ≡ n + length ws
 end_is at n [] offset k is e = omega (arith, is.1)
 end_is at n (w ∷ ws) offset k (inl is) e =
@@ -82,7 +82,7 @@ as_many pool at (w ∷ ws) [] are = absurd are
 as_many pool at (w ∷ ws) (i ∷ steps) are = ap suc (as_many pool (at + length (instruction_bytes at w)) ws steps are.3)
 
 module _ (pool : List Constant) (ws : List (Written ℕ)) (steps : List (Instr Target)) (are : AreMeant pool 0 ws (map by_offsets steps)) where
-  -- the instruction at a place has the number of those that stand before it
+  -- the number of the instruction at a place is how many come before it
   pub number_is : (offset k j : ℕ) → Stands 0 0 ws offset k → number_at steps offset ≡ Some j → j ≡ k
   number_is offset k j is e =
       let P : List ℕ → Type 0 = λ os. position_from (λ o. nat_eq o offset) 0 os ≡ Some j in

@@ -28,7 +28,7 @@ use Rattle.assembler_laws.proofs.BodyMeaning.WritesLaws.{short_leads}
 use Rattle.assembler_bodies.proofs.GrowLaws.{Keeps, keeps_further, keeps_known, used_is, used_at}
 use Rattle.assembler_bodies.proofs.StepGrows.{types_keep, steps_keep}
 
--- the name of the stack map stands at its index
+-- the name of the stack map is at its index
 abbrev pub IsMapName : List Constant → Option ℕ → Type 0
 IsMapName last None = Unit {0}
 IsMapName last (Some name) = IsUtf8At last name (codes "StackMapTable")
@@ -146,7 +146,7 @@ step_sound last marks number (Some (kinds.Handler from to at class)) old pool x 
 step_sound last marks number (Some (kinds.Frame locals stack)) old pool x count more e is = frame_sound last marks locals stack old pool x more e is
 step_sound last marks number _ old pool x count more e is = absurd cc
 
--- a body is sound behind its lines
+-- a body is sound after its lines
 pub steps_sound : (last : List Constant) (marks : Marks) (lines : List Numbered) (old : MadeBody) (pool : List Constant) (x : List Constant × MadeBody) → length last < 2 ^ 16 → Extends x.0 last
     → steps marks lines old pool ≡ Some x → IsSoundBody last old → IsSoundBody last x.1
 steps_sound last marks [] old pool x count more e is =

@@ -11,7 +11,7 @@ use Rattle.assembler_text.specs.declared.lines.Numbered.{Numbered}
 use Rattle.assembler_laws.specs.ClassMeaning.Parts.{SaidBody, SaidMethod, methods_in}
 use Rattle.assembler_laws.specs.ClassMeaning.Class.{SaysCode, SaysMethod, IsClassOf, IsCodeOfMethod}
 
--- what stands across from an item
+-- the counterpart of an item
 across : {A B : Type 0} (R : A → B → Type 0) (xs : List A) (ys : List B) (k : ℕ) (y : B) → AllZip R xs ys → slice_get ys k ≡ Some y → (x : A) × (slice_get xs k ≡ Some x) × R x y
 across R [] [] k y zip at = absurd (let none : None ≡ Some y = at in cc)
 across R [] (z ∷ ys) k y zip at = absurd zip

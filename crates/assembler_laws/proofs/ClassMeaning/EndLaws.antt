@@ -23,7 +23,7 @@ use Rattle.assembler_laws.proofs.ClassMeaning.PartLaws.{IsSuperIndex, SuperMade,
 
 -- ---- lists
 
--- What is said stands behind what was there, and all of it has a count of two bytes.
+-- What is said is added after what was there, and all of it has a count of two bytes.
 pub record Adds {A B : Type 0} (Is : A → B → Type 0) (old : List B) (said : List A) (new : List B) : Type 0 where
   pub more : List B
   pub new_is : new ≡ old ++ more
@@ -109,7 +109,7 @@ ends_by behind class old bytes (Some x) is made e =
       methods = adds_none (IsMethod x.0) class.methods;
     }
 
--- behind the last line
+-- after the last line
 pub ends_last : (behind : ℕ) (class : MadeClass) (old : List Constant) (bytes : List ℕ) → IsMade old → spelled behind (finished (outside class) old) ≡ Ok bytes → Ends class [] old bytes
 ends_last behind class old bytes made e = ends_by behind class old bytes (superclass class.super_class old) refl made e
 

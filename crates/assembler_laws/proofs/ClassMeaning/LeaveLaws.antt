@@ -28,7 +28,7 @@ went number (Some x) next bytes e = record { x = x; first_is = refl; next_is = e
 pub known_of : {A : Type 0} (pool : List Constant) (a : A) (x : List Constant × A) → with_pool pool (Some a) ≡ Some x → (pool, a) ≡ x
 known_of pool a x e = cc
 
--- the body as it is made at its end, the class behind it, and the lines behind the end
+-- the body as it is made at its end, the class after it, and the lines after the end
 pub record Leaves (behind : ℕ) (lines : List Numbered) (pool : List Constant) (class : MadeClass) (method : OpenMethod) (bytes : List ℕ) : Type 0 where
   pub end : Numbered
   pub rest : List Numbered

@@ -42,7 +42,7 @@ module _ (bodies : BodiesAreReadAgain) (number behind flags : ℕ) (name descrip
   abbrev open_of : ℕ → ℕ → ℕ → OpenMethod
   open_of n d c = record { flags = flags; name = n; descriptor = d; code_name = c; marks = marks_in lines; body = begun room }
 
-  -- the same behind the end, with the body that was made
+  -- the same after the end, with the body that was made
   abbrev member_of : ℕ → ℕ → ℕ → MadeBody → RawMember
   member_of n d c body = with_code (record (open_of n d c) { body = body }) (code_spelling (code_of body))
 
@@ -81,7 +81,7 @@ module _ (bodies : BodiesAreReadAgain) (number behind flags : ℕ) (name descrip
         };
       }
 
-  -- a class of the lines behind the end, with this method more
+  -- the class of the lines after the end, with this method added
   pub body_ends : (index : ℕ) (x : List Constant × OpenMethod) (made : BodyMade (marks_in lines) flags name descriptor room class old x) (l : Leaves behind lines x.0 class (open_of made.n made.d made.c) bytes)
       → class.super_class ≡ Some index → flags < 2 ^ 16 → room.stack < 2 ^ 16 → room.locals < 2 ^ 16 → Closes (record (open_of made.n made.d made.c) { body = l.body }) class l.after l.next
       → Ends (record class { methods = class.methods ++ member_of made.n made.d made.c l.body ∷ [] }) l.rest l.next.0 bytes → Ends class (this_line ∷ lines) old bytes
@@ -141,7 +141,7 @@ module _ (bodies : BodiesAreReadAgain) (behind number : ℕ) (lines : List Numbe
   goes_with class new pool is made goes =
       later lines class pool (omega arith) all made (outside_as behind lines bytes class new pool is goes)
 
-  -- the lines of a body, and those behind it
+  -- the lines of a body, and those after it
   behind_body : (flags : ℕ) (name descriptor : List ℕ) (room : Room) → MayBeSaid (Some (kinds.Method flags name descriptor (Some room))) → (class : MadeClass) (index : ℕ) → class.super_class ≡ Some index
       → (old : List Constant) → IsMade old → (x : List Constant × OpenMethod) (b : BodyMade (marks_in lines) flags name descriptor room class old x)
       (l : Leaves behind lines x.0 class (open_of bodies number behind flags name descriptor room lines class old bytes b.n b.d b.c) bytes)
@@ -164,7 +164,7 @@ module _ (bodies : BodiesAreReadAgain) (behind number : ℕ) (lines : List Numbe
       behind_body flags name descriptor room said class index known old made x b l
       (closes (record (open_of bodies number behind flags name descriptor room lines class old bytes b.n b.d b.c) { body = l.body }) class l.after l.next l.closed_is)
 
-  -- a method whose body is the lines behind
+  -- a method whose body is the lines after it
   part_with_body : (flags : ℕ) (name descriptor : List ℕ) (room : Room) → MayBeSaid (Some (kinds.Method flags name descriptor (Some room))) → (class : MadeClass) (index : ℕ) → class.super_class ≡ Some index
       → (old : List Constant) → IsMade old → (x : List Constant × State) → part_line lines (Some (kinds.Method flags name descriptor (Some room))) class old ≡ Some x → assembled_from behind lines x.0 x.1 ≡ Ok bytes
       → Ends class (numbered number (Some (kinds.Method flags name descriptor (Some room))) ∷ lines) old bytes
@@ -192,7 +192,7 @@ module _ (bodies : BodiesAreReadAgain) (behind number : ℕ) (lines : List Numbe
   part_ends (Some (kinds.Method flags name descriptor (Some room))) said class index known old made x e goes = part_with_body flags name descriptor room said class index known old made x e goes
   part_ends _ said class index known old made x e goes = absurd cc
 
-  -- a part behind the superclass
+  -- a part after the superclass
   then_part : (line : Option Line) → MayBeSaid line → (class : MadeClass) (old : List Constant) → IsMade old → (x : List Constant × State)
       → next_of (superclass class.super_class old) (λ index. part_line lines line (record class { super_class = Some index })) ≡ Some x → assembled_from behind lines x.0 x.1 ≡ Ok bytes
       → Ends class (numbered number line ∷ lines) old bytes
@@ -223,7 +223,7 @@ ends_within bodies (suc k) behind (n ∷ lines) class pool bytes less said made 
     let w = went n.number (outside_line lines n.line class pool) (λ p s. assembled_from behind lines p s) bytes e in
     outside_ends bodies behind n.number lines bytes said.1 (λ rest c p le s m goes. ends_within bodies k behind rest c p bytes (omega arith) s m goes) n.line said.0 class pool made w.x w.first_is w.next_is
 
--- behind the class line
+-- after the class line
 pub class_ends : BodiesAreReadAgain → (behind : ℕ) (lines : List Numbered) (class : MadeClass) (pool : List Constant) (bytes : List ℕ) → AllByRecursion MayBeSaidAt lines → IsMade pool
     → assembled_from behind lines pool (outside class) ≡ Ok bytes → Ends class lines pool bytes
 class_ends bodies behind lines class pool bytes said made e = ends_within bodies (suc (length lines)) behind lines class pool bytes (omega arith) said made e

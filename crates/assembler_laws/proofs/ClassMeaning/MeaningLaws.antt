@@ -146,7 +146,7 @@ members_say Is Says view each [] (m ∷ made) at are = absurd are
 members_say Is Says view each (a ∷ said) [] at are = absurd are
 members_say Is Says view each (a ∷ said) (m ∷ made) at are = (each a m at are.0, members_say Is Says view each said made (at + length (member m)) are.1)
 
--- what stands behind nothing
+-- what is added to nothing
 alone : {A B : Type 0} (Is : A → B → Type 0) (said : List A) (made : List B) → Adds Is [] said made → AllZip Is said made
 alone {B = B} Is said made adds =
     let Z : List B → Type 0 = λ list. AllZip Is said list in

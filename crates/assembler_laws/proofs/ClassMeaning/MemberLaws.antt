@@ -121,7 +121,7 @@ field_says pool said m at count is = record {
 
 -- ---- codes
 
--- an attribute alone is shorter than what it stands in
+-- an attribute alone is shorter than what contains it
 content_within : (front : List ℕ) (a : RawAttribute) → length (front ++ table layout.attribute (a ∷ [])) < 2 ^ 32 → length a.content < 2 ^ 32
 content_within front a short =
     let whole = length-append front (table layout.attribute (a ∷ [])) in

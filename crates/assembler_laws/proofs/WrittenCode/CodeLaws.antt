@@ -60,7 +60,7 @@ wide_or_not (NewArray element) = inl refl
 first_same : (x y : ℕ) (xs ys : List ℕ) → x ∷ xs ≡ y ∷ ys → (x ≡ y) × (xs ≡ ys)
 first_same x y xs ys e = (cc, cc)
 
--- the instruction is the written one, and the same bytes stand behind both
+-- the instruction is the written one, and the same bytes come after both
 abbrev IsMeantBefore : List Constant → ℕ → Written ℕ → What ℤ → List ℕ → List ℕ → Type 0
 IsMeantBefore pool at w what rest behind = IsMeant pool at w what × (rest ≡ behind)
 

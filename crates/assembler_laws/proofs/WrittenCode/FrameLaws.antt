@@ -20,7 +20,7 @@ use Rattle.assembler_laws.proofs.WrittenCode.NumberLaws.{number_same, front_same
 
 -- ---- types
 
--- what stands behind the same tag
+-- what comes after the same tag
 behind_tag : (tag : ℕ) (xs ys : List ℕ) → tag ∷ xs ≡ tag ∷ ys → xs ≡ ys
 behind_tag tag xs ys e = cc
 

@@ -91,7 +91,7 @@ interface_same pool at index count what text rest behind small_index small_count
 
 -- ---- each form
 
--- the operands make this instruction, and the same bytes stand behind them
+-- the operands make this instruction, and the same bytes come after them
 abbrev pub MeansBefore : List Constant → Form → Operands ℕ → What ℤ → List ℕ → List ℕ → Type 0
 MeansBefore pool form o what rest behind = Means pool form o what × (rest ≡ behind)
 
@@ -142,7 +142,7 @@ operands_same pool at forms.NewArray (NewArray element) what text rest behind su
     let s = array_same element what is.0 text rest behind is.1 is.2 e in ((element, refl, s.0), s.1)
 operands_same pool at _ _ what text rest behind suits fits width narrow is e = absurd suits
 
--- behind wide
+-- after wide
 pub wide_operands_same : (pool : List Constant) (at : ℕ) (form : Form) (o : Operands ℕ) (what : What ℤ) (text rest behind : List ℕ) → Suits form o → HasWidths o → wide_bytes o ≡ 196 ∷ [] → AreWideOf form what text
     → text ++ rest ≡ operand_bytes at o ++ behind → MeansBefore pool form o what rest behind
 wide_operands_same pool at (forms.Local access) (WideLocal local) what text rest behind suits width wide is e =

@@ -13,7 +13,7 @@ use Rattle.assembler_laws.specs.BodyMeaning.Instructions.{SaysInstruction}
 use Rattle.assembler_laws.specs.BodyMeaning.Tables.{SaysHandler, SaysFrame}
 
 -- The code has the room that the method's line gives it, and exactly the instructions, handlers and frames of the
--- lines, in their order. What leads to a label leads to the instruction behind it.
+-- lines, in their order. What leads to a label leads to the instruction after it.
 pub record IsBodyOf (pool : List Constant) (room : Room) (lines : List Numbered) (code : Code) : Type 0 where
   pub max_stack : code.max_stack ≡ room.stack
   pub max_locals : code.max_locals ≡ room.locals

@@ -18,7 +18,7 @@ use Rattle.assembler_pool.specs.Items.{long, class_named, field, method, interfa
 use Rattle.assembler_bodies.specs.Operands.{loaded_item}
 use Rattle.assembler_laws.specs.BodyMeaning.Parts.{Places}
 
--- the target is the instruction that stands behind the label
+-- the target is the instruction after the label
 abbrev pub LeadsTo : Places → List ℕ → Target → Type 0
 LeadsTo places label target = places label ≡ Some target.step
 

@@ -23,13 +23,13 @@ pub record SaidHandler : Type 0 where
   pub at : List ℕ
   pub class : Option (List ℕ)
 
--- a frame, and how many instructions stand before it
+-- a frame, and how many instructions come before it
 pub record SaidFrame : Type 0 where
   pub step : ℕ
   pub locals : List FrameItem
   pub stack : List FrameItem
 
--- how many instructions stand behind a line, where so many stand before it
+-- how many instructions come before the next line, where n come before this one
 abbrev pub steps_behind : ℕ → Option Line → ℕ
 steps_behind n (Some (Instruction operation)) = n + 1
 steps_behind n _ = n
@@ -54,7 +54,7 @@ abbrev pub with_frame : ℕ → Option Line → List SaidFrame → List SaidFram
 with_frame n (Some (Frame locals stack)) others = record { step = n; locals = locals; stack = stack } ∷ others
 with_frame n _ others = others
 
--- the frames of lines before which so many instructions stand
+-- the frames of lines that have n instructions before them
 abbrev pub frames_from : ℕ → List Numbered → List SaidFrame
 frames_from n [] = []
 frames_from n (numbered ∷ lines) = with_frame n numbered.line (frames_from (steps_behind n numbered.line) lines)
@@ -62,7 +62,7 @@ frames_from n (numbered ∷ lines) = with_frame n numbered.line (frames_from (st
 abbrev pub frames_in : List Numbered → List SaidFrame
 frames_in lines = frames_from 0 lines
 
--- how many instructions stand before each label
+-- how many instructions come before each label
 abbrev pub Places : Type 0
 Places = List ℕ → Option ℕ
 

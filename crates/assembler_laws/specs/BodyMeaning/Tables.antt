@@ -20,7 +20,7 @@ abbrev pub IsCaught : List Constant → Option (List ℕ) → ℕ → Type 0
 IsCaught pool None kind = kind ≡ 0
 IsCaught pool (Some class) kind = IsClassAt pool kind class
 
--- A line's handler is this one. Its range may end behind the last instruction.
+-- A line's handler is this one. Its range may end after the last instruction.
 pub record SaysHandler (pool : List Constant) (places : Places) (said : SaidHandler) (h : Handler) : Type 0 where
   pub first : places said.from ≡ Some h.first
   pub end : places said.to ≡ Some h.end
@@ -37,7 +37,7 @@ SaysType pool places steps This t = t ≡ types.UninitThis
 SaysType pool places steps (New label) t = (at n : ℕ) × (t ≡ types.Uninit at) × (number_at steps at ≡ Some n) × (places label ≡ Some n)
 SaysType pool places steps (Class name) t = (index : ℕ) × (t ≡ types.Object index) × IsClassAt pool index name
 
--- A line's frame is this one, and stands at the instruction behind it.
+-- A line's frame is this one, and is at the instruction after the line.
 pub record SaysFrame (pool : List Constant) (places : Places) (steps : List (Instr Target)) (said : SaidFrame) (f : MapFrame) : Type 0 where
   pub step : f.step ≡ said.step
   pub types : List VType

@@ -17,7 +17,7 @@ use Rattle.class_make.specs.Class.{value_item}
 use Rattle.assembler_laws.specs.BodyMeaning.Body.{IsBodyOf}
 use Rattle.assembler_laws.specs.ClassMeaning.Parts.{SaidClass, SaidField, SaidBody, SaidMethod, class_in, super_in, interfaces_in, fields_in, methods_in}
 
--- a class of this name stands at the index
+-- a class of this name is at the index
 abbrev pub IsNamed : List Constant → List ℕ → ℕ → Type 0
 IsNamed pool name index = IsClassAt pool index name
 

@@ -55,7 +55,7 @@ abbrev pub said_body : Option Room → List Numbered → Option SaidBody
 said_body None behind = None
 said_body (Some room) behind = Some (record { room = room; lines = before_end behind })
 
--- a method, whose body is the lines behind its own, up to the end
+-- a method, whose body is the lines after its own, up to the end
 abbrev pub said_method : Option Line → List Numbered → Option SaidMethod
 said_method (Some (Method flags name descriptor room)) behind =
     Some (record { flags = flags; name = name; descriptor = descriptor; body = said_body room behind })

@@ -19,7 +19,7 @@ HasWidth (Object index) = index < 2 ^ 16
 HasWidth (Uninit at) = at < 2 ^ 16
 HasWidth _ = Unit {0}
 
--- the frame stands at this offset or behind it, not too far, and each number and count has two bytes
+-- the frame is at this offset or less than 2^16 after it, and each number and count has two bytes
 pub record IsWide (least : ℕ) (p : Placed) : Type 0 where
   pub later : least ≤ p.at
   pub delta : p.at - least < 2 ^ 16

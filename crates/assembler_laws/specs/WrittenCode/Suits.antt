@@ -42,7 +42,7 @@ pub record IsSuited (at : ℕ) (w : Written ℕ) : Type 0 where
   pub in_range : IsInRange at w.operands
   pub widths : HasWidths w.operands
 
--- instructions one behind the other, the first at this offset
+-- instructions one after another, the first at this offset
 abbrev pub AreSuited : ℕ → List (Written ℕ) → Type 0
 AreSuited at [] = Unit {0}
 AreSuited at (w ∷ others) = IsSuited at w × AreSuited (at + length (instruction_bytes at w)) others

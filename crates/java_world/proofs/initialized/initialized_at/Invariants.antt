@@ -3,7 +3,7 @@ use Rattle.link_rules.specs.Classes.{classes_of}
 use Rattle.java_rows.specs.Program.{initialized_with}
 use Rattle.java_world.proofs.initialized.initialized_at.Given as goal
 
--- the class that is looked for stands as far above the one that is reached as there are steps left
+-- the class that is looked for lies as far above the one that is reached as there are steps left
 abbrev pub invariant-loop : goal.invariant-loop
 invariant-loop l = record {
   within : l.above ≤ length (classes_of l.world);

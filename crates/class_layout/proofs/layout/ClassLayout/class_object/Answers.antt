@@ -7,7 +7,7 @@ use Rattle.class_layout.specs.Objects.{behind}
 use Rattle.class_layout.proofs.ObjectLaws.{object_at, object_past, behind_le}
 use Rattle.class_layout.proofs.layout.ClassLayout.class_object.Goals as goal
 
--- the place in the table is that behind the class objects before
+-- the place in the table is the one after the class objects before it
 found : (us : List ClassUnit) (l : ClassLayout) (index object : ℕ) → IsLayoutOf us l → slice_get l.places.objects.items index ≡ Some object → (index < length l.rows.items) × (object ≡ behind l.rows.items index)
 found us l index object are at =
     let lt : index < length l.places.objects.items = slice_get_within l.places.objects.items index object at in
