@@ -64,7 +64,7 @@ class Maker:
 
 
 def timed(program, files, count):
-    """Runs a program over these class files until it has printed so many lines, and stops it there. Gives the lines, the
+    """Runs a program over these class files until it has printed the given number of lines, and stops it there. Gives the lines, the
     seconds, its memory in MB, and how many bytes the files have."""
     with tempfile.TemporaryDirectory() as folder:
         paths = []

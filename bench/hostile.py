@@ -81,7 +81,7 @@ def many_switches():
 
 
 def wide_frames():
-    # One frame of 60,000 locals, and a frame with the same locals at each instruction behind it.
+    # One frame of 60,000 locals, and a frame with the same locals at each instruction after it.
     code = b"\x00" * 60000 + b"\xb1"
     frames = b"\xff" + u2(0) + u2(60000) + b"\x01" * 60000 + u2(0) + b"\x00" * 60000
     return class_file(methods=method(code, (), frames, 60001), method_count=1)

@@ -5,7 +5,7 @@ usage: bench/interpreter.py [RUNS]     at the top of the repository, after `./jr
                                        java have to be there
 
 Both run each class RUNS times (5), by turns, and have to print the same. What counts is processor time, so that other
-programs on the machine matter less; the time of a class that does nothing, run right behind, is taken off. The last rows are a million lines that are printed to a file, beside java with its compilers, and eight
+programs on the machine matter less; the time of a class that does nothing, run right after, is taken off. The last rows are a million lines that are printed to a file, beside java with its compilers, and eight
 threads of a million instructions each, without and with a seed, with the time a turn.
 """
 import os

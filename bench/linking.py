@@ -1,6 +1,6 @@
 #!/usr/bin/env python3
 """Times link_vectors over programs that are as dear to link as their size allows: how many seconds until it says whether
-the program is linked, and its memory then. What it prints of the program behind that isn't waited for.
+the program is linked, and its memory then. What it prints of the program after that isn't waited for.
 
 usage: bench/linking.py     at the top of the repository, after `rt run` in crates/link_vectors has built the program
 """

@@ -5,7 +5,7 @@ usage: bench/turns.py [RUNS]     at the top of the repository
 
 It makes a program in a temporary folder, over copies of the crates, and proves and builds it there. The first lines are
 nanoseconds a step over a million silent steps, a million writes inside a section, and a million entries and exits of a
-free monitor; the least of the runs. Each of the others is a section of so many writes to one word: how many turns the
+free monitor; the least of the runs. Each of the others is a section of that many writes to one word: how many turns the
 thread that holds it and one that wants its monitor get, by turns, from the middle of the section on until the second
 one has ended, where its priority is higher and where it is the same.
 """
@@ -123,7 +123,7 @@ fn counted(threads: &[ReadyThread<Toy<'_>>], place: usize) -> u64 {
     }
 }
 
-// Gives a thread turns until it has ended, or has had so many that count.
+// Gives a thread turns until it has ended, or has had the given number that count.
 fn until(threads: &mut Vec<ReadyThread<Toy<'_>>>, words: &mut PlainWords, place: usize, most: u64) -> Result<u64, Stopped> {
     let mut turns: u64 = 0;
     for _turn in 0..u32::MAX {

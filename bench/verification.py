@@ -1,6 +1,6 @@
 #!/usr/bin/env python3
 """Times link_vectors over class files that are as dear to verify as their size allows: how many seconds until it says
-whether the program is type safe, and its memory then. What it prints of the program behind that isn't waited for.
+whether the program is type safe, and its memory then. What it prints of the program after that isn't waited for.
 
 usage: bench/verification.py     at the top of the repository, after `rt run` in crates/link_vectors has built the program
 """
@@ -185,8 +185,8 @@ def new_over_new_objects(one, name):
 
 
 def initializations(one, name, objects, blocks):
-    """A method over locals that all hold uninitialized objects, in turn so many. Each block initializes those of these
-    locals, and a frame behind it brings all objects back."""
+    """A method over locals that all hold uninitialized objects, once for each of some numbers of objects. Each block initializes those of these
+    locals, and a frame after it brings all objects back."""
     frames, use, init = Frames(), one.named("A"), one.reference(10, "A", "<init>", "()V")
     code = RETURN + (NEW + u2(use)) * objects + RETURN
     frames.same(1)

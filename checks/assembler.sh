@@ -65,7 +65,7 @@ expect "make takes no words" 2 '' 'usage\n' make One
 if [ -c /dev/full ]; then
     "$program" make <"$folder/page/1.jasm" >/dev/full 2>"$folder/err"
     status=$?
-    { [ $status -eq 8 ] && [ "$(cat "$folder/err")" = "write fault" ] && echo "ok a full device behind make"; } || echo "failed a full device behind make: status $status"
+    { [ $status -eq 8 ] && [ "$(cat "$folder/err")" = "write fault" ] && echo "ok make on a full device"; } || echo "failed make on a full device: status $status"
 else
-    echo "skipped a full device behind make: no /dev/full"
+    echo "skipped make on a full device: no /dev/full"
 fi

@@ -76,14 +76,14 @@ return
 handler b a c any
 end
 END
-loads "a branch behind the last instruction" 3 '' 'refused: code A.class 4 0 0\n' <<END
+loads "a branch past the last instruction" 3 '' 'refused: code A.class 4 0 0\n' <<END
 class A
 method 9 m ()V stack 0 locals 0
 goto b
 b:
 end
 END
-loads "a frame behind the last instruction" 3 '' 'refused: code A.class 6 0 0\n' <<END
+loads "a frame past the last instruction" 3 '' 'refused: code A.class 6 0 0\n' <<END
 class A
 method 9 m ()V stack 0 locals 0
 return

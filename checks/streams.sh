@@ -11,7 +11,7 @@ if [ -c /dev/full ]; then
     { [ $status -eq 8 ] && [ "$(cat "$folder/err")" = "write fault" ] && echo "ok a full device"; } || echo "failed a full device: status $status"
     "$program" none 2>/dev/full
     status=$?
-    { [ $status -eq 8 ] && echo "ok a full device behind the standard error"; } || echo "failed a full device behind the standard error: status $status"
+    { [ $status -eq 8 ] && echo "ok a standard error on a full device"; } || echo "failed a standard error on a full device: status $status"
 else
     echo "skipped a full device: no /dev/full"
 fi

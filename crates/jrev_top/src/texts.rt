@@ -16,15 +16,15 @@ pick       loads the class files of the folder DIR and executes the class MAIN, 
            parts of its name, with its threads by turns on one processor, and prints its lines.
 load       says whether the class files of the folder DIR are accepted as a program that begins with the
            class MAIN: whether they are read, decoded, linked and verified. It executes nothing. The line
-           refused: STAGE FILE NUMBER METHOD PLACE tells what is wrong; docs/refusals.md explains it.
+           refused: STAGE FILE NUMBER METHOD PLACE says what is wrong; docs/refusals.md explains it.
 make       reads the text of an assembler from the standard input and writes the class file that it stands for.
 --help     prints this text.
 --version  prints the version.
 
 options of pick, each at most once:
-  --order=ITEM,..  first so many turns of a thread: 2*100 gives thread 2 one hundred. Behind it the
-                   first thread that can go on has the turn
-  --seed=N         behind the order a thread is drawn for each turn, by this number
+  --order=ITEM,..  the turns that come first: 2*100 gives thread 2 one hundred turns. After the order
+                   the first thread that can go on has the turn
+  --seed=N         after the order a thread is drawn for each turn, by this number
   --turns=N        the most turns of a thread (1000000000)
   --heap=N         the most words of objects (4194304)
   --sections=N     says nothing yet

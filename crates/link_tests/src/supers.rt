@@ -178,7 +178,7 @@ static CASES: [Case; 27] = [
         refused: (16, 1, 4),
     },
     Case {
-        why: "a name behind a missing class",
+        why: "a name after a missing class",
         files: &[(CLASS, "A", "Gone", NONE), (CLASS, "A", OBJECT, NONE), C],
         refused: (1, 1, 0),
     },

@@ -109,7 +109,7 @@ pub enum Reply {
     Value(u32),
     /// To New: the new object's reference.
     Made(u32),
-    /// The operation was done, and there is nothing to tell.
+    /// The operation was done, and there is nothing to report.
     Done,
     /// To Exit, Wait and Notify: this thread doesn't own the monitor, and nothing was done. The
     /// thread then throws IllegalMonitorStateException.

@@ -43,8 +43,8 @@ pub trait ThreadCode: Sized {
         ensures frames { result ≡ Err CodeStop.Frames → 1024 < code.frames (code.silent (state self.old)) }
         ensures err { OnErr result (self.new ≡ self.old) };
 
-    /// Makes some of the silent steps that come next, at most so many, and answers how many. None of
-    /// them ends a frame that was on top at a save. Where it answers less than `most`, there may be
+    /// Makes some of the silent steps that come next, at most `most`, and returns how many. None of
+    /// them ends a frame that was on top at a save. Where it returns less than `most`, there may be
     /// more to make.
     fn run_silent(&mut self, most: u64) -> u64
         ensures steps { quiet_steps code result (state self.old) ≡ Some (state self.new) }
@@ -132,8 +132,8 @@ pub trait ThreadCode: Sized {
         ensures { result ≡ code.words (state self.now) class length };
 }
 
-/// A thread code as it stands after exactly so many silent steps, none of which makes a 1,025th
-/// frame, with nothing saved; `None` where it doesn't come so far. The given code stays as it is.
+/// The thread code after exactly `count` silent steps, none of which makes a 1,025th frame, with
+/// nothing saved; `None` where it can't make that many. The given code stays as it is.
 pub fn after_silent_steps<C: ThreadCode + Drop>(code: &C, count: u64) -> Result<Option<C>, NoMemory>
     ensures state { IfOk result (λ after. option_map C.state after ≡ quiet_steps C.code count (C.state code.now)) }
     ensures saved { IfOk result (λ after. IfSome after (λ c. C.saved c ≡ [])) }

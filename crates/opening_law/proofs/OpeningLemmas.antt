@@ -80,7 +80,7 @@ module _ (opening : Opening) (limits : Limits) (is_thread : ℕ → Bool) (place
         let same : nat_eq r o.reference ≡ true = passes (λ x. r == x.reference) (reverse opening.objects) o found in
         grind (arith, nat_tests)
 
-    -- k places behind the reference
+    -- the word k places after the reference
     word_at : (p k : ℕ) → p ≡ r + k → k < 2 + length o.words → words (Area.Object p) ≡ word_behind o k
     word_at p k is below =
         let behind : p - o.reference ≡ k = omega (arith, is, own_reference) in

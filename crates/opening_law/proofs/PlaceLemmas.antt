@@ -41,7 +41,7 @@ passes {X} test (x ∷ xs) o found = by_test (test x) refl (λ later. passes tes
     by_test true is later found = subst (λ y. test y ≡ true) (ap (λ (y : Option X). unwrap_or y x) found) is
     by_test false is later found = later found
 
--- ---- objects that lie one behind another
+-- ---- objects that lie one after another
 
 -- from the last on
 abbrev Falling : List FixedObject → Type 0

@@ -28,7 +28,7 @@ field_is us r d e =
     ap (λ o. operand_of_field named (field_type us r.descriptor) (option_map_or (field_place cs d.class d.place) o 0) (found_of d)) found.there
     ∙ ap (λ t. operand_of_field named (field_type us t) (field_place cs d.class d.place d.member) (found_of d)) (sym found.descriptor)
 
--- at the number of a text stands what is made of it
+-- what is made of a text is at the text's number, counted from 1
 pub at_number : {A : Type 0} (f : List ℕ → A) (texts : List (List ℕ)) (text : List ℕ) (n : ℕ) → n ≡ number_of texts text → n ≢ 0 → slice_get (map f texts) (n - 1) ≡ Some (f text)
 at_number f texts text zero is some = absurd (some refl)
 at_number f texts text (suc i) is some =

@@ -24,7 +24,7 @@ fn type_at(types: &[Option<ValueType>], place: usize) -> Option<ValueType>
 }
 
 impl FieldTypes {
-    /// Looks at each text once. It fails for want of memory alone.
+    /// Looks at each text once. It fails only when memory runs out.
     pub fn new(
         alloc: Global,
         texts: &ClassTexts<'_>,

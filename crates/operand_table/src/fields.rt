@@ -46,7 +46,7 @@ fn operand_of_field(
     }
 }
 
-/// What a Field entry stands for that makes this reference and names this type.
+/// What a Field entry with this reference and this type stands for.
 pub fn field_operand(
     sources: Sources<'_, '_>,
     reference: ReferenceNumbers,

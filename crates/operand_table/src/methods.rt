@@ -43,8 +43,7 @@ fn special_id(
     Some(id_of(special))
 }
 
-/// What a Method or InterfaceMethod entry of the file at a place stands for that makes this reference and names this
-/// type.
+/// What a Method or InterfaceMethod entry with this reference and this type, of the file at a place, stands for.
 pub fn method_operand(
     sources: Sources<'_, '_>,
     file: u32,

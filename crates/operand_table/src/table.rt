@@ -17,8 +17,8 @@ use link_types::Operand;
 use rows::Rows;
 use std::alloc::{AllocError, Global};
 
-/// What the indices of the pools of a program stand for. Whose they are is said by `AreOperandsOf`; the reader takes no
-/// memory and no time to speak of.
+/// What the indices of the pools of a program stand for. `AreOperandsOf` says of which program they are; the reader
+/// takes no memory and no time to speak of.
 #[derive(Drop)]
 pub struct OperandTable {
     rows: Vec<Rows<Operand>>,
@@ -63,7 +63,7 @@ fn operand_in(rows: &[Rows<Operand>], file: u32, index: u16) -> Operand
 }
 
 impl OperandTable {
-    /// Looks at each entry of each pool once. It fails for want of memory alone.
+    /// Looks at each entry of each pool once. It fails only when memory runs out.
     pub fn new(alloc: Global, sources: Sources<'_, '_>) -> Result<Self, AllocError>
         requires few { length sources.lookup.now.units ≤ 1024 }
         requires decoded { AreUnits sources.lookup.now.units }

@@ -201,7 +201,7 @@ waiting_begun state r (Some seat) h = standing-begun state seat.standing
 pub begun_after : {S : Type 0} (f : ℕ → Thread S) (n : ℕ) (l : S) (t : ℕ) → HasBegun (f t) → HasBegun (set_at f n (live l) t)
 begun_after f n l t begun = set_at-at HasBegun f n (live l) t (λ _. tt) (λ _. begun)
 
--- a thread that stands elsewhere, as many silent steps after its last event
+-- a thread is moved elsewhere, with the same number of silent steps after its last event
 pub standing_changed : {C S : Type 0} (state : C → S) (f g : ℕ → Option (Seat C)) (t : ℕ) (standing : Standing C) (x : Seat C) → f t ≡ Some x
     → g ≡ set_at f t (Some (record x { standing = standing }))
     → ThreadParts state g (set_at (threads_in state f) t (standing_of state standing)) (waiting_in f) (set_at (silents_in f) t (silents_in f t))

@@ -1,4 +1,4 @@
--- Which threads are enabled: it is decided of each, and told by the step that it has next.
+-- Which threads are enabled: this is decided for each thread, by the step that it has next.
 use Rattle.std.proofs.Common.{◌≡◌, ◌⊎◌, inl, inr, ℕ, zero, suc, ◌<◌, ◌≤◌, Bool, true, false, cond, ◌&&◌, ltb, slice_get, Option, Some, None, IsSome, IsSomeAnd, refl, sym, subst, arith}
 use Rattle.std.specs.Option.{unwrap_or}
 use Rattle.std.proofs.lemmas.Bool.{cases_lt}

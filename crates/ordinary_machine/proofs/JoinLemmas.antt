@@ -1,4 +1,4 @@
--- Calls of `advance` behind calls.
+-- Calls of `advance` after other calls.
 use Rattle.std.proofs.Common.{◌≡◌, ℕ, zero, suc, List, [], ◌∷◌, ◌++◌, refl, sym, ◌∙◌, ap, subst}
 use Rattle.std.proofs.lemmas.List.{append_assoc}
 use Rattle.op_core.specs.declared.Limits.{Limits}

@@ -1,4 +1,4 @@
--- Steps that are made where their thread stands.
+-- Steps that are made from where their thread is.
 use Rattle.std.proofs.Common.{◌≡◌, ℕ, Option, Some, None, IfSome, refl, sym, ◌∙◌, ap, subst}
 use Rattle.std.specs.Option.{option_map}
 use Rattle.op_core.specs.declared.Op.{Op}

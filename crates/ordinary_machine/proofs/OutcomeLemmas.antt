@@ -44,7 +44,7 @@ same_machine code m new last e a b =
     let (place, op) = one_next code m.now e a.place b.place a.op b.op a.next b.next in
     b.leads ∙ ap (λ l. moved code m e.thread l b.op e.reply) place ∙ ap (λ o. moved code m e.thread a.place o e.reply) op ∙ sym a.leads
 
--- a step is refused for want of memory alone
+-- a step is refused only when memory runs out
 not_refused : {S : Type 0} (code : Code S) (m new : Machine S) (e : Event) (why : StepRefusal) → IsStepTo code m e new → Refuses code m.now e why → why ≡ NoMemory
 not_refused code m new e NoThread step refuses = absurd (refuses (step.next.from, step.next.begun))
 not_refused code m new e NotNext step refuses = absurd (refuses.none step.place step.op step.next)
@@ -221,7 +221,7 @@ one_reply m t (End x) a b may_a may_b low_a low_b = only_done m.now t (End x) b 
 
 -- Where the answers come.
 
--- thread t stands at a place from which its code goes on so
+-- thread t is at a place from which its code goes on like this
 pub record Stands {S : Type 0} (code : Code S) (m : Machine S) (t : ℕ) (l : S) (goes : Next) : Type 0 where
   pub begun : m.now.threads t ≡ live l
   pub goes_on : code.next l ≡ goes

@@ -45,7 +45,7 @@ replayed_whole code m last es n below above replays =
     let whole : take n es ≡ es = ap (λ k. take k es) all ∙ take-length es in
     replayed code m last es (subst (λ xs. Replays code m xs last) whole replays)
 
--- an event with no silent steps comes where its thread stands
+-- an event with no silent steps is made from where its thread is
 pub stands_there : {S : Type 0} (code : Code S) (m : Machine S) (e : Event) (l : S) (op : Op) → e.silent ≡ 0 → IsNext code m.now e l op → m.now.threads e.thread ≡ live l
 stands_there {S} code m e l op none next =
     let here : Some next.from ≡ Some l = subst (λ n. quiet_steps code n next.from ≡ Some l) none next.quiet in

@@ -20,7 +20,7 @@ use Rattle.ordinary_machine.specs.Machine.{Machine, silents_after, moved}
 use Rattle.ordinary_machine.specs.Advance.{IsSilentTo, IsAnswered, Advances}
 use Rattle.ordinary_machine.specs.Laws.{Call, Runs, event_of, events_of, StandsFurther, IsFurther, AdvancesAreExecutions}
 
--- where a thread that stands further stood
+-- where a thread that is further was before
 pub further_from : {S : Type 0} (code : Code S) (thread : Thread S) (n : ℕ) (l : S) → StandsFurther code thread n (live l)
     → (from : S) × (thread ≡ live from) × (quiet_steps code n from ≡ Some l)
 further_from code (live from) n l h = (from, refl, h)
@@ -45,7 +45,7 @@ further_ended code (live from) n unused h is = absurd is
 further_ended code (live from) n (live l) h is = absurd is
 further_ended code (live from) n (ended x) h is = absurd h
 
--- a thread stands no further than where it stands
+-- a thread is 0 steps further than where it is
 no_further : {S : Type 0} (code : Code S) (thread : Thread S) → StandsFurther code thread 0 thread
 no_further code unused = tt
 no_further code (live l) = refl

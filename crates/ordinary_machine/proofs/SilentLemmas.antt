@@ -1,4 +1,4 @@
--- Silent steps that a thread makes where it stands.
+-- Silent steps that a thread makes from where it is.
 use Rattle.std.proofs.Common.{◌≡◌, ℕ, zero, suc, ◌+◌, Option, Some, None, List, [], ◌∷◌, ◌++◌, refl, sym, ◌∙◌, ap, subst, arith}
 use Rattle.std.specs.Option.{option_and_then}
 use Rattle.op_core.specs.declared.Limits.{Limits}
@@ -18,7 +18,7 @@ use Rattle.ordinary_machine.specs.Laws.{Call, Runs, silent_calls, RunsAreAdvance
 use Rattle.ordinary_machine.proofs.ChangeLemmas.{ThreadParts, Becomes, becomes_changed, is_kept}
 use Rattle.ordinary_machine.proofs.MachineLemmas.{with_threads}
 
--- a thread that makes a silent step is live, and is so behind it
+-- a thread that makes a silent step is live before it and after it
 record Ran {C S : Type 0} (code : Code S) (state : C → S) (n : ℕ) (x y : Option (Seat C)) : Type 0 where
   from : S
   behind : S

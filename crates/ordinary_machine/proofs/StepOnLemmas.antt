@@ -1,4 +1,4 @@
--- A step whose silent steps are made first, where the thread stands.
+-- A step whose silent steps are made first, in place.
 use Rattle.std.proofs.Common.{◌≡◌, ℕ, zero, suc, ◌+◌, ◌-◌, ◌≤◌, Bool, true, false, cond, Some, nat_eq, refl, sym, ◌∙◌, ap, subst, arith}
 use Rattle.std.proofs.Math.Path.{fun_ext}
 use Rattle.std.specs.Option.{option_and_then}
@@ -18,18 +18,18 @@ use Rattle.ordinary_machine.specs.declared.step.StepRefusal.TheVariants.{NoThrea
 use Rattle.ordinary_machine.specs.Machine.{Machine, silents_after, taken_after, moved, RunsTo, RunsSilently}
 use Rattle.ordinary_machine.specs.Step.{IsNext, IsStepTo, Refuses}
 
--- k silent steps behind n
+-- k silent steps after n others
 quiet_more : {S : Type 0} (code : Code S) (n : ℕ) (l m : S) → quiet_steps code n l ≡ Some m → (k total : ℕ) → total ≡ k + n → quiet_steps code total l ≡ quiet_steps code k m
 quiet_more code n l m h zero total is = let here : n ≡ total = omega (arith, is) in subst (λ x. quiet_steps code x l ≡ Some m) here h
 quiet_more code n l m h (suc k) zero is = absurd (omega (arith, is))
 quiet_more code n l m h (suc k) (suc total) is =
     let less : total ≡ k + n = omega (arith, is) in ap (option_and_then (quiet_step code)) (quiet_more code n l m h k total less)
 
--- the event behind n of its silent steps
+-- what is left of the event after n of its silent steps
 abbrev pub rest_of : Event → ℕ → Event
 rest_of e n = record { thread = e.thread; silent = e.silent - n; op = e.op; reply = e.reply }
 
--- where the thread stands behind them
+-- where the thread is after them
 stands_behind : {S : Type 0} (code : Code S) (m new : Machine S) (t n : ℕ) (ran : RunsTo code m t n new) → new.now.threads t ≡ live ran.behind
 stands_behind {S} code m new t n ran = ap (λ (x : Machine S). x.now.threads t) ran.leads ∙ set_at-hit m.now.threads t (live ran.behind)
 
@@ -78,7 +78,7 @@ answers_back {S} code m new t n op reply ran may =
 answers_on : {S : Type 0} (code : Code S) (m new : Machine S) (t n : ℕ) (op : Op) (reply : Reply) → RunsTo code m t n new → MayAnswer m.now t op reply → MayAnswer new.now t op reply
 answers_on {S} code m new t n op reply ran may = subst (λ (x : Machine S). MayAnswer x.now t op reply) (sym ran.leads) (MayAnswer-with m.now t ran.from ran.behind op reply ran.begun may)
 
--- and the machine behind the step
+-- and the machine after the step
 pick : (b c : Bool) (k x : ℕ) → cond b 0 (cond c 0 (cond b k x)) ≡ cond b 0 (cond c 0 x)
 pick true c k x = refl
 pick false c k x = refl

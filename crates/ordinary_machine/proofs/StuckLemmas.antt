@@ -14,7 +14,7 @@ use Rattle.ordinary_machine.specs.Laws.{StandsFurther, IsFurther, IsStandstill, 
 use Rattle.ordinary_machine.proofs.OutcomeLemmas.{Stands, one_wish, silent_or_wish, over_no_more, waiting_stands}
 use Rattle.ordinary_machine.proofs.RunLemmas.{further_from, executed}
 
--- what stands further than a thread of one kind is of the same
+-- a thread of one kind is still of the same kind when it is further
 unused_further : {S : Type 0} (code : Code S) (thread : Thread S) (n : ℕ) (now : Thread S) → StandsFurther code thread n now → thread ≡ unused → now ≡ unused
 unused_further code unused n unused h is = refl
 unused_further code unused n (live l) h is = absurd h
@@ -29,7 +29,7 @@ ended_further code (ended x) n (live l) h is = absurd h
 ended_further code unused n now h is = absurd is
 ended_further code (live from) n now h is = absurd is
 
--- where a live thread stands further
+-- where a live thread is when it is further
 record Further {S : Type 0} (code : Code S) (from : S) (n : ℕ) (now : Thread S) : Type 0 where
   place : S
   stands : now ≡ live place

@@ -17,7 +17,7 @@ use Rattle.ordinary_machine.specs.Start.{start_of}
 use Rattle.ordinary_machine.specs.Step.{IsLive, IsStepTo, Refuses, Replays, IsReplayed}
 use Rattle.ordinary_machine.specs.Advance.{Advances, LacksReference, HasHalted, MayAdvance}
 
--- at most one thing comes of an event, besides want of memory: a step that leads to one machine, or
+-- at most one thing comes of an event, apart from memory running out: a step that leads to one machine, or
 -- one cause of refusal
 pub record HasOneOutcome {S : Type 0} (code : Code S) (m : Machine S) (e : Event) : Type 0 where
   pub one_machine : (new last : Machine S) → IsStepTo code m e new → IsStepTo code m e last → last ≡ new
@@ -60,7 +60,7 @@ abbrev pub events_of : List Call → List Event
 events_of [] = []
 events_of (call ∷ calls) = event_of call.answer ++ events_of calls
 
--- a thread stands so many silent steps further
+-- a thread is n silent steps further
 abbrev pub StandsFurther : {S : Type 0} → Code S → Thread S → ℕ → Thread S → Type 0
 StandsFurther code (live from) n (live l) = quiet_steps code n from ≡ Some l
 StandsFurther code unused n unused = Unit {0}
@@ -93,7 +93,7 @@ silent_calls t limits (suc n) = silent_calls t limits n ++ record { thread = t; 
 abbrev pub RunsAreAdvances : {S : Type 0} → Code S → Type 0
 RunsAreAdvances {S} code = (m new : Machine S) (t n : ℕ) (limits : Limits) → RunsSilently code m t n new → Runs code m (silent_calls t limits n) new
 
--- calls go on behind calls, and their events stand behind the earlier ones'; silent calls have none
+-- calls go on after other calls, and their events come after those of the earlier calls; silent calls have none
 pub record CallsGoOn {S : Type 0} (code : Code S) : Type 0 where
   pub calls : (m middle last : Machine S) (before behind : List Call) → Runs code m before middle → Runs code middle behind last → Runs code m (before ++ behind) last
   pub events : (before behind : List Call) → events_of (before ++ behind) ≡ events_of before ++ events_of behind

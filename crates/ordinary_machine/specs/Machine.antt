@@ -74,7 +74,7 @@ moved code m t l op reply = record {
   taken = taken_after code l op reply m.taken;
 }
 
--- thread t at another place of its own, so many silent steps after its last event
+-- thread t at another place of its own, `silent` silent steps after its last event
 abbrev pub with_thread_at : {S : Type 0} → Machine S → ℕ → Thread S → ℕ → Machine S
 with_thread_at m t thread silent = record m {
   now = record m.now { threads = set_at m.now.threads t thread };

@@ -10,7 +10,7 @@ use Rattle.ordinary_machine.specs.Machine.{Machine}
 abbrev pub heap_object : FixedObject → HeapObject
 heap_object o = record { class = o.class; length = o.length; words = o.words; monitor = Free; started = o.started }
 
--- the first thread stands at l; no silent step was made, and no words were taken
+-- the first thread is at l; no silent step was made, and no words were taken
 abbrev pub start_of : {S : Type 0} → Opening → S → Machine S
 start_of opening l = record {
   now = opening_state opening l;

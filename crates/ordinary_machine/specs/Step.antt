@@ -23,7 +23,7 @@ abbrev pub IsLive : {S : Type 0} → OrdinaryState S → ℕ → Type 0
 IsLive {S} s t = (l : S) × (s.threads t ≡ live l)
 
 -- after exactly the event's number of silent steps, none of which makes a 1,025th frame, its thread
--- stands at l and wants the operation, which is the event's but for a printed line
+-- is at l and wants the operation, which is that of the event except for a printed line
 pub record IsNext {S : Type 0} (code : Code S) (s : OrdinaryState S) (e : Event) (l : S) (op : Op) : Type 0 where
   pub from : S
   pub begun : s.threads e.thread ≡ live from
@@ -73,7 +73,7 @@ abbrev pub Replays : {S : Type 0} → Code S → Machine S → List Event → Ma
 Replays code m [] last = last ≡ m
 Replays {S} code m (e ∷ es) last = (next : Machine S) × IsStepTo code m e next × Replays code next es last
 
--- so many events are steps one after another, and the next one is refused
+-- the first `place` events are steps one after another, and the next event is refused
 pub record IsRefusedAt {S : Type 0} (code : Code S) (m : Machine S) (es : List Event) (place : ℕ) (why : StepRefusal) : Type 0 where
   pub middle : Machine S
   pub before : Replays code m (take place es) middle

@@ -54,7 +54,7 @@ pub(crate) enum OpOutcome {
     Spent(Limit),
 }
 
-// What `advance` answers where this came of the operation, with so many silent steps before it.
+// What `advance` answers where the operation had this outcome after `silent` silent steps.
 #[inline(always)]
 fn answer_of(thread: u8, silent: u64, op: Op, outcome: OpOutcome) -> Advance
     ensures { result ≡ answer_of thread silent op outcome }
@@ -271,7 +271,7 @@ impl<C: ThreadCode + Drop> Ordinary<C> {
         }
     }
 
-    // The thread stands at `code`, one silent step later.
+    // Moves the thread to `code`, one silent step later.
     fn move_silently(&mut self, thread: u8, code: C) -> Result<(), NoMemory>
         requires { HasBegun ((machine_of C.state self.old).now.threads thread) }
         ensures ok { OnOk result (machine_of C.state self.new ≡ with_thread_at (machine_of C.state self.old) thread (live (C.state code)) (suc ((machine_of C.state self.old).silents thread))) }
@@ -334,7 +334,7 @@ impl<C: ThreadCode + Drop> Ordinary<C> {
         Ok(reply)
     }
 
-    // What a Read answers, or `None` where it has no step: one look at the object tells.
+    // What a Read answers, or `None` where it has no step: one look at the object decides.
     #[inline(always)]
     fn find_word(&self, thread: u8, reference: u32, place: u32) -> Option<Reply>
         ensures { MatchOption result (CanStep (machine_of C.state self.now).now thread (Op.Read reference place) → ⊥)
@@ -476,8 +476,8 @@ impl<C: ThreadCode + Drop> Ordinary<C> {
         }
     }
 
-    /// Makes the same step as `advance`, and tells no event of it: without one a Read, a Write or a ClassOf takes less
-    /// time. The machine is as before where no step was made, and after an error, which comes where `advance` has one.
+    /// Makes the same step as `advance`, and returns no event of it: so a Read, a Write or a ClassOf takes less time.
+    /// The machine stays as it was where no step was made, and after an error, which comes where `advance` has one.
     #[inline(always)]
     pub fn make_headway(&mut self, thread: u8, limits: &Limits) -> Result<Headway, NoMemory>
         requires { HasBegun ((machine_of C.state self.old).now.threads thread) }

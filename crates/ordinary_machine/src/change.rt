@@ -58,7 +58,7 @@ impl<C: ThreadCode + Drop> Ordinary<C> {
         self.threads.set_standing(thread, standing, silent);
     }
 
-    // Lets a thread stand elsewhere, and gives where it stood.
+    // Moves a thread elsewhere, and returns where it was.
     pub(crate) fn swap_standing(&mut self, thread: u8, standing: Standing<C>) -> Option<Standing<C>>
         ensures some { IfSome result (λ before. standing_of C.state before ≡ (machine_of C.state self.old).now.threads thread) }
         ensures moved { IfSome result (λ _. machine_of C.state self.new ≡ with_thread_at (machine_of C.state self.old) thread (standing_of C.state standing) ((machine_of C.state self.old).silents thread)) }
@@ -77,8 +77,8 @@ impl<C: ThreadCode + Drop> Ordinary<C> {
         self.threads.reply(thread, reply);
     }
 
-    /// Makes silent steps of a thread, at most so many, and answers how many: none where it hasn't begun or has
-    /// ended. Where it answers less than `most`, `advance` makes the next step, or tells what is in its way. Takes no
+    /// Makes silent steps of a thread, at most `most`, and returns how many: none where the thread hasn't begun or has
+    /// ended. Where it returns less than `most`, `advance` makes the next step, or says what is in its way. Takes no
     /// memory but what the thread's code takes.
     pub fn run_silent(&mut self, thread: u8, most: u64) -> u64
         ensures runs { RunsSilently C.code (machine_of C.state self.old) thread result (machine_of C.state self.new) }
@@ -87,7 +87,7 @@ impl<C: ThreadCode + Drop> Ordinary<C> {
         self.threads.run_silent(thread, most)
     }
 
-    // Makes the silent step of a thread where it stands, and says that it did: not where the step ends a frame that
+    // Makes the silent step of a thread in place, and returns whether it did: not where the step ends a frame that
     // was on top at a save.
     pub(crate) fn make_silent(&mut self, thread: u8) -> Result<bool, CodeStop>
         ensures made { result ≡ Ok true → IsSilentTo C.code (machine_of C.state self.old) thread (machine_of C.state self.new) }
@@ -126,7 +126,7 @@ impl<C: ThreadCode + Drop> Ordinary<C> {
         Ok(())
     }
 
-    // The words of memory that are taken with so many for one more object.
+    // How many words of memory are taken once `count` words are taken for one more object.
     fn taken_with(&self, count: u64) -> Result<u64, NoMemory>
         ensures { IfOk result (λ taken. taken ≡ self.now.taken + (2 + count)) }
     {

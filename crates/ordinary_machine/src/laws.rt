@@ -5,7 +5,7 @@ ghost use Rattle.ordinary_machine.specs.Laws.{EventsHaveOneOutcome, ReplaysAreEx
 
 use op_core::ThreadCode;
 
-/// At most one thing comes of an event, besides want of memory: a step, which leads to one machine, or
+/// At most one thing comes of an event, apart from memory running out: a step, which leads to one machine, or
 /// one cause of refusal.
 pub fn events_have_one_outcome<C: ThreadCode>()
     ensures { EventsHaveOneOutcome C.code }
@@ -31,8 +31,8 @@ pub fn runs_are_advances<C: ThreadCode>()
     ensures { RunsAreAdvances C.code }
 {}
 
-/// Calls of `advance` go on behind calls, and the events that they answer stand behind the earlier ones'.
-/// Silent answers have no events.
+/// Calls of `advance` go on after other calls, and the events that they answer come after those of the earlier
+/// calls. Silent answers have no events.
 pub fn calls_go_on<C: ThreadCode>()
     ensures { CallsGoOn C.code }
 {}

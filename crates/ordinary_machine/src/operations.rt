@@ -143,7 +143,7 @@ impl<C: ThreadCode + Drop> Ordinary<C> {
         }
     }
 
-    // All that the operation changes but where threads stand.
+    // All that the operation changes, except where threads are.
     fn share(&mut self, thread: u8, op: Op, reply: Reply) -> Result<(), NoMemory>
         requires begun { HasBegun ((machine_of C.state self.old).now.threads thread) }
         requires can { CanStep (machine_of C.state self.old).now thread op }

@@ -10,7 +10,7 @@ use machine_tables::{ClassProgress, Classes, Objects, Standing, Threads};
 use op_core::{Line, NoMemory, Op, Reply, Rows, ThreadCode, ThreadEnd, Units};
 use std::alloc::Global;
 
-/// The ordinary machine: what threads share, and where each thread stands.
+/// The ordinary machine: what threads share, and where each thread is.
 #[derive(Drop)]
 pub struct Ordinary<C> {
     pub(crate) alloc: Global,

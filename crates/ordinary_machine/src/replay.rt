@@ -10,14 +10,14 @@ use op_core::{Event, ThreadCode};
 /// The first event of a list whose step wasn't made, and why.
 #[derive(Clone, Copy)]
 pub struct ReplayRefusal {
-    /// How many events stand before it.
+    /// How many events come before it.
     pub place: usize,
     pub refusal: StepRefusal,
 }
 
 impl<C: ThreadCode + Drop> Ordinary<C> {
-    /// Makes the events' steps one after another. At the first that is refused it stops, and the
-    /// machine stands before that event.
+    /// Makes the events' steps one after another. It stops at the first event that is refused, and
+    /// leaves the machine as it was before that event.
     pub fn replay(&mut self, events: &[Event]) -> Result<(), ReplayRefusal>
         ensures steps { OnOk result (Replays C.code (machine_of C.state self.old) events.now (machine_of C.state self.new)) }
         ensures execution { OnOk result (IsReplayed C.code (machine_of C.state self.old).now events.now (machine_of C.state self.new).now) }
@@ -35,8 +35,8 @@ impl<C: ThreadCode + Drop> Ordinary<C> {
     }
 
     /// Makes the steps of the events, one after another, on a machine that is given up where one is refused: so the
-    /// silent steps are made where their threads stand. Gives the machine behind the events, or the place of the first
-    /// event that is refused and why it is.
+    /// silent steps are made in place. Returns the machine after the events, or the place of the first event that is
+    /// refused and why it is.
     pub fn replayed(self, events: &[Event]) -> Result<Self, ReplayRefusal>
         ensures steps { IfOk result (λ last. Replays C.code (machine_of C.state self) events.now (machine_of C.state last)) }
         ensures execution { IfOk result (λ last. IsReplayed C.code (machine_of C.state self).now events.now (machine_of C.state last).now) }

@@ -64,7 +64,7 @@ fn main_thread<C: Drop>(alloc: Global, code: C) -> Result<Threads<C>, NoMemory>
 impl<C: ThreadCode + Drop> Ordinary<C> {
     /// A machine at the start of a program, with the first thread's code, at which thread 1 begins. The
     /// opening's first free reference is that of the first new object that `advance` makes: it must be above
-    /// 0, and above the references of the fixed objects, as `Opening::lies_below_first` tells.
+    /// 0, and above the references of the fixed objects, which `Opening::lies_below_first` decides.
     pub fn start(alloc: Global, opening: &Opening, code: C) -> Result<Self, NoMemory>
         requires { LiesBelowFirst opening.now }
         ensures { IfOk result (λ machine. machine_of C.state machine ≡ start_of opening.now (C.state code)) }

@@ -1,10 +1,10 @@
 //! The step of one event, and why an event is refused.
 
-ghost use Rattle.std.specs.Prelude.{◌≡◌, ◌↔◌, IfOk, IfErr, OnOk, OnErr, MatchOption, IsTrue};
+ghost use Rattle.std.specs.Prelude.{◌≡◌, ◌↔◌, ◌≤◌, ℕ, IfOk, IfErr, OnOk, OnErr, MatchOption, IsTrue};
 ghost use Rattle.op_core.specs.declared.Op.{Op};
 ghost use Rattle.op_core.specs.OrdinaryState.{live};
 ghost use Rattle.op_core.specs.OrdinaryStep.{CanStep, MayAnswer};
-ghost use Rattle.ordinary_machine.specs.Machine.{machine_of};
+ghost use Rattle.ordinary_machine.specs.Machine.{machine_of, RunsSilently};
 ghost use Rattle.ordinary_machine.specs.Step.{without_line, IsLive, IsNext, IsStepTo, Refuses};
 
 use crate::Ordinary;
@@ -16,8 +16,8 @@ use op_core::{Event, Line, Next, NoMemory, Op, ThreadCode, after_silent_steps};
 pub enum StepRefusal {
     /// The thread hasn't begun, or has ended.
     NoThread,
-    /// After exactly so many silent steps the thread doesn't want that operation. A step that makes a
-    /// 1,025th frame is none.
+    /// After exactly the event's number of silent steps the thread doesn't want the event's operation. A
+    /// step that makes a 1,025th frame isn't one.
     NotNext,
     /// The operation has no step now.
     NotEnabled,
@@ -81,7 +81,7 @@ impl<C: ThreadCode + Drop> Ordinary<C> {
         }
     }
 
-    // The same for an event with no silent steps: the operation that its thread wants where it stands.
+    // The same for an event with no silent steps: the operation that its thread wants from where it is.
     fn find_here(&self, event: &Event) -> Result<Op, StepRefusal>
         requires { event.now.silent ≡ 0 }
         ensures ok { IfOk result (λ op. (l : C.State) × IsNext C.code (machine_of C.state self.now).now event.now l op) }
@@ -112,7 +112,7 @@ impl<C: ThreadCode + Drop> Ordinary<C> {
         Ok(())
     }
 
-    // The step of an event with no silent steps, made where its thread stands.
+    // The step of an event with no silent steps, made in place.
     fn step_here(&mut self, event: &Event) -> Result<(), StepRefusal>
         requires { event.now.silent ≡ 0 }
         ensures ok { OnOk result (IsStepTo C.code (machine_of C.state self.old) event.now (machine_of C.state self.new)) }
@@ -125,7 +125,7 @@ impl<C: ThreadCode + Drop> Ordinary<C> {
         Ok(())
     }
 
-    // The step of any event: the silent steps are made on a copy, since the event may be refused behind them.
+    // The step of any event: the silent steps are made on a copy, since the event may be refused after them.
     fn step_ahead(&mut self, event: &Event) -> Result<(), StepRefusal>
         ensures ok { OnOk result (IsStepTo C.code (machine_of C.state self.old) event.now (machine_of C.state self.new)) }
         ensures refused { IfErr result (Refuses C.code (machine_of C.state self.old).now event.now) }
@@ -151,10 +151,12 @@ impl<C: ThreadCode + Drop> Ordinary<C> {
         }
     }
 
-    // The same with the silent steps made where the thread stands. After a refusal it may have made some.
-    pub(crate) fn step_on(&mut self, event: &Event) -> Result<(), StepRefusal>
+    /// Makes one step of an execution, where the event is one, with its silent steps made on the machine itself: no thread
+    /// is copied. After a refusal the event's thread may have made some of these silent steps, and nothing else has changed.
+    pub fn step_on(&mut self, event: &Event) -> Result<(), StepRefusal>
         ensures ok { OnOk result (IsStepTo C.code (machine_of C.state self.old) event.now (machine_of C.state self.new)) }
         ensures refused { IfErr result (Refuses C.code (machine_of C.state self.old).now event.now) }
+        ensures err { IfErr result (λ _. (n : ℕ) × (n ≤ event.now.silent) × RunsSilently C.code (machine_of C.state self.old) event.now.thread n (machine_of C.state self.new)) }
     {
         let made = self.run_silent(event.thread, event.silent);
         let rest = Event {

@@ -1,4 +1,4 @@
--- Which threads are enabled: what `advance` answers tells, and the lowest one is picked where no number is drawn.
+-- Which threads are enabled: the answer of `advance` decides. Where no number is drawn, the lowest one is picked.
 use Rattle.std.proofs.Common.{◌≡◌, inl, inr, ℕ, zero, suc, ◌+◌, ◌<◌, List, [], ◌∷◌, ◌++◌, slice_get, Some, None, refl, sym, ◌∙◌, ap, subst, arith}
 use Rattle.std.proofs.lemmas.List.Kept.{AllPairs-from_increasing}
 use Rattle.op_core.specs.declared.Limits.{Limits}
@@ -29,7 +29,7 @@ listed_below fact decided (suc n) =
       | inr never ↦ (ts, subst (λ k. AreThoseBelow fact k ts) next (no_more_listed fact n ts those never))
     ]
 
--- the lowest one stands first
+-- the lowest one comes first
 lowest_first : (fact : ℕ → Type 0) (ts : List ℕ) (t : ℕ) → AreThose fact ts → fact t → ((u : ℕ) → u < t → fact u → ⊥) → slice_get ts 0 ≡ Some t
 lowest_first fact [] t those holds none = absurd (none_there t ((those.each t).1 holds))
 lowest_first fact (x ∷ xs) t those holds none = elim (head_or_tail x t xs ((those.each t).1 holds)) [

@@ -43,7 +43,7 @@ one_those fact ts us those them = one_list ts us
     (λ t there. (them.each t).1 ((those.each t).0 there))
     (λ t there. (those.each t).1 ((them.each t).0 there))
 
--- the numbers of the threads that have ended tell how
+-- the numbers of the threads that have ended decide how each of them ended
 abbrev numbers_of : List ThreadEnd → List ℕ
 numbers_of ends = map (λ end. end.thread) ends
 

@@ -19,7 +19,7 @@ use Rattle.ordinary_runs.specs.ScheduledRun.{begun_with}
 use Rattle.ordinary_runs.specs.Laws.{RunsHaveEvents}
 use Rattle.ordinary_runs.proofs.LawLemmas.{one_call}
 
--- where a run stands, with these events kept
+-- where a run is, with these events kept
 abbrev keeping : {S : Type 0} → Run (Progress S) → List Event → Run (Progress S)
 keeping run events = record { state = record run.state { events = Some events }; rest = run.rest }
 

@@ -83,7 +83,7 @@ calls_of code limits run last (t ∷ ts) (end, next, turn, later) =
     let rest = calls_of code limits next last ts later in
     record { calls = record { thread = t; limits = limits; answer = made.answer } ∷ rest.calls; runs = (next.state.machine, made.advances, rest.runs); kept = kept_on run.state.events next.state.events last.state.events (event_of made.answer) (events_of rest.calls) made.kept rest.kept }
 
--- a thread has ended in the same way in a state and in a machine that stands further
+-- a thread has ended in the same way in a state and in a machine that is further
 further_end : {S : Type 0} (code : Code S) (thread now : Thread S) (n : ℕ) (x : Option ℕ) → StandsFurther code thread n now → now ≡ ended x → thread ≡ ended x
 further_end code unused unused n x stands is = is
 further_end code unused (live l) n x stands is = absurd stands

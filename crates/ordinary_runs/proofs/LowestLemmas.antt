@@ -42,7 +42,7 @@ goes_join {S} code limits run next last first later = record {
   follows = go_on (Progress S) (machine_turns code limits) run next last first.threads later.threads first.follows later.follows;
 }
 
--- behind silent steps of t no thread below it is enabled either
+-- after silent steps of t no thread below it is enabled either
 still_none : {S : Type 0} (code : Code S) (m new : Machine S) (t n : ℕ) (from behind : S) → m.now.threads t ≡ live from → new ≡ with_thread_at m t (live behind) n → NoneBelow code m t → NoneBelow code new t
 still_none code m new t n from behind begun leads none u below may =
     none u below ((others_same code m t from behind n begun u (λ is. omega (arith, is, below))).1 (subst (λ x. MayAdvance code x u) leads may))
@@ -59,7 +59,7 @@ module _ {C S : Type 0} (code : Code S) (state : C → S) (limits : Limits) wher
   turn_on x z t end number none may given unspent =
       picked_turn code limits (progress_of state x) (progress_of state z) none_left none_left None t end refl refl (lowest_picked code state x.machine t may none) number given unspent refl
 
-  -- Behind some silent turns of the lowest enabled thread: it isn't enabled any more, or its turn is spent, or it is made.
+  -- After some silent turns of the lowest enabled thread, it isn't enabled any more, or its turn is spent or made.
   goes_behind : (x y z : CountedMachine C) (t : ℕ) (end : Option TurnEnd) → t < 256 → NoneBelow code (now y) t → GoesOn code limits (at x) (at y) → GivesIfEnabled code limits (progress_of state y) t end (progress_of state z)
       → GoesOn code limits (at x) (at z)
   goes_behind x y z t None number none goes (never, same) = subst (λ (r : Progress S). GoesOn code limits (at x) (record { state = r; rest = none_left })) (sym same) goes
@@ -69,7 +69,7 @@ module _ {C S : Type 0} (code : Code S) (state : C → S) (limits : Limits) wher
   goes_behind x y z t (Some Other) number none goes (may, given) = goes_join code limits (at x) (at y) (at z) goes (turn_on y z t Other number none may given (λ limit is. cc))
   goes_behind x y z t (Some Blocked) number none goes (may, given) = goes_join code limits (at x) (at y) (at z) goes (turn_on y z t Blocked number none may given (λ limit is. cc))
 
-  -- silent turns and what is behind them
+  -- silent turns and what comes after them
   pub lowest_made : (x y z : CountedMachine C) (t n : ℕ) (end : Option TurnEnd) → t < 256 → NoneBelow code (now x) t → 0 < n → IsSilentFor code limits (progress_of state x) t n (progress_of state y)
       → GivesIfEnabled code limits (progress_of state y) t end (progress_of state z) → GoesOn code limits (at x) (at z)
   lowest_made x y z t zero end number none some ran gives = absurd (omega (arith, some))
@@ -98,7 +98,7 @@ module _ {C S : Type 0} (code : Code S) (state : C → S) (limits : Limits) wher
         let (may, given) = given_there end (Some came) gives is in
         picked_came code limits (progress_of state x) (progress_of state z) none_left none_left None t came refl refl (lowest_picked code state x.machine t may none) number given refl
 
--- So it is for a run that stands so, and under the same limits.
+-- The same holds for a run in this state, under the same limits.
 pub stands_so : {S : Type 0} (code : Code S) (limits same : Limits) (run : Run (Progress S)) (r new : Progress S) (rest : Rest) (end : Option How) → limits ≡ same → record { state = r; rest = rest } ≡ run → run.rest ≡ none_left
     → GoesOnOrEnds code limits (record { state = r; rest = none_left }) end (record { state = new; rest = none_left }) → GoesOnOrEnds code same run end (record { state = new; rest = rest })
 stands_so {S} code limits same run r new rest end limited is none goes =

@@ -66,7 +66,7 @@ blocked_less (Turns t zero) others turns = absurd (cc)
 blocked_less (Turns t (suc n)) others turns = omega arith
 blocked_less (Until t kind) others turns = omega arith
 
--- the item behind so many turns that came to nothing it asks for
+-- the item after k turns, none of which came to what it asks for
 abbrev pub item_behind : ℕ → OrderItem → OrderItem
 item_behind k (Turns t n) = Turns t (n - k)
 item_behind k (Until t kind) = Until t kind

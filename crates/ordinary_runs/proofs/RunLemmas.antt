@@ -1,4 +1,4 @@
--- Where a run stands, and how it goes on from there or ends.
+-- Where a run is, and how it goes on from there or ends.
 use Rattle.std.proofs.Common.{◌≡◌, inl, inr, ℕ, zero, suc, ◌+◌, ◌-◌, ◌<◌, ◌≤◌, Bool, true, List, [], ◌∷◌, ◌++◌, length, All, Option, Some, None, IfSome, Result, Ok, Err, IfOk, slice_get, option_map, refl, sym, ◌∙◌, ap, subst, arith}
 use Rattle.std.proofs.lemmas.Bool.{cases_lt}
 use Rattle.std.proofs.lemmas.List.Elements.{All-cons, All-nil}
@@ -175,7 +175,7 @@ begun_lives (ended x) begun never = absurd (never tt)
 pub enabled_live : {S : Type 0} (code : Code S) (m : Machine S) (t : ℕ) → MayAdvance code m t → is_live (m.now.threads t) ≡ true
 enabled_live code m t may = begun_lives (m.now.threads t) may.begun (λ over. may.more (inl over))
 
--- the thread at the place that the number tells is picked
+-- the thread at the place that the number gives is picked
 pub is_picked : (enabled : ℕ → Type 0) (threads : List ℕ) (number : Option ℕ) (t : ℕ) → AreThose enabled threads → slice_get threads (place_of number (length threads)) ≡ Some t → IsPicked enabled number t
 is_picked enabled threads number t those at = record { threads = threads; those = those; at_place = at }
 
@@ -222,7 +222,7 @@ pub order_through : (order : List OrderItem) → None ≡ option_map thread_of (
 order_through [] none = refl
 order_through (item ∷ order) none = absurd (cc)
 
--- A run goes on as it does behind the items that are dropped first.
+-- A run goes on as it does after the first items are dropped that are to be dropped.
 module _ {S : Type 0} (code : Code S) (limits : Limits) (r : Progress S) (rest : Rest) where
   abbrev lives : ℕ → Bool
   lives u = is_live (r.machine.now.threads u)
@@ -291,7 +291,7 @@ outcome_of {S} code m schedule limits keeps run next end (Ok o) (ts, follows) en
   made = subst (λ (r : Progress S). AreMadeTexts r.machine.now o.lines o.made) same made;
 }
 
--- some turns behind others
+-- some turns after others
 pub goes_further : {S : Type 0} (code : Code S) (limits : Limits) (first run next : Run (Progress S)) → ((ts : List ℕ) × Follows (machine_turns code limits) first ts run) → GoesOn code limits run next
     → (ts : List ℕ) × Follows (machine_turns code limits) first ts next
 goes_further {S} code limits first run next (ts, follows) goes =

@@ -65,7 +65,7 @@ may_alike code m f g c d t alike back same may = record {
   ];
 }
 
--- a live thread that stands elsewhere frees no number and ends no thread
+-- a live thread that moves elsewhere frees no number and ends no thread
 live_alike : {S : Type 0} (f : ℕ → Thread S) (t : ℕ) (from l : S) → f t ≡ live from → IsAlike f (set_at f t (live l))
 live_alike f t from l begun = record {
   free = λ n (low, high, none). elim (same_or_other n t) [
@@ -98,7 +98,7 @@ quiet_silent code behind l next.Ended quiet = absurd (cc)
 pub step_silent : {S : Type 0} (code : Code S) (l behind : S) → quiet_step code l ≡ Some behind → code.next l ≡ next.Silent
 step_silent code l behind quiet = quiet_silent code (code.silent l) behind (code.next l) quiet
 
--- of the other threads the same ones are enabled where a live thread stands elsewhere
+-- of the other threads the same ones are enabled after a live thread moves elsewhere
 pub others_same : {S : Type 0} (code : Code S) (m : Machine S) (t : ℕ) (from l : S) (n : ℕ) → m.now.threads t ≡ live from → (u : ℕ) → u ≢ t → MayAdvance code m u ↔ MayAdvance code (with_thread_at m t (live l) n) u
 others_same code m t from l n begun u other =
     let f = m.now.threads in
@@ -110,7 +110,7 @@ others_same code m t from l n begun u other =
       may_alike code m g f (set_at m.silents t n) m.silents u back forth same,
     )
 
--- The same threads are enabled where an enabled thread stands elsewhere, and is silent next there.
+-- The same threads are enabled after an enabled thread moves to a place where its next step is silent.
 pub enabled_same : {S : Type 0} (code : Code S) (m : Machine S) (t : ℕ) (from l : S) (n : ℕ) → m.now.threads t ≡ live from → MayAdvance code m t → code.next l ≡ next.Silent
     → (u : ℕ) → MayAdvance code m u ↔ MayAdvance code (with_thread_at m t (live l) n) u
 enabled_same code m t from l n begun may silent u = elim (same_or_other u t) [

@@ -25,7 +25,7 @@ use Rattle.ordinary_runs.proofs.CountLemmas.{counted_left, left_less}
 use Rattle.ordinary_runs.proofs.OrderLemmas.{due_first, due_stays, order_turns, due_no_more, other_no_more, blocked_less, item_behind, all_behind, behind_turns, behind_thread}
 use Rattle.ordinary_runs.proofs.SilentLemmas.{enabled_same, step_silent}
 
--- thread t stands at l, k silent steps later
+-- thread t is at l, k silent steps later
 abbrev pub later : {S : Type 0} → Progress S → ℕ → S → ℕ → Progress S
 later r t l k = record { machine = with_thread_at r.machine t (live l) (r.machine.silents t + k); counted = set_at r.counted t (r.counted t + k); events = r.events }
 
@@ -64,7 +64,7 @@ silent_turn code limits r t l behind k quiet left =
       kept = sym (none_more r.events);
     })
 
--- so many turns of one thread
+-- n turns of thread t
 abbrev pub turns_of : ℕ → ℕ → List ℕ
 turns_of t zero = []
 turns_of t (suc n) = turns_of t n ++ t ∷ []
@@ -77,11 +77,11 @@ turns_of-all : (t n : ℕ) → t < 256 → All (λ u. u < 256) (turns_of t n)
 turns_of-all t zero below = All-nil (λ u. u < 256)
 turns_of-all t (suc n) below = All-append (λ u. u < 256) (turns_of t n) (t ∷ []) (turns_of-all t n below) (All-cons (λ u. u < 256) t [] below (All-nil (λ u. u < 256)))
 
--- the run where thread t stands at l, k silent steps later
+-- the run where thread t is at l, k silent steps later
 abbrev pub run_later : {S : Type 0} → Progress S → (ℕ → Rest) → ℕ → S → ℕ → Run (Progress S)
 run_later r rests t l k = record { state = later r t l k; rest = rests k }
 
--- behind each of its first n silent steps the thread gets the next turn, and what is left then is as told
+-- the thread gets the turn of each of its first n silent steps, and what is left after each is as `rests` says
 pub record KeepsTurn {S : Type 0} (code : Code S) (limits : Limits) (r : Progress S) (rests : ℕ → Rest) (t : ℕ) (from : S) (n : ℕ) : Type 0 where
   gets : (k : ℕ) (l behind : S) → k < n → quiet_step code l ≡ Some behind → IsNext (machine_turns code limits) (run_later r rests t l k) t
   leaves : (k : ℕ) (l : S) → k < n → rests (suc k) ≡ rest_after (due_of (machine_turns code limits) (run_later r rests t l k)) Other

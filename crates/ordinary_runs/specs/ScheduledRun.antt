@@ -20,7 +20,7 @@ use Rattle.ordinary_machine.specs.Machine.{Machine}
 use Rattle.ordinary_runs.specs.declared.run.ScheduledRun.{ScheduledRun}
 use Rattle.ordinary_runs.specs.Turns.{Progress, machine_turns, progress_of}
 
--- at the beginning of a schedule no turn has counted, and no step was made; `keeps` tells whether steps are kept
+-- at the beginning of a schedule no turn has counted, and no step was made; `keeps` says whether steps are kept
 abbrev pub begun_with : {S : Type 0} → Machine S → Schedule → Bool → Run (Progress S)
 begun_with m schedule keeps = record {
   state = record { machine = m; counted = λ _. 0; events = if keeps then Some [] else None };
@@ -46,16 +46,16 @@ pub record IsOutcome {S : Type 0} (code : Code S) (m : Machine S) (schedule : Sc
   pub undos : outcome.undos ≡ option_map (λ _. []) last.state.events
   pub made : AreMadeTexts last.state.machine.now outcome.lines outcome.made
 
--- where a run stands
+-- where a run is
 abbrev pub run_of : {C S : Type 0} → (C → S) → ScheduledRun C → Run (Progress S)
 run_of state run = record { state = progress_of state run.turns; rest = run.rest }
 
--- the item has at least so many turns to give
+-- the item has at least k turns to give
 abbrev pub CanGive : ℕ → OrderItem → Type 0
 CanGive k (Turns t n) = k ≤ n
 CanGive k (Until t kind) = Unit {0}
 
--- what is left of an order behind so many turns of its first item that came to nothing it asks for
+-- what is left of an order after n turns of its first item, none of which came to what the item asks for
 abbrev pub order_behind : ℕ → List OrderItem → List OrderItem
 order_behind zero order = order
 order_behind (suc n) order = order_after (order_behind n order) Other

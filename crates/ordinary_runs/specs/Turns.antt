@@ -41,7 +41,7 @@ end_of Halts = Blocked
 end_of Ended = Blocked
 end_of (advance.Spent limit) = Spent limit
 
--- the counts behind a turn of thread t: it counts where the thread made a step, silent or not
+-- the counts after a turn of thread t: the turn counts where the thread made a step, silent or not
 abbrev pub counted_after : ℕ → Advance → (ℕ → ℕ) → ℕ → ℕ
 counted_after t Silent counted = set_at counted t (counted t + 1)
 counted_after t (Step e) counted = set_at counted t (counted t + 1)
@@ -50,7 +50,7 @@ counted_after t Halts counted = counted
 counted_after t Ended counted = counted
 counted_after t (advance.Spent limit) counted = counted
 
--- the steps behind a turn that was answered this
+-- the steps after a turn with this answer
 abbrev pub events_after : Advance → Option (List Event) → Option (List Event)
 events_after answer events = option_map (λ es. es ++ event_of answer) events
 

@@ -14,7 +14,7 @@ use ordinary_machine::Ordinary;
 use schedules::{OrderItem, Remaining, Schedule, TurnEnd, pick};
 use std::alloc::Global;
 
-/// A machine that follows a schedule. Contracts see where the run stands, by `run_of`.
+/// A machine that follows a schedule. Contracts see where the run is, by `run_of`.
 #[derive(Drop)]
 pub(crate) struct ScheduledRun<'a, C> {
     turns: CountedMachine<C>,
@@ -51,7 +51,7 @@ fn how_at(thread: u8, end: TurnEnd) -> Option<How>
     }
 }
 
-// Takes off the order what so many turns of its first item use up that came to nothing it asks for.
+// Takes off the order what `turns` turns of its first item use up, none of which came to what the item asks for.
 fn end_turns(rest: &mut Remaining<'_>, turns: u64)
     ensures { rest.new ≡ record rest.old { order = order_behind turns rest.old.order } }
 {
@@ -114,8 +114,8 @@ impl<'a, C: ThreadCode + Drop> ScheduledRun<'a, C> {
         Ok(how_at(thread, end))
     }
 
-    // Gives the lowest enabled thread its silent turns at once, and the turn behind them. Each lower one from 1 on is
-    // asked by trying it, so that nobody is listed.
+    // Gives the lowest enabled thread its silent turns at once, and the turn after them. To find that thread, each one
+    // from 1 on is tried, so that no threads are listed.
     fn give_lowest(&mut self) -> Result<Option<How>, NoMemory>
         requires { self.old.rest ≡ record { order = []; number = None } }
         ensures limits { self.new.turns.limits ≡ self.old.turns.limits }
@@ -135,8 +135,8 @@ impl<'a, C: ThreadCode + Drop> ScheduledRun<'a, C> {
         Ok(Some(self.turns.end()))
     }
 
-    // Where the order is through, gives the thread that is picked its next turn, or silent ones and that behind them
-    // where no number is drawn for each.
+    // Where the order is through, gives the thread that is picked its next turn. Where no number is drawn for each
+    // turn, gives it its silent turns and the turn after them.
     fn give_picked(&mut self) -> Result<Option<How>, NoMemory>
         requires { self.old.rest.order ≡ [] }
         ensures limits { self.new.turns.limits ≡ self.old.turns.limits }

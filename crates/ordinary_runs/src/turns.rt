@@ -59,7 +59,7 @@ fn end_of(answer: Advance) -> TurnEnd
     }
 }
 
-// The same, where the event isn't told.
+// The same for an answer without its event.
 #[inline(always)]
 fn end_behind(headway: Headway) -> TurnEnd
     ensures { (answer : Advance) → headway ≡ headway_of answer → result ≡ end_of answer }
@@ -220,7 +220,7 @@ impl<C: ThreadCode + Drop> CountedMachine<C> {
         self.machine.highest()
     }
 
-    /// Gives a thread turns that are silent steps, at most so many and as many as it has left, and says how many.
+    /// Gives a thread turns that are silent steps, at most `most` and as many as it has left, and returns how many.
     pub(crate) fn run_silent(&mut self, thread: u8, most: u64) -> u64
         ensures limits { self.new.limits ≡ self.old.limits }
         ensures most { result ≤ most }

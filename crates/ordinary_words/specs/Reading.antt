@@ -7,8 +7,9 @@ use Rattle.section_state.specs.SectionWord.{owner_of}
 use Rattle.monitor_core.specs.Monitors.{monitor_section, monitor_depth}
 use Rattle.step_port.specs.Words.{Words}
 
--- In what follows w are the shared words, r is a reference and the last is the object that it names, if it names one.
--- `is_thread` tells the numbers of thread classes: word 1 of their objects is the start word, and is no word.
+-- In what follows w are the shared words, r is a reference and the last argument is the object that it names, if any.
+-- `is_thread` says which class numbers are those of thread classes: word 1 of their objects is the start word, which
+-- isn't a word of the state.
 
 abbrev pub word_in : (ℕ → Bool) → Words → ℕ → ℕ → Option Object → ℕ
 word_in is_thread w r i None = 0

@@ -42,7 +42,7 @@ pub record Own (x : View) (w : Words) : Type 0 where
 abbrev IsOpenState : ℕ → Type 0
 IsOpenState n = (n ≡ 1) ⊎ (n ≡ 3) ⊎ (n ≡ 5)
 
--- what a word says tells it
+-- the parts of a word decide it
 says_own : (number priority levels pinned w : ℕ) → w < 2 ^ 48 → owner_of w ≡ number → priority_of w ≡ priority → depth_of w ≡ levels → pinned ≤ pinned_of w
     → IsOpenState (state_of w) → (state_of w ≡ 3 → (pinned_of w < revoke_of w) × (revoke_of w ≤ levels)) → SaysOfOwn number priority levels pinned w
 says_own number priority levels pinned w small owner prio depth pin state revoking = record {

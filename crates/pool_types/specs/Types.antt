@@ -9,11 +9,11 @@ use Rattle.link_types.specs.declared.types.ObjectType.{ObjectType}
 use Rattle.link_rules.specs.Names.{ProgramNames, program_names, type_named}
 use Rattle.pool_types.specs.declared.types.PoolTypes.{PoolTypes}
 
--- what a Class entry stands for that names the text of an entry
+-- for each entry, what a Class entry that names its text stands for
 abbrev pub text_types : ProgramNames → List Constant → List (Option ObjectType)
 text_types p pool = map (λ c. option_map (type_named p) (utf8_of (Some c))) pool
 
--- what an entry stands for, by what its text does
+-- what an entry stands for, given what each text stands for
 abbrev pub entry_type : List (Option ObjectType) → Constant → Option ObjectType
 entry_type texts (Class name) = option_flatten (slice_get texts name)
 entry_type texts _ = None

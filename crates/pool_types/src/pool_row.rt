@@ -12,7 +12,7 @@ use named_types::NamedTypes;
 use rows::Rows;
 use std::alloc::{AllocError, Global};
 
-/// The type that a Class entry of the text of an entry stands for, where it has a text.
+/// The type that a Class entry which names this entry stands for, where this entry has a text.
 fn text_type(types: &NamedTypes<'_, '_>, constant: &Constant) -> Option<ObjectType>
     ensures { result ≡ option_map (type_named (program_names types.now)) (utf8_of (Some constant.now)) }
 {
@@ -22,7 +22,7 @@ fn text_type(types: &NamedTypes<'_, '_>, constant: &Constant) -> Option<ObjectTy
     }
 }
 
-/// For each entry of a pool the type that a Class entry of its text stands for.
+/// For each entry of a pool, the type that a Class entry which names it stands for.
 fn text_types(
     alloc: Global,
     types: &NamedTypes<'_, '_>,
@@ -37,7 +37,7 @@ fn text_types(
     Ok(row)
 }
 
-/// The type at an index, where one stands there.
+/// The type at an index, where there is one.
 pub fn type_at(row: &[Option<ObjectType>], index: u16) -> Option<ObjectType>
     ensures { result ≡ option_flatten (slice_get row.now index) }
 {
@@ -53,7 +53,7 @@ fn entry_type(texts: &[Option<ObjectType>], constant: &Constant) -> Option<Objec
     }
 }
 
-/// For each entry of a pool the type that it stands for, where it is a Class entry. A search for each Utf8 entry.
+/// For each entry of a pool, the type that it stands for, where it is a Class entry. Searches once for each Utf8 entry.
 pub fn class_types(
     alloc: Global,
     types: &NamedTypes<'_, '_>,

@@ -43,8 +43,8 @@ fn owner_at(pool: &[Constant], index: u16) -> Option<u16>
 }
 
 impl PoolTypes {
-    /// The types of the Class entries of the files of a program. A search for each Utf8 entry, however many Class
-    /// entries name it. It fails for want of memory alone.
+    /// The types of the Class entries of the files of a program. Searches once for each Utf8 entry, however many Class
+    /// entries name it. It fails only when memory runs out.
     pub fn new(alloc: Global, types: &NamedTypes<'_, '_>) -> Result<Self, AllocError>
         ensures { IfOk result (λ pool_types. ArePoolTypes types.now pool_types) }
     {
@@ -57,7 +57,7 @@ impl PoolTypes {
     }
 
     /// The type that the Class entry at an index of the pool of the file at a place stands for (JVMS 4.4.1); `None`
-    /// where no Class entry stands there.
+    /// where there is no Class entry at that index.
     pub fn class_type(&self, file: u32, index: u16) -> Option<ObjectType>
         ensures { (us : List ClassUnit) → ArePoolTypes us self.now → (u : ClassUnit) → slice_get us file ≡ Some u →
             result ≡ option_map (type_named (program_names us)) (class_name_of u.file.pool (slice_get u.file.pool index)) }
@@ -66,8 +66,8 @@ impl PoolTypes {
     }
 
     /// The type of the class that the Field, Method or InterfaceMethod entry at an index of the pool of the file at a
-    /// place names as the owner of the member (JVMS 4.4.2), which may be an array; `None` where no such entry stands
-    /// there.
+    /// place names as the owner of the member (JVMS 4.4.2), which may be an array; `None` where there is no such entry
+    /// at that index.
     pub fn owner_type(&self, file: u32, pool: &[Constant], index: u16) -> Option<ObjectType>
         ensures owner { (us : List ClassUnit) → ArePoolTypes us self.now → (u : ClassUnit) → slice_get us file ≡ Some u → pool.now ≡ u.file.pool →
             result ≡ option_map (type_named (program_names us)) (owner_name_of u.file.pool (slice_get u.file.pool index)) }

@@ -1,4 +1,4 @@
--- Rules that are decided one behind the other.
+-- Rules that are decided one after another.
 use Rattle.std.proofs.Common.{◌≡◌, ℕ, ◌+◌, ◌<◌, ◌≤◌, List, length, Some, slice_get, inl, inr, refl, sym, subst, arith}
 use Rattle.std.proofs.lemmas.Bool.{cases_lt}
 use Rattle.std.proofs.lemmas.Option.{slice_get_within}
@@ -8,7 +8,7 @@ use Rattle.program_accept.specs.declared.refusal.AcceptRefusal.{AcceptRefusal}
 use Rattle.program_accept.specs.declared.refusal.AcceptRefusal.TheVariants.{NoMemory}
 use Rattle.program_accept.specs.Answers.{Passes, Fails}
 
--- ---- one behind the other
+-- ---- one after another
 
 pub first_fails : (a b : Rules AcceptRefusal) (e : AcceptRefusal) → Fails a e → Fails (a then b) e
 first_fails a b e fails = record {
@@ -34,7 +34,7 @@ second_fails a b e none holds fails = record {
   broken = λ both. fails.broken both.1;
 }
 
--- ---- one item behind the other
+-- ---- one item after another
 
 abbrev pub PassBelow : {X : Type 0} → (ℕ → X → Rules AcceptRefusal) → List X → ℕ → Type 0
 PassBelow {X} rules xs end = (i : ℕ) (x : X) → i < end → slice_get xs i ≡ Some x → Passes (rules i x) (Unit {0})
@@ -87,7 +87,7 @@ each_fails {X} rules xs i x e at below fails = record {
 pub passes_as : {A B : Type 0} (rules : Rules AcceptRefusal) → (A → B) → Passes rules A → Passes rules B
 passes_as rules turn passes = record { hold = passes.hold; is = turn passes.is; none = passes.none }
 
--- where memory runs out, nothing is told of the rules
+-- where memory runs out, nothing is said of the rules
 pub no_memory : (rules : Rules AcceptRefusal) → Fails rules NoMemory
 no_memory rules = record { refused = inl refl; only = λ other broken. inl refl; broken = λ holds. refl }
 

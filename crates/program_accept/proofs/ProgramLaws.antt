@@ -1,4 +1,4 @@
--- The rules of a program, one stage behind the other.
+-- The rules of a program, one stage after another.
 use Rattle.std.proofs.Common.{◌≡◌, ℕ, ◌≤◌, List, length, Some, Result, Ok, Err, refl, sym, ◌∙◌, ap, inr, subst}
 use Rattle.std.proofs.lemmas.Option.{same_Some}
 use Rattle.rules.specs.Rules.{Rules, must, each}

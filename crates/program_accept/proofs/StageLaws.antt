@@ -81,7 +81,7 @@ module _ (place : ℕ) (bytes : List ℕ) where
           code_memory at (only holds.0 (subst P (sym (one holds.0.file holds.1.read)) holds.1.decoded)));
     }
 
--- ---- rules of units, and rules told in another way
+-- ---- rules of units, and rules whose refusals are given in another form
 
 pub units_decide : {X : Type 0} (files : List (List ℕ)) (us : List ClassUnit) (rules : List ClassUnit → Rules AcceptRefusal) (Is : X → Type 0) (r : Result X AcceptRefusal)
     → AreOnlyUnits files us → Decides r (rules us) Is → Decides r (of_units files rules) Is

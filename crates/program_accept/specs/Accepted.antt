@@ -22,7 +22,7 @@ read_rules file bytes = record {
   Refuse = λ e. (r : ReadRefusal) × IsRefusalOf bytes r × (e ≡ read_refused file r);
 }
 
--- a file is a class file, and this is what stands in it
+-- a file is a class file, and this is what it contains
 pub record IsUnitOf (bytes : List ℕ) (u : ClassUnit) : Type 0 where
   pub read : IsFile bytes u.file
   pub decoded : IsUnit u.file u
@@ -34,19 +34,19 @@ code_rules file bytes = record {
   Refuse = λ e. (c : ClassFile) × (at : CodeAt) × IsFile bytes c × ClassRefuses c at × (e ≡ code_refused file at);
 }
 
--- this is what stands in the files
+-- this is what the files contain
 pub record AreUnitsOf (files : List (List ℕ)) (us : List ClassUnit) : Type 0 where
   pub count : length us ≡ length files
   pub each : (k : ℕ) (bytes : List ℕ) (u : ClassUnit) → slice_get files k ≡ Some bytes → slice_get us k ≡ Some u → IsUnitOf bytes u
 
--- rules of what stands in the files
+-- rules of what the files contain
 abbrev pub of_units : List (List ℕ) → (List ClassUnit → Rules AcceptRefusal) → Rules AcceptRefusal
 of_units files rules = record {
   Hold = (us : List ClassUnit) × AreUnitsOf files us × (rules us).Hold;
   Refuse = λ e. (us : List ClassUnit) × AreUnitsOf files us × (rules us).Refuse e;
 }
 
--- rules whose refusals are told in another way
+-- rules whose refusals are given in another form
 abbrev pub told : {E : Type 0} → (E → AcceptRefusal) → Rules E → Rules AcceptRefusal
 told {E} tell rules = record {
   Hold = rules.Hold;
@@ -70,7 +70,7 @@ program_rules files name =
     then each code_rules files
     then of_units files (unit_rules name)
 
--- what is executed: what stands in the files, and the method with which it begins
+-- what is executed: what the files contain, and the method with which it begins
 pub record Accepted : Type 0 where
   pub units : List ClassUnit
   pub main : MethodId
@@ -82,7 +82,7 @@ pub record IsProgramOf (us : List ClassUnit) (name : List ℕ) (program : Accept
   pub safe : (verify_rules us).Hold
   pub main : main_method us name ≡ Some program.main
 
--- the program of what stands in these files
+-- the program that these files contain
 pub record IsProgram (files : List (List ℕ)) (name : List ℕ) (program : Accepted) : Type 0 where
   pub units : AreUnitsOf files program.units
   pub is : IsProgramOf program.units name program

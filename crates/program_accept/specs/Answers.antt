@@ -10,7 +10,7 @@ pub record Passes (rules : Rules AcceptRefusal) (Is : Type 0) : Type 0 where
   pub is : Is
   pub none : (e : AcceptRefusal) → ¬ rules.Refuse e
 
--- want of memory aside, this is what the rules refuse, and they refuse nothing else, and don't hold
+-- unless memory ran out, this is what the rules refuse, they refuse nothing else, and they don't hold
 pub record Fails (rules : Rules AcceptRefusal) (e : AcceptRefusal) : Type 0 where
   pub refused : (e ≡ NoMemory) ⊎ rules.Refuse e
   pub only : (other : AcceptRefusal) → rules.Refuse other → (e ≡ NoMemory) ⊎ (e ≡ other)

@@ -1,4 +1,4 @@
--- How the refusals of each stage are told.
+-- How the refusals of each stage are reported.
 use Rattle.std.specs.Prelude.{ℕ}
 use Rattle.class_pool.specs.declared.refusal.ReadRefusal.{ReadRefusal}
 use Rattle.class_pool.specs.declared.refusal.ReadRefusal.TheVariants as reading

@@ -112,14 +112,14 @@ fn accept_files(alloc: Global, files: Vec<Vec<u8>>, main: &[u8]) -> Result<Progr
     accept_units(alloc, units, main)
 }
 
-/// Reads, decodes, links and verifies the class files of a program that begins with the static method `main` of a class:
-/// `Ok` exactly where all rules hold (`program_rules`), want of memory aside. `main` is the internal form of the class's
-/// name (JVMS 4.2.1), compared by bytes.
+/// Reads, decodes, links and verifies the class files of a program that begins with the static method `main` of a
+/// class: `Ok` exactly where all rules hold (`program_rules`), unless memory runs out. `main` is the internal form of
+/// the class's name (JVMS 4.2.1), compared by bytes.
 ///
 /// # Errors
-/// The refusal of the first rule that is broken: of more than 1,024 files; of the first file that is no class file; of the
-/// first file whose code isn't well formed; of linking; of verification; and `NoMain` where no file has the class, or the
-/// class declares no such method. `NoMemory` where memory runs out.
+/// The refusal of the first rule that is broken: that of more than 1,024 files; of the first file that isn't a class
+/// file; of the first file whose code isn't well formed; of linking; of verification; and `NoMain` where no file has
+/// the class, or the class declares no such method. `NoMemory` where memory runs out.
 pub fn accept(alloc: Global, files: Vec<Vec<u8>>, main: &[u8]) -> Result<Program, AcceptRefusal>
     // What is accepted is the program of the files.
     ensures accepted { IfOk result (λ p. IsProgram (map (λ f. f.items) files.items) main.now p) }

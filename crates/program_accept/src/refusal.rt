@@ -33,7 +33,8 @@ pub struct Refusal {
     pub number: u8,
     /// The place of the method among the methods of its class, from 0; 0 where the refusal is of no method.
     pub method: u16,
-    /// Where in the file, in the constant pool or in the code it is, as the stage tells it; 0 where it tells no place.
+    /// Where in the file, in the constant pool or in the code it is, as the stage says; 0 where the stage gives no
+    /// place.
     pub place: u32,
 }
 

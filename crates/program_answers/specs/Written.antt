@@ -8,7 +8,7 @@ use Rattle.program_answers.specs.declared.answer.Answer.{Answer}
 abbrev pub line : List ℕ → List ℕ
 line text = text ++ 10 ∷ []
 
--- What a sink tells that it was given, before a run and behind it, if it tells that; and that its count of faults rose.
+-- What a sink says it was given, before a run and after it, if it says that; and that its count of faults rose.
 pub record SinkRun : Type 1 where
   pub before : Option (List (List ℕ))
   pub after : Option (List (List ℕ))
@@ -39,7 +39,7 @@ EndsOr short lines meant err status =
 abbrev pub Said : List (List ℕ) → Status → SinkRun → Status → Type 0
 Said lines meant err status = EndsOr statuses.Memory lines meant err status
 
--- .. where a fault came before, which no want of memory hides
+-- .. where a fault came before, whose status stays even when memory runs out
 abbrev pub SaidFault : List ℕ → Status → SinkRun → Status → Type 0
 SaidFault text fault err status = EndsOr fault (line text ∷ []) fault err status
 

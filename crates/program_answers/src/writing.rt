@@ -57,8 +57,8 @@ fn say_all<E: Sink>(err: &mut E, lines: &[Bytes], meant: Status) -> Status
     }
 }
 
-/// Writes an answer, the standard output first, and tells the status with which the program ends: that of the answer, or
-/// that of the failure of a stream. Takes no memory but what the sinks take.
+/// Writes an answer, the standard output first, and returns the status with which the program ends: that of the answer,
+/// or that of the failure of a stream. Takes no memory but what the sinks take.
 pub fn report<O: Sink, E: Sink>(answer: &Answer, out: &mut O, err: &mut E) -> Status
     ensures { Comes answer.now (record {
       out = record { before = O.given out.old; after = O.given out.new; failed = O.faults out.old < O.faults out.new };

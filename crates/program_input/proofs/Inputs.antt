@@ -6,7 +6,7 @@ use Rattle.jr_ports.specs.Stream.{IsNext, Taken}
 use Rattle.program_input.specs.Input.{TakesAtMost}
 use Rattle.program_input.proofs.Takes.{CalledSoFar}
 
--- what was read of a source that told this at first, and now tells what is left
+-- what was read from a source that had all of this at first, and now has what is left
 pub record IsReadSoFar (all left : List ℕ) (bytes : List ℕ) : Type 0 where
   pub front : bytes ≡ take (length bytes) all
   pub rest : left ≡ drop (length bytes) all

@@ -5,7 +5,7 @@ use Rattle.program_input.specs.Input.{AreTakes, TakesUpTo}
 use Rattle.jr_ports.proofs.Gained.{Gains-then}
 use Rattle.jr_ports.proofs.Gained.{Gains-none}
 
--- calls that brought something each, after which so many bytes are missing
+-- calls each of which brought something, after which `missing` bytes are still missing
 abbrev pub Goes : ℕ → ℕ → List Taken → Type 0
 Goes most missing [] = most ≡ missing
 Goes most missing (t ∷ takes) = (0 < most) × (t.asked ≡ min most 65536) × (t.came ≡ 0 → ⊥) × Goes (most - t.came) missing takes
@@ -28,7 +28,7 @@ goes_on most missing [] t goes some asked came =
     subst P (sym goes) (some, asked, came, refl)
 goes_on most missing (u ∷ takes) t goes some asked came = (goes.0, goes.1, goes.2, goes_on (most - u.came) missing takes t goes.3 some asked came)
 
--- what was called so far, of a source that tells it
+-- the calls that were made so far, of a source that says which were made
 abbrev pub CalledSoFar : Option (List Taken) → Option (List Taken) → ℕ → ℕ → Type 0
 CalledSoFar before now most missing = (takes : List Taken) × Goes most missing takes × Gains before now takes
 

@@ -16,12 +16,12 @@ pub record AreClassNames (names sorted : List (List ℕ)) : Type 0 where
   pub are : IsPermutation (filter is_class_file names) sorted
   pub in_order : IsSorted (slice_cmp nat_cmp) sorted
 
--- each of these was read of the file of its name, where the folder tells its files
+-- each of these was read from the file of its name, where the folder says which files it has
 abbrev pub AreRead : Option (List File) → List (List ℕ) → List (List ℕ) → Type 0
 AreRead told [] [] = Unit {0}
 AreRead told (name ∷ names) (bytes ∷ files) = IfSome told (λ all. IsRead all name bytes) × AreRead told names files
 AreRead told names files = ⊥
 
--- what a folder tells of the names of the files that were read: the first of these came to it
+-- the files that a folder says were read: their names, which are the first of these, were added
 abbrev pub ReadsFront : List (List ℕ) → Option (List (List ℕ)) → Option (List (List ℕ)) → Type 0
 ReadsFront names before after = (read rest : List (List ℕ)) × (names ≡ read ++ rest) × Gains before after read

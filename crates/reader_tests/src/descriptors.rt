@@ -50,7 +50,7 @@ static CASES: [Case; 27] = [
     (b"foo", "nothing", None),
 ];
 
-/// A front, a byte that stands behind it so often, and a back, and the same of these together.
+/// A front, a byte that follows it, how often, and a back; and what these are together, as in the cases above.
 type LongCase = (
     &'static [u8],
     u8,
@@ -140,7 +140,7 @@ fn the_longest_texts_are_no_descriptors(rt: HostRuntime) -> Result<(), Fail> {
     Ok(())
 }
 
-/// How many dimensions a kind has, and the type behind them.
+/// How many dimensions a kind has, and the type after them.
 type Wanted = (u8, &'static [u8]);
 
 fn base_name(base: &BaseKind) -> &[u8] {

@@ -17,7 +17,7 @@ fn answer(alloc: Global, bytes: &[u8]) -> Result<String, Fail> {
     }
 }
 
-/// The class One with other bytes at a place, for so many of its own.
+/// The class One with other bytes at a place, in place of `count` of its own.
 fn edited(alloc: Global, at: usize, count: usize, bytes: &[u8]) -> Result<Vec<u8>, Fail> {
     let class = one(alloc)?;
     let (front, rest) = class.split_at_checked(at).ok_or("a place in the class")?;
@@ -101,7 +101,7 @@ fn a_cut_class_is_truncated_at_its_length(rt: HostRuntime) -> Result<(), Fail> {
     Ok(())
 }
 
-/// Class A of version 52 with one method, whose descriptor has 255 ints, and what stands behind the pool.
+/// Class A of version 52 with one method, whose descriptor has 255 ints, and these bytes after the pool.
 fn of_words(alloc: Global, behind: &[u8]) -> Result<Vec<u8>, Fail> {
     let mut new = Vec::from_slice(
         alloc,

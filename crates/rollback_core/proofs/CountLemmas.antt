@@ -1,4 +1,4 @@
--- How a thread's counts stand to one another.
+-- How a thread's counts are related to one another.
 use Rattle.std.proofs.Common.{◌∙◌, ap, subst, sym, ◌≡◌, ℕ, zero, suc, ◌≤◌, Bool, true, false, List, [], ◌∷◌, map, drop, Some, None, refl, arith}
 use Rattle.std.specs.Prelude.{get_or, if◌then◌else◌}
 use Rattle.op_core.specs.ThreadCode.{Code}

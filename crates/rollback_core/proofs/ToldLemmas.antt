@@ -1,4 +1,4 @@
--- What a turn tells where a monitor was left, and that it tells of a thread only where one is handed out.
+-- What a turn reports where a monitor was left, and that it reports a thread only where one is handed out.
 use Rattle.std.proofs.Common.{◌≡◌, ◌≢◌, ◌∙◌, ap, subst, ℕ, List, [], ◌∷◌, Option, None, Some, refl}
 use Rattle.op_core.specs.declared.Reply.{Reply}
 use Rattle.op_core.specs.declared.Next.{Next}

@@ -48,7 +48,7 @@ abbrev pub NamesThread : Step → StepAnswer → Type 0
 NamesThread (LoadThread (Start r)) (Found w) = value_of w < 2 ^ 8
 NamesThread step answer = Unit {0}
 
--- there is room for what the change notes
+-- there is room for what the change records
 abbrev pub HasRoom : {C : Type 0} → JThread C → ThreadChange → Type 0
 HasRoom x (Writes noted) = 0 < x.own.log.spare
 HasRoom x (Takes h) = 0 < x.own.held.spare
@@ -57,7 +57,7 @@ HasRoom x (Opens s attempt) = IsSome x.own.opening
 HasRoom x (OpensLevel attempt) = IsSome x.own.opening × (x.own.levels < 255)
 HasRoom x change = Unit {0}
 
--- it notes nothing, and takes no save, monitor or line on
+-- it logs no word, and adds no save, monitor or line
 abbrev pub IsPlain : ThreadChange → Type 0
 IsPlain (Writes x) = ⊥
 IsPlain (Opens s attempt) = ⊥

@@ -1,4 +1,4 @@
--- What a turn tells, and what a step takes memory for.
+-- What a turn reports, and what a step takes memory for.
 use Rattle.std.specs.Prelude.{◌<◌, IsSome}
 use Rattle.step_port.specs.declared.step.Step.{Step}
 use Rattle.step_port.specs.declared.step.Step.TheVariants.{SwapWord, OpenSection, OpenLevel, TakeMonitor, Ticket, Split}
@@ -14,7 +14,7 @@ told_meant Born = born
 told_meant (Lost v) = lost v
 told_meant (Blocked why) = blocked why
 
--- memory is taken before the step: for the save of a section, a noted word, a held monitor, a line, a child
+-- memory is taken before the step: for the save of a section, a logged word, a held monitor, a line, a child
 abbrev pub TakesMemory : Step → Type 0
 TakesMemory (OpenSection s w) = Unit {0}
 TakesMemory (OpenLevel s w) = Unit {0}
@@ -24,7 +24,7 @@ TakesMemory Ticket = Unit {0}
 TakesMemory (Split n r p) = Unit {0}
 TakesMemory step = ⊥
 
--- room is made for what the step notes
+-- room is made for what the step records
 abbrev pub HasRoomFor : {C : Type 0} → JThread C → Step → Type 0
 HasRoomFor x (OpenSection s w) = IsSome x.own.opening
 HasRoomFor x (OpenLevel s w) = IsSome x.own.opening

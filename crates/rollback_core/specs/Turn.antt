@@ -48,7 +48,7 @@ pub record HandsOut {C S Pass : Type 0} (meant : JThread C → ThreadState S) (c
   pub first : IsChild code th step (meant child.value)
   pub passed : handed pass
 
--- What a turn of a thread of this number says that tells this, but where a thread is handed out.
+-- What a turn of a thread of this number says when it reports this, except where a thread is handed out.
 abbrev pub SaysPlainly : {C Pass : Type 0} → ℕ → ℕ → Next → Turn C Pass → Told → Type 0
 SaysPlainly number silents next r probed = r ≡ Turn.Probed
 SaysPlainly number silents (Want op) r (advanced (Some reply)) = r ≡ Turn.Advanced (Some (event_of number silents op reply))
@@ -57,13 +57,13 @@ SaysPlainly number silents next r (lost v) = r ≡ Turn.Lost v
 SaysPlainly number silents next r (blocked why) = r ≡ Turn.Blocked why
 SaysPlainly number silents next r born = ⊥
 
--- what a turn of the thread says that made the step and tells this
+-- what a turn of the thread says when it made the step and reports this
 abbrev pub Says : {C S Pass : Type 0} → (JThread C → ThreadState S) → Code S → ThreadState S → Step → (Pass → Type 0) → Turn C Pass → Told → Type 0
 Says meant code th step handed r born = HandsOut meant code th step handed r
 Says meant code th step handed r tells = SaysPlainly th.number th.silents (code.next th.local) r tells
 
--- The thread th made the step, which was answered so, and is then `behind`. `stepped` says that the port made the step
--- with an answer, `handed` what it handed out with it.
+-- The thread th made the step, got this answer, and is then `behind`. `stepped` says that the port made the step with
+-- an answer, `handed` what it handed out with it.
 pub record MadeStep {C S Pass : Type 0} (meant : JThread C → ThreadState S) (code : Code S) (b : Bounds) (th behind : ThreadState S) (step : Step)
     (stepped : StepAnswer → Type 0) (handed : Pass → Type 0) (r : Turn C Pass) : Type 0 where
   pub answer : StepAnswer

@@ -75,7 +75,7 @@ impl<C: ThreadCode> JThread<C> {
         }
     }
 
-    // Makes of the thread what the answer of the step makes of it, and says what the turn tells.
+    // Changes the thread as the answer to the step demands, and returns what the turn reports.
     #[tactic(auto, using(crate::proofs::ChangeLemmas::room_of))]
     pub(crate) fn absorb(&mut self, next: Next, step: Step, answer: StepAnswer) -> StepTold
         requires next { next ≡ C.code.next (C.state self.old.code) }

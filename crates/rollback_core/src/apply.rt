@@ -61,7 +61,7 @@ impl<C: ThreadCode> JThread<C> {
         }
     }
 
-    // Where no level is open that it hasn't seen pinned, nothing that was noted or saved is needed any more.
+    // Where no level is open that the thread hasn't seen pinned, nothing that was logged or saved is needed any more.
     #[tactic(auto, using(crate::proofs::SaveLemmas::all_dropped))]
     fn forget(&mut self)
         requires { Saves C.saved self.old }
@@ -216,7 +216,7 @@ impl<C: ThreadCode> JThread<C> {
         self.forget();
     }
 
-    // The word is noted where its own section can still be undone.
+    // Logs the word, where the thread's own section can still be undone.
     fn note(&mut self, word: Noted)
         requires { 0 < self.old.own.log.spare }
         ensures thread { thread_of C.state C.saved self.new

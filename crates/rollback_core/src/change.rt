@@ -21,7 +21,7 @@ pub enum ThreadChange {
     SeesPinned(u8, Attempt),
     /// This section, which had written a word, is committed, or pinned to this depth.
     Knows(u32, u8),
-    /// A word was written. It is noted as it was, where that is wanted.
+    /// A word was written. Its old value is logged, where that is wanted.
     Writes(Noted),
     /// A section was opened, and the attempt goes on so.
     Opens(u32, Attempt),
@@ -39,7 +39,7 @@ pub enum ThreadChange {
     Waits(u32),
     /// A line was printed, with this ticket.
     Prints(u64, Line),
-    /// Undoing has put back the word that was noted last.
+    /// Undoing has put back the word that was logged last.
     PutsBack,
     /// Undoing has given the monitor of this object its depth of before.
     SetsBack(u32, u16),

@@ -111,8 +111,8 @@ impl<C: ThreadCode> JThread<C> {
         }
     }
 
-    // The next step of undoing to a level at which this number of words was noted and these monitors were held, where the section's
-    // word was this.
+    // The next step of undoing to a level at which `noted` words were logged and these monitors were held, where the
+    // section's word was `word`.
     fn undo_step_from(&self, word: u64, level: u8, noted: usize, held: &[Held]) -> Step
         ensures { result ≡ undo_step self.now.own.section word (noted_since noted self.now.own.log.noted)
             (deepened_since (record { silents = 0; noted = 0; held = reverse held.now }) self.now.own.held.newest_first)

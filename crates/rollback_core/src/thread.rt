@@ -166,7 +166,7 @@ impl<C: ThreadCode> JThread<C> {
         self.own.last_kind
     }
 
-    /// How many words it has noted, so that they can be put back.
+    /// How many words it has logged, so that they can be put back.
     pub fn log_len(&self) -> usize
         ensures { result ≡ length (thread_of C.state C.saved self.now).log }
     {

@@ -1,4 +1,4 @@
-//! What a turn tells of the step that it made.
+//! What a turn reports of the step that it made.
 
 ghost use Rattle.std.specs.Prelude.{◌≡◌};
 ghost use Rattle.thread_automaton.specs.Told.{shown, told_by, told_unseen, told_of};
@@ -13,7 +13,7 @@ use op_core::{Next, Op, Reply, ThreadCode};
 use step_port::{Effect, Step, StepAnswer};
 use thread_automaton::Attempt;
 
-/// What a turn tells of the step that it made.
+/// What a turn reports of the step that it made.
 #[derive(Clone, Copy)]
 pub enum StepTold {
     /// A load, after which the attempt goes on.
@@ -72,7 +72,7 @@ impl<C: ThreadCode> JThread<C> {
         }
     }
 
-    // What a turn tells that made the step, was answered this, and then changed so.
+    // What a turn reports after it made the step, got this answer, and changed the thread like this.
     pub(crate) fn told(
         &self,
         next: Next,

@@ -32,7 +32,7 @@ fn end_wanted(next: Next) -> Option<u32>
     }
 }
 
-// What a turn says that tells this, but where a thread is handed out.
+// What a turn says when it reports this, except where a thread is handed out.
 fn said<C: ThreadCode, S>(number: u8, silents: u64, next: Next, told: StepTold) -> Turn<C, S>
     requires { told_meant told ≢ born }
     ensures says { SaysPlainly number silents next result (told_meant told) }

@@ -55,7 +55,7 @@ fn a_monitors_depth_is_a_limit(rt: HostRuntime) -> Result<(), Fail> {
     Ok(())
 }
 
-/// How a run ends whose main starts so many threads, at most 255, and how many threads ended.
+/// How a run ends whose main starts `count` threads, at most 255, and how many threads ended.
 fn starts(alloc: Global, count: u32) -> Result<((&'static str, u8), usize), Fail> {
     let mut objects = Vec::new(alloc);
     let mut steps = Vec::new(alloc);

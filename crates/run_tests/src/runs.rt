@@ -107,8 +107,9 @@ const ITEMS_THAT_END_AT_ONCE: Run = Run {
     how: ("done", 0),
 };
 
-/// The numbers drawn behind 1, without their 33 lower bits, are 908834774, 1093944153, 1392341196, 822192870,
-/// 1708211034, 1074839795 and 1189567130: of 3 enabled threads the places 2, 0, 0, of 2 the places 0, 0, 1, of 1 the place 0.
+/// The numbers drawn after 1, without their 33 lower bits, are 908834774, 1093944153, 1392341196, 822192870,
+/// 1708211034, 1074839795 and 1189567130: of 3 enabled threads the places 2, 0, 0, of 2 the places 0, 0, 1, of 1 the
+/// place 0.
 const SEED_1: Run = Run {
     scripts: &THREE_PRINT,
     order: &[OrderItem::Turns(1, 2)],
@@ -228,7 +229,7 @@ const JUST_ENOUGH_TURNS: Run = Run {
     how: ("done", 0),
 };
 
-/// A turn that a thread gets behind its number of counted turns is spent, though the thread would wait.
+/// A turn that a thread gets after its limit of counted turns is spent, though the thread would wait.
 const SPENT_IN_AN_ITEM: Run = Run {
     scripts: &MAIN_JOINS,
     order: &[OrderItem::Turns(1, 3)],

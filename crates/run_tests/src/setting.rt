@@ -48,7 +48,7 @@ fn opening(alloc: Global, references: &[u32]) -> Result<Opening, AllocError> {
     })
 }
 
-/// The outcome of a run in which main stands at this code.
+/// The outcome of a run in which main begins with this code.
 pub fn run<C: ThreadCode + Drop>(
     alloc: Global,
     objects: &[u32],

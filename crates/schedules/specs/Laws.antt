@@ -15,7 +15,7 @@ abbrev pub RunsHaveOneEnd : {R : Type 0} → TurnSystem R → Type 0
 RunsHaveOneEnd {R} system = (run last other : Run R) (ts us : List ℕ) (end why : How) → IsDeterminate system
     → Goes system run ts end last → Goes system run us why other → (us ≡ ts) × (why ≡ end) × (other ≡ last)
 
--- turns go on behind other turns
+-- turns go on after other turns
 abbrev pub RunsGoOn : {R : Type 0} → TurnSystem R → Type 0
 RunsGoOn {R} system = (run next last : Run R) (ts us : List ℕ)
     → Follows system run ts next → Follows system next us last → Follows system run (ts ++ us) last

@@ -30,13 +30,13 @@ pub record AreThose (fact : ℕ → Type 0) (threads : List ℕ) : Type 0 where
   pub rising : IsStrictlyIncreasing threads
   pub each : (t : ℕ) → Contains threads t ↔ fact t
 
--- thread t is picked among the enabled ones: the one at the place that the number tells
+-- thread t is picked among the enabled ones: the one at the place that the number gives
 pub record IsPicked (enabled : ℕ → Type 0) (number : Option ℕ) (t : ℕ) : Type 0 where
   pub threads : List ℕ
   pub those : AreThose enabled threads
   pub at_place : slice_get threads (place_of number (length threads)) ≡ Some t
 
--- where a run stands: the state, and what is left of the schedule
+-- where a run is: the state, and what is left of the schedule
 pub record Run (R : Type 0) : Type 0 where
   pub state : R
   pub rest : Rest
@@ -45,8 +45,8 @@ pub record Run (R : Type 0) : Type 0 where
 abbrev pub due_of : {R : Type 0} → TurnSystem R → Run R → Rest
 due_of system run = rest_due (system.live run.state) run.rest
 
--- Thread t gets the next turn, given the order from the item on that is due and the last number drawn:
--- the item's thread, whether it is enabled or not; behind the order, the one that is picked.
+-- Thread t gets the next turn, given the order from the due item on and the last number drawn: it is the item's
+-- thread, whether that is enabled or not; after the order, it is the one that is picked.
 abbrev pub GetsTurn : {R : Type 0} → TurnSystem R → R → List OrderItem → Option ℕ → ℕ → Type 0
 GetsTurn system r [] number t = IsPicked (system.enabled r) (drawn number) t
 GetsTurn system r (item ∷ order) number t = t ≡ thread_of item

@@ -17,7 +17,7 @@ abbrev pub has_turns : OrderItem → Bool
 has_turns (Turns t n) = nat_lt 0 n
 has_turns (Until t kind) = true
 
--- what is left of an item behind a turn that came to this
+-- what is left of an item after a turn that came to this
 abbrev pub item_after : OrderItem → TurnEnd → List OrderItem
 item_after (Turns t n) end = Turns t (n - 1) ∷ []
 item_after (Until t kind) (Made made) = if made == kind then [] else Until t kind ∷ []
@@ -30,7 +30,7 @@ abbrev pub items_of : Option OrderItem → List OrderItem
 items_of None = []
 items_of (Some item) = item ∷ []
 
--- what is left of an order behind a turn that its first item gave
+-- what is left of an order after a turn that its first item gave
 abbrev pub order_after : List OrderItem → TurnEnd → List OrderItem
 order_after [] end = []
 order_after (item ∷ order) end = item_after item end ++ order
@@ -41,7 +41,7 @@ abbrev pub due : (ℕ → Bool) → List OrderItem → List OrderItem
 due live [] = []
 due live (item ∷ order) = if has_turns item && live (thread_of item) then item ∷ order else due live order
 
--- the number behind x of a linear congruential generator modulo 2^64, with the constants of Knuth's MMIX
+-- the number after x of a linear congruential generator modulo 2^64, with the constants of Knuth's MMIX
 abbrev pub next_of : ℕ → ℕ
 next_of x = (x * 6364136223846793005 + 1442695040888963407) % 2 ^ 64
 
@@ -55,8 +55,8 @@ pub record Rest : Type 0 where
 abbrev pub drawn : Option ℕ → Option ℕ
 drawn number = option_map next_of number
 
--- where the picked thread stands among so many enabled threads, by rising number from place 0: with a
--- number that was drawn its upper bits tell, and without one it is the first
+-- the place of the picked thread among `count` enabled threads, by rising number from place 0: where a
+-- number was drawn its upper bits decide, and without one it is the first place
 abbrev pub place_of : Option ℕ → ℕ → ℕ
 place_of None count = 0
 place_of (Some x) count = (x / 2 ^ 33) % count

@@ -19,7 +19,7 @@ pub fn runs_have_one_end<T: GivesTurns>()
     ensures { RunsHaveOneEnd T.system }
 {}
 
-/// Turns that follow a schedule go on behind others that do.
+/// Turns that follow a schedule go on after others that do.
 pub fn runs_go_on<T: GivesTurns>()
     ensures { RunsGoOn T.system }
 {}

@@ -8,7 +8,7 @@ use op_core::{Limit, Rows};
 /// An item of an order: turns for one thread. It ends at once where the thread hasn't begun or has ended.
 #[derive(Clone, Copy)]
 pub enum OrderItem {
-    /// `T*N`: so many turns for the thread, from 1 to 1,000,000, whatever they come to.
+    /// `T*N`: N turns for the thread, from 1 to 1,000,000, whatever they come to.
     Turns(u8, u32),
     /// `T@K`: turns for the thread until one makes a step of this kind that isn't lost, or is blocked.
     /// Which steps have which kind, by numbers from 1, what gives the turns defines.
@@ -35,7 +35,7 @@ impl OrderItem {
         }
     }
 
-    /// What is left of the item behind a turn that it gave and that came to this: `T*N` gives a turn less,
+    /// What is left of the item after a turn that it gave and that came to `end`: `T*N` has one turn less,
     /// and may have none then; `T@K` stays, or is through.
     pub fn after(self, end: TurnEnd) -> Option<OrderItem>
         ensures { items_of result ≡ item_after self end }
@@ -54,7 +54,7 @@ impl OrderItem {
 /// Who gets the turns of a run.
 #[derive(Drop)]
 pub struct Schedule {
-    /// The items that give the first turns, one behind the other.
+    /// The items that give the first turns, one after another.
     pub order: Rows<OrderItem>,
     /// What draws the thread of each later turn. Without a seed it is the lowest one that is enabled.
     pub seed: Option<u64>,

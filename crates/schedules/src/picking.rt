@@ -3,7 +3,7 @@
 ghost use Rattle.std.specs.Prelude.{◌≡◌, ◌<◌, [], length, slice_get, MatchOption};
 ghost use Rattle.schedules.specs.Schedule.{next_of, place_of};
 
-/// The number that a seed draws behind `number`, by a linear congruential generator modulo 2^64.
+/// The number that a seed draws after `number`, by a linear congruential generator modulo 2^64.
 pub fn next_number(number: u64) -> u64
     ensures { result ≡ next_of number }
 {
@@ -12,8 +12,8 @@ pub fn next_number(number: u64) -> u64
         .wrapping_add(1442695040888963407)
 }
 
-/// Where the thread that is picked stands among so many enabled ones, by rising number from place 0: with
-/// a number that was drawn its upper 31 bits tell, and without one it is the first. There must be one.
+/// The place of the picked thread among `count` enabled ones, by rising number from place 0: where a number
+/// was drawn its upper 31 bits decide, and without one it is the first place. There must be a thread.
 pub fn place_among(count: usize, drawn: Option<u64>) -> usize
     requires { 0 < count }
     ensures { result ≡ place_of drawn count }

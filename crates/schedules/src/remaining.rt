@@ -7,7 +7,7 @@ ghost use Rattle.schedules.specs.Schedule.{order_of, order_after, drawn, thread_
 use crate::{OrderItem, Schedule, TurnEnd, next_number};
 use std::marker::Model;
 
-/// What tells which threads are live: they have begun and have not ended.
+/// Says which threads are live: they have begun and have not ended.
 pub trait LiveThreads {
     ghost use Rattle.std.specs.Prelude.{ℕ, Bool};
 
@@ -76,7 +76,7 @@ impl<'a> Remaining<'a> {
     }
 
     /// Drops the items that end without a turn of theirs, those without turns and those of threads that aren't live.
-    /// Gives the thread of the first item behind them, which gets the next turn, or `None` where the order is
+    /// Returns the thread of the first item after them, which gets the next turn, or `None` where the order is
     /// through.
     pub fn due<T: LiveThreads>(&mut self, threads: &T) -> Option<u8>
         ensures rest { self.new ≡ rest_due (T.live threads.now) self.old }

@@ -1,4 +1,4 @@
--- Lists in which each number stands once, and the ranks of numbers in a list.
+-- Lists in which each number occurs once, and the ranks of numbers in a list.
 use Rattle.std.specs.Prelude.{◌≡◌, ℕ, zero, suc, ◌==◌, Bool, List, [], ◌∷◌, ◌++◌, fold, slice_index, if◌then◌else◌}
 use Rattle.std.specs.List.{list_any}
 
@@ -13,7 +13,7 @@ put xs x = if has_number xs x then xs else xs ++ x ∷ []
 abbrev pub put_all : List ℕ → List ℕ → List ℕ
 put_all xs ys = fold put xs ys
 
--- the numbers of a list, each where it stands first
+-- the numbers of a list, each where it occurs first
 abbrev pub without_repeats : List ℕ → List ℕ
 without_repeats xs = put_all [] xs
 

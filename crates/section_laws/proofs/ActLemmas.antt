@@ -57,7 +57,7 @@ take_whole (y ∷ xs) zero within = absurd (too_long (length xs) within)
 take_whole (y ∷ xs) (suc k) within = ap (λ zs. y ∷ zs) (take_whole xs k (omega (arith, within)))
 
 module _ {S : Type 0} (code : Code S) (b : Bounds) where
-  -- the cores up to number n, and this one behind
+  -- the cores up to number n, and this one after them
   abbrev extended : (ℕ → Core S) → ℕ → Core S → ℕ → Core S
   extended c n d k = if nat_le k n then c k else d
 
@@ -202,7 +202,7 @@ module _ {S : Type 0} (code : Code S) (b : Bounds) where
 
     -- ---- silent moves
 
-    -- a thread has begun, and stands behind its last step
+    -- a thread has begun, and is in its state after its last step
     record Own (run : List RunEntry) (t : ℕ) (x : ThreadState S) : Type 0 where
       birth : Birth
       begun : Contains (births main run) birth
@@ -259,7 +259,7 @@ module _ {S : Type 0} (code : Code S) (b : Bounds) where
     part_other : (e : RunEntry) (run : List RunEntry) (t : ℕ) → t ≢ e.thread → part_of t (e ∷ run) ≡ part_of t run
     part_other e run t other = ap (λ test. if test then e.made ∷ part_of t run else part_of t run) (ne_eqb e.thread t (λ is. other (sym is)))
 
-    -- another thread stands as before
+    -- another thread is where it was before
     stands_on : (e : RunEntry) (run : List RunEntry) (t : ℕ) (th : ThreadState S) → t ≢ e.thread → Stands run t th → Stands (e ∷ run) t th
     stands_on e run t th other at = record {
       birth = at.birth;
@@ -271,7 +271,7 @@ module _ {S : Type 0} (code : Code S) (b : Bounds) where
       quietly = at.quietly;
     }
 
-    -- the thread of an entry: where it stood behind its step before, and where it makes this one
+    -- the thread of an entry: where it was after its step before, and where it makes this one
     record Turn (e : RunEntry) (run : List RunEntry) (y : ThreadState S) : Type 0 where
       stood : ThreadState S
       own : Own run e.thread stood
@@ -291,7 +291,7 @@ module _ {S : Type 0} (code : Code S) (b : Bounds) where
       quietly = refl;
     }
 
-    -- behind its step, and where another thread is handed out with it
+    -- after its step, and where another thread is handed out with it
     record Stepped (e : RunEntry) (run : List RunEntry) (threads : Threads S) (y : ThreadState S) : Type 0 where
       path : Path (e ∷ run)
       now : (x : Birth) → Contains (births main run) x → x.number ≡ e.thread → (last path).threads x.number ≡ Some y

@@ -62,7 +62,7 @@ module _ {S : Type 0} (code : Code S) (b : Bounds) where
     | inr so ↦ inr (record { seen = ap view is ∙ ap calm so.seen; fit = subst (IsFit code) (sym is) (silent_steps_keep code z l so.fit) })
   ]
 
-  -- ---- who stands where
+  -- ---- who is where
 
   -- from some beginning on, these are its steps, and then it has made silent moves
   pub record StandsIn (run : List RunEntry) (u : ℕ) (th : ThreadState S) : Type 0 where
@@ -149,7 +149,7 @@ module _ {S : Type 0} (code : Code S) (b : Bounds) where
       can : CanAnswer (effect_of e.made.step) e.made.answer
       can = subst (CanAnswer (effect_of e.made.step)) (sym so.words.1) (words_can_answer before e.made.step)
 
-      -- a thread that stands there and makes the step
+      -- a thread that is there and makes the step
       pub deed_by : (z : ThreadState S) → StandsIn run e.thread z → next_move code b z ≡ Make e.made.step
           → Deed z e.made.step e.made.answer (view (after_answer code b z e.made.step e.made.answer))
       deed_by z at move = deed_of code b z before e.made.step e.made.answer (facts.fit e.thread z at) move so.words.1

@@ -377,7 +377,7 @@ deed_of code b th w step a fits makes is =
     subst (Deed th step a) (sym (counted_view (told code b th step a) (changed code th (change_of code b th (code.next th.local) step a))))
     (deed code b th (answers_are_rows code b th step a fits.attempt makes can) fits.kept.levels (λ s x opens. made_opens code b th s x (makes ∙ ap Make opens)))
 
--- ---- what an opening tells
+-- ---- what an opening says
 
 pub record Opens {S : Type 0} (th : ThreadState S) (s w : ℕ) : Type 0 where
   pub none_open : nat_eq th.section 0 ≡ true

@@ -43,7 +43,7 @@ silent_steps_keep code th l fits = record {
 abbrev pub Threads : Type 0 → Type 0
 Threads S = ℕ → Option (ThreadState S)
 
--- which threads stand where: by number
+-- which threads are where: by number
 abbrev pub Standing : Type 0 → Type 1
 Standing S = ℕ → ThreadState S → Type 0
 
@@ -109,7 +109,7 @@ module _ {S : Type 0} (code : Code S) where
     abbrev after : Words
     after = words_after step w
 
-    -- who stands where behind it: others as before, and thread t behind the step
+    -- who is where after it: others as before, and thread t after the step
     pub data Came (u : ℕ) (uh : ThreadState S) : Type 0 where
       came_other : u ≢ t → Stands u uh → Came u uh
       came_own : u ≡ t → (z : ThreadState S) → Stands t z → Deed z step a (view uh) → IsFit code uh → Came u uh
@@ -200,7 +200,7 @@ module _ {S : Type 0} (code : Code S) where
     pub seen : view y ≡ calm (view x)
     pub fit : IsFit code y
 
-  -- who stands where: as before, behind a silent move, or at a beginning
+  -- who is where: as before, after a silent move, or at a beginning
   pub data Still (Stands : Standing S) (u : ℕ) (uh : ThreadState S) : Type 0 where
     as_before : Stands u uh → Still Stands u uh
     calmed : (x : ThreadState S) → Stands u x → Calmed x uh → Still Stands u uh

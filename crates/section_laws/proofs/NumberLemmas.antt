@@ -338,7 +338,7 @@ module _ {S : Type 0} (code : Code S) (b : Bounds) (first : Birth → ThreadStat
           own = by_own;
         }
 
-    -- nor has another thread this number behind it
+    -- nor has another thread this number after it
     unbegun_now : (n : ℕ) → Begins n → (t : ℕ) (th : ThreadState S) → Came t th → 0 < number_at th.attempt → n ≡ number_at th.attempt → ⊥
     unbegun_now n one t th (waits is) some same = not_above (number_at th.attempt) some is
     unbegun_now n one t th (stays away at) some same = away (sym (before.apart e.thread t one.by th one.at at (subst (λ m. 0 < m) (sym (one.had ∙ same)) some) (one.had ∙ same)))

@@ -51,7 +51,7 @@ module _ {S : Type 0} (code : Code S) (b : Bounds) (c : ℕ → Core S) where
 
 -- ---- the facts
 
--- what is so of sections where a core stands
+-- what holds of sections in the state of a core
 abbrev pub Known : {S : Type 0} → Code S → Core S → Type 0
 Known code c = Facts code c.words (InThreads c.threads)
 

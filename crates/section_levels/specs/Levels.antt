@@ -60,7 +60,7 @@ revoked_in c acts t n = revoked_by (word_in ((core_at c acts n).threads t) (core
 abbrev pub depth_in : {S : Type 0} → (ℕ → Core S) → List Act → ℕ → ℕ → ℕ
 depth_in c acts t n = pinned_in ((core_at c acts n).threads t) (core_at c acts n).words
 
--- With act number k thread t, which is undoing its section to level n, notes it undone so far.
+-- With act number k thread t, which is undoing its section to level n, marks it as undone so far.
 pub record UndoesAt {S : Type 0} (c : ℕ → Core S) (acts : List Act) (k t n : ℕ) : Type 0 where
   pub th : ThreadState S
   pub word : ℕ
@@ -76,7 +76,7 @@ pub record RunsInLevels {S : Type 0} (c : ℕ → Core S) (acts : List Act) (t :
   pub pinned : (n : ℕ) → PinnedAt (levels_in c acts t) (revoked_in c acts t) act (depth_in c acts t) n
   -- where it is revoked, that act revokes it
   pub revokes : (k n : ℕ) → act k ≡ is_revoked n → (th : ThreadState S) × ((c k).threads t ≡ Some th) × RevokesAt acts k th.section n
-  -- and where it is undone, the thread notes that, and nowhere else
+  -- and where it is undone, the thread marks it as undone, and nowhere else
   pub undoes : (k n : ℕ) → act k ≡ is_undone n → UndoesAt c acts k t n
   pub notes : (k s w : ℕ) → slice_get acts k ≡ Some (did t (MarkUndone s w) Done) → (n : ℕ) × (act k ≡ is_undone n)
 

@@ -101,7 +101,7 @@ undone_back doomed levels marks log = by_count (to_undo doomed (drop (to_undo do
     by_count : (m : ℕ) → m ≡ to_undo doomed levels - to_undo doomed levels → words_back m marks log ≡ []
     by_count m is = ap (λ k. words_back k marks log) (same (to_undo doomed levels) m is)
 
--- a word is noted, where something is to be undone
+-- a word is logged, where something is to be undone
 pub noted_back : (n : ℕ) (marks : List Mark) (x : Noted) (log : List Noted) → (nth_or no_mark n marks).noted ≤ length log
     → words_back (suc n) marks (x ∷ log) ≡ x ∷ words_back (suc n) marks log
 noted_back n marks x log low = more_since (nth_or no_mark n marks).noted x log low

@@ -46,7 +46,7 @@ noted_or p x log is = by_test (nat_eq x.at p) refl is
     by_test true eq is = inl (yes x.at p eq)
     by_test false eq is = inr is
 
--- a word that isn't noted stays
+-- a word that isn't logged stays
 pub replay_unnoted : (log : List Noted) (f : ℕ → ℕ) (p : ℕ) → notes p log ≡ false → replay log f p ≡ f p
 replay_unnoted [] f p none = refl
 replay_unnoted (x ∷ log) f p none =

@@ -28,7 +28,7 @@ module _ (IsWord : ℕ → Type 0) (heap settled : ℕ → ℕ) (back : ℕ → 
       differs : (t q : ℕ) → notes q (back t) ≡ true → q ≢ p
       differs t q is here = both (notes p (back t)) (subst (λ n. notes n (back t) ≡ true) here is) (none t)
 
-  -- A thread that is to be undone writes, and notes the word.
+  -- A thread that is to be undone writes a word, and logs it.
   module _ (t p w : ℕ) (word : IsWord p) (tags : Carries (own t) (least t) w) (others : (u : ℕ) → u ≢ t → notes p (back u) ≡ false)
       (alone : (u q : ℕ) → notes q (back u) ≡ true → own t ≡ own u → t ≡ u) where
     abbrev x : Noted
@@ -118,7 +118,7 @@ module _ (IsWord : ℕ → Type 0) (heap settled : ℕ → ℕ) (back : ℕ → 
           | inr too ↦ facts.apart u v q r was too same
         ]
 
-  -- A thread puts back the word that it has noted last.
+  -- A thread puts back the word that it has logged last.
   module _ (t : ℕ) (x : Noted) (rest : List Noted) (logs : back t ≡ x ∷ rest) where
     abbrev heap'' : ℕ → ℕ
     heap'' = set_at heap x.at x.old

@@ -19,7 +19,7 @@ KeptWritesSettle = (is_word : ℕ → Bool) (heap settled : ℕ → ℕ) (back :
     → (p w : ℕ) → ((t : ℕ) → notes p (back t) ≡ false)
     → Settled (λ p. is_word p ≡ true) (set_at heap p w) (set_at settled p (value_of w)) back own least
 
--- a word is written and noted by a thread that is to be undone: it will be put back, so what is settled stays
+-- a word is written and logged by a thread that is to be undone: it will be put back, so what is settled stays
 abbrev pub NotedWritesSettle : Type 0
 NotedWritesSettle = (is_word : ℕ → Bool) (heap settled : ℕ → ℕ) (back : ℕ → List Noted) (own least : ℕ → ℕ)
     → Settled (λ p. is_word p ≡ true) heap settled back own least
@@ -27,7 +27,7 @@ NotedWritesSettle = (is_word : ℕ → Bool) (heap settled : ℕ → ℕ) (back 
     → ((u : ℕ) → u ≢ t → notes p (back u) ≡ false) → ((u q : ℕ) → notes q (back u) ≡ true → own t ≡ own u → t ≡ u)
     → Settled (λ p. is_word p ≡ true) (set_at heap p w) settled (set_at back t (record { at = p; old = heap p } ∷ back t)) own least
 
--- the word that a thread noted last is put back: what is settled stays
+-- the word that a thread logged last is put back: what is settled stays
 abbrev pub WordsPutBackSettle : Type 0
 WordsPutBackSettle = (is_word : ℕ → Bool) (heap settled : ℕ → ℕ) (back : ℕ → List Noted) (own least : ℕ → ℕ)
     → Settled (λ p. is_word p ≡ true) heap settled back own least
@@ -53,7 +53,7 @@ abbrev pub UndoneLevelsPutBackNone : Type 0
 UndoneLevelsPutBackNone = (doomed : ℕ → Bool) (levels : List ℕ) (marks : List Mark) (log : List Noted)
     → words_back (to_undo doomed (drop (to_undo doomed levels) levels)) marks log ≡ []
 
--- one more, as a word is noted where something is to be undone
+-- one more, as a word is logged where something is to be undone
 abbrev pub NotedWordsArePutBack : Type 0
 NotedWordsArePutBack = (n : ℕ) (marks : List Mark) (x : Noted) (log : List Noted) → (nth_or no_mark n marks).noted ≤ length log
     → words_back (suc n) marks (x ∷ log) ≡ x ∷ words_back (suc n) marks log

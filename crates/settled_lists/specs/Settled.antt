@@ -5,7 +5,7 @@ use Rattle.heap_words.specs.Words.{value_of, tag_of, tag_section, tag_level}
 use Rattle.write_log.specs.declared.Noted.{Noted}
 use Rattle.thread_automaton.specs.ThreadState.{Mark, nth_or, no_mark, noted_since}
 
--- ---- which levels are to be undone: `doomed` tells the places of those that are revoked, sooner or later
+-- ---- which levels are to be undone: `doomed` says at which places they are revoked, sooner or later
 
 -- inside of a level that is to be undone all are
 abbrev pub count_more : Bool → ℕ → ℕ
@@ -37,7 +37,7 @@ notes p (x ∷ log) = nat_eq x.at p || notes p log
 abbrev pub Carries : ℕ → ℕ → ℕ → Type 0
 Carries s n word = (tag_section (tag_of word) ≡ s) × (n ≤ tag_level (tag_of word))
 
--- a place that is noted again was the section's own then
+-- a place that is logged again was the section's own then
 abbrev pub AreNotedAgain : ℕ → ℕ → List Noted → Type 0
 AreNotedAgain s n [] = Unit {0}
 AreNotedAgain s n (x ∷ log) = (notes x.at log ≡ true → Carries s n x.old) × AreNotedAgain s n log

@@ -1,9 +1,9 @@
-//! Laws of what the events that are left have made of words and monitors, where the levels are known that are to be undone.
+//! Laws of what the remaining events have made of words and monitors, where it is known which levels are to be undone.
 //!
-//! While a thread has a level open that is to be undone, a word of an object may have a value that no event which is left
-//! has written. What is settled is then found by replay: the words that the thread noted since that level are put back.
-//! Each law says how that goes on with one kind of step. It is the contract of a function with no parameters and an empty
-//! body, for the crates above to cite.
+//! While a thread has a level open that is to be undone, a word of an object may have a value that none of the
+//! remaining events has written. What is settled is then found by replay: the words that the thread logged since that
+//! level opened are put back. Each law says how that goes on with one kind of step. It is the contract of a function
+//! with no parameters and an empty body, for the crates above to cite.
 #![tactic(auto)]
 
 ghost use Rattle.settled_lists.specs.Laws.{KeptWritesSettle, NotedWritesSettle, WordsPutBackSettle, OpenedLevelsPutBackTheSame, ClosedLevelsPutBackTheSame, UndoneLevelsPutBackNone, NotedWordsArePutBack, TakenMonitorsSettle, DeepenedMonitorsSettle, ReleasedMonitorsSettle, OpenedLevelsKeepDepths, ClosedLevelsKeepDepths};
@@ -38,7 +38,7 @@ pub fn undone_levels_put_back_none()
     ensures { UndoneLevelsPutBackNone }
 {}
 
-/// A word that is noted in a level that is to be undone is one of them.
+/// A word that is logged in a level that is to be undone is one of those that are put back.
 pub fn noted_words_are_put_back()
     ensures { NotedWordsArePutBack }
 {}

@@ -14,7 +14,7 @@ zeros_index n i = elim (leb_tells n i) [
   | inr inside ↦ get_or-replicate n i 0 0 (omega (arith, inside.1))
 ]
 
--- a page of zeros behind the others
+-- a page of zeros after the others
 more_on : (pages : List (List ℕ)) (n k i : ℕ) → get_or (get_or (pages ++ replicate n 0 ∷ []) k []) i 0 ≡ get_or (get_or pages k []) i 0
 more_on [] n zero i = zeros_index n i
 more_on [] n (suc k) i = refl
@@ -28,7 +28,7 @@ numbers_more page pages more x true is zeros =
     ∙ fun_ext (λ place. more_on (map page pages) 64 (place / 64) (place % 64))
 numbers_more page pages more x false is zeros = ap (λ xs. number_in (map page xs)) is
 
--- a place is told by its page and by its place there
+-- a place is determined by its page and by its place there
 same_place : (j place : ℕ) → j / 64 ≡ place / 64 → j % 64 ≡ place % 64 → j ≡ place
 same_place j place high low = omega (arith, div-add-mod j 64, div-add-mod place 64, high, low)
 

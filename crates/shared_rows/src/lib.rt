@@ -1,5 +1,5 @@
 //! Rows of numbers that share their pages: a row begins as another one and is changed in places, at the cost of
-//! the pages that change. So many rows that differ in little take the memory of one.
+//! the pages that change. Many rows that differ little therefore take the memory of one.
 #![tactic(auto)]
 
 ghost use Rattle.std.specs.Prelude.{◌≡◌, ◌<◌, ◌+◌, IfOk, OnOk, OnErr, length, slice_set};

@@ -46,7 +46,7 @@ module _ {P : Type 0} (know : Sense P) (us : List ClassUnit) (knows : Knows know
     made = if (env_of us id c).constructs then Some (this, id.class) else None;
   }
 
-  -- the first frame of the method fits, and tells at its end what the call promises
+  -- the first frame of the method fits, and returns at its end what the call promises
   pub record Entered (h : P) (id : MethodId) (c : CodeOf us id) (args : List ℕ) (monitor this : ℕ) : Type 0 where
     pub call : CallFits know us h id args monitor
     pub tells : returns_of know us h call.frame call.fits.stands ≡ promised id c this

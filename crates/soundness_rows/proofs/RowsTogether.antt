@@ -56,7 +56,7 @@ module _ {P : Type 0} (know : Sense P) (us : List ClassUnit) (knows : Knows know
   launched_fits me h (notifies r) mine operand = notify_all_fits know us knows accepted me h None launch (record { value = None; made = None }) refl refl (launch_fits know us knows accepted h (record { value = None; made = None })) r operand
   launched_fits me h (finds v) mine operand = target_task_fits me h None launch mine (λ h' tells more e. launch_fits know us knows accepted h' tells) v operand
 
-  -- a call that ends without a value, whatever is told
+  -- a call that ends without a value, whatever it returns
   any_tells : (h : P) (res : Option Returns) (u : Use) (tells : Returns) → tells.value ≡ None → UseFits know us h res (record { value = None; made = None }) u → UseFits know us h res tells u
   any_tells h res u tells void on = record {
     ends = record {

@@ -14,8 +14,8 @@ pub fn kinds_rows_fit()
     ensures { (us : List ClassUnit) → Accepted us → RowsFit (kinds us) us }
 {}
 
-/// So it is where replies are true of the objects that there are. What a row wants is there then, and what it writes may
-/// stand where it is written.
+/// The same holds where replies are true of the objects that exist. What a row wants then exists, and what it writes
+/// fits where it is written.
 pub fn runs_rows_fit()
     ensures { (us : List ClassUnit) → Knows (runs us) us → Accepted us → RowsFit (runs us) us }
 {}

@@ -29,7 +29,7 @@ use Rattle.soundness_senses.proofs.Plans.{exits_fit}
 use Rattle.link_types.specs.declared.types.ValueType.TheVariants as values
 
 module _ {P : Type 0} (know : Sense P) (us : List ClassUnit) (knows : Knows know us) (accepted : Accepted us) (me : ℕ) where
-  -- ---- what an end tells stays so
+  -- ---- what the end of a frame returns stays so
 
   pub value_more : (h h' : P) (t : ValueType) (words : List ℕ) → know.extends h h' → ValueFits know h t words → ValueFits know h' t words
   value_more h h' values.Long (high ∷ low ∷ []) more fits = fits

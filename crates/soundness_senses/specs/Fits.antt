@@ -34,7 +34,7 @@ pub record Unset : Type 0 where
   pub this : ℕ
   pub made : ℕ → ℕ
 
--- what the end of a frame tells the one below it: the type of its value, and of a constructor its object and class
+-- what the end of a frame returns to the one below it: the type of its value, and of a constructor its object and class
 pub record Returns : Type 0 where
   pub value : Option ValueType
   pub made : Option (ℕ × ℕ)
@@ -218,7 +218,7 @@ module _ {P : Type 0} (know : Sense P) (us : List ClassUnit) where
     pub plan : PlanFits res b l.plan h
     pub below : BelowFits h res l.below
 
-  -- how a call goes on, when the frame that is called tells this at its end
+  -- how a call goes on, when the called frame returns this at its end
   pub record EndsFit (h : P) (res : Option Returns) (tells : Returns) (u : Use) : Type 0 where
     pub value : (h' : P) (words : List ℕ) → know.extends h h' → ResultFits know h' tells.value words → IsMade know h' tells.made → PlanFits res anything (u.value words) h'
     pub thrown : (h' : P) (r c : ℕ) → know.extends h h' → know.is_thrown h' r c → PlanFits res anything (u.thrown r c) h'

@@ -51,7 +51,7 @@ fn long_of(pool: &[Constant], field: &Member) -> u64
 }
 
 impl FileConstants<'_> {
-    /// The reference of the string at the index of a literal, 0 where no literal stands there.
+    /// The reference of the string at the index of a literal, 0 where there is no literal.
     fn string(&self, index: u16) -> u32
         requires { (us : List ClassUnit) × (u : ClassUnit) × AreConstantsOf us u self.now }
         ensures { (us : List ClassUnit) (u : ClassUnit) → AreConstantsOf us u self.now → result ≡ string_at (program_names us) u.file.pool (slice_get u.file.pool index) }
@@ -92,7 +92,7 @@ impl FileConstants<'_> {
         }
     }
 
-    /// Puts the words that a static field begins with behind others.
+    /// Appends the words that a static field begins with to others.
     pub fn put_words(&self, words: &mut Vec<u32>, field: &Member) -> Result<(), AllocError>
         requires { (us : List ClassUnit) × (u : ClassUnit) × AreConstantsOf us u self.now }
         ensures { OnOk result ((us : List ClassUnit) (u : ClassUnit) → AreConstantsOf us u self.now →

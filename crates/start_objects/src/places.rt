@@ -2,7 +2,7 @@
 
 ghost use Rattle.std.specs.Prelude.{◌<◌, ◌^◌};
 
-/// The first place behind the class objects, and the first one behind all objects at the start.
+/// The first place after the class objects, and the first one after all objects at the start.
 #[derive(Clone, Copy)]
 pub struct StartPlaces {
     pub system_out: u32,

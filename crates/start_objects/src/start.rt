@@ -39,8 +39,8 @@ fn word_in(files: &[Rows<u32>], class: u32, place: u32) -> u32
 }
 
 impl StartObjects {
-    /// The objects at the start of a program with so many class numbers, those of array classes among them. It fails
-    /// for want of memory alone.
+    /// The objects at the start of a program with `classes` class numbers, those of array classes among them. It fails
+    /// only when memory runs out.
     pub fn new(
         alloc: Global,
         units: &[ClassUnit],
@@ -86,7 +86,8 @@ impl StartObjects {
         self.places.system_out + 7
     }
 
-    /// The reference of the string of a literal, by its number from 0. One behind the last has the first free place.
+    /// The reference of the string of a literal, by its number from 0. The number after the last has the first free
+    /// place.
     pub fn string(&self, number: u32) -> u32
         requires { number < 2 ^ 30 }
         ensures { (us : List ClassUnit) → AreStartObjectsOf us self.now → result ≡ string_object (program_names us) number }
@@ -94,7 +95,7 @@ impl StartObjects {
         self.places.system_out + 9 + 3 * number
     }
 
-    /// The first place behind the objects at the start, less than 2^30.
+    /// The first place after the objects at the start, less than 2^30.
     pub fn first_free(&self) -> u32
         ensures value { (us : List ClassUnit) → AreStartObjectsOf us self.now → result ≡ first_free (program_names us) }
         ensures small { result < 2 ^ 30 }

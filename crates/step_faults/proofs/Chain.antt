@@ -33,7 +33,7 @@ not_first : (a b : Bool) → (not a && b) ≡ true → a ≡ false
 not_first false b e = refl
 not_first true b e = absurd (true≢false (sym e))
 
--- an instruction takes words whose worst verdict is this, and leaves so many
+-- an instruction takes words whose worst verdict is v, and leaves `left` words
 module _ (env : Environment) (i : Instr Target) (f : TypeFrame) (v : Verdict) (left : ℕ)
     (fits : left + words_wanted (wants env i.what) ≡ length f.stack)
     (is_worst : v ≡ worst (verdicts env (wants env i.what) f.stack)) where

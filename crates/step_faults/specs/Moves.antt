@@ -1,4 +1,4 @@
--- How many words stand behind an instruction.
+-- How many words are on the stack after an instruction.
 use Rattle.std.specs.Prelude.{◌≡◌, ℕ, ◌+◌, Option, None, Some, length}
 use Rattle.instructions.specs.declared.operation.Plain.TheVariants.{Stack}
 use Rattle.instructions.specs.declared.operation.StackOperation.{StackOperation}
@@ -14,7 +14,7 @@ abbrev pub stack_operation_of : What Target → Option StackOperation
 stack_operation_of (Plain (Stack operation)) = Some operation
 stack_operation_of _ = None
 
--- an instruction puts so many words on those that it leaves
+-- an instruction puts `count` words on those that it leaves
 abbrev pub IsPut : Environment → What Target → ℕ → Type 0
 IsPut env what count =
     (at : ℕ) (f : TypeFrame) (left : ℕ) → left + words_wanted (wants env what) ≡ length f.stack

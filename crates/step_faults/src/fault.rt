@@ -50,7 +50,7 @@ fn is_initialized<F: FrameWords>(frame: &F, instruction: &Instr<Target>, verdict
     !is_uninitialized(verdict) && is_initialization_right(frame, instruction)
 }
 
-// Tests whether the method has the locals and the stack that an instruction needs, where so many words stay under
+// Tests whether the method has the locals and the stack that an instruction needs, where `left` words stay under
 // those that it takes.
 fn is_within_limits<W: MethodWorld>(world: &W, what: &What<Target>, left: u32) -> bool
     ensures { (at : ℕ) (f : TypeFrame)

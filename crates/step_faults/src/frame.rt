@@ -18,7 +18,7 @@ pub trait FrameWords {
     fn height(&self) -> u32
         ensures { length (frame self.now).stack ≡ result };
 
-    /// The word of the stack under so many others; Top under the lowest one.
+    /// The word of the stack under `under` others; Top under the lowest one.
     fn stack_word(&self, under: u32) -> VerificationType
         ensures { stack_at (frame self.now) under ≡ result };
 
@@ -26,7 +26,7 @@ pub trait FrameWords {
     fn stack_has_made(&self, offset: u32) -> bool
         ensures { list_any (is_same_type (Uninit offset)) (frame self.now).stack ≡ result };
 
-    /// The word of a local; Top behind the last one.
+    /// The word of a local; Top past the last one.
     fn local(&self, at: u32) -> VerificationType
         ensures { local_at (frame self.now) at ≡ result };
 

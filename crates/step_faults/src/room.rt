@@ -21,7 +21,7 @@ pub fn stack_operation(what: &What<Target>) -> Option<StackOperation>
     }
 }
 
-// How many words stand for those that are moved.
+// How many words replace those that are moved.
 fn words_moved(operation: StackOperation) -> u32
     ensures { (left : ℕ) (stack : List VerificationType)
         → left + wants.words_wanted (wants.stack_wants operation) ≡ length stack
@@ -37,7 +37,7 @@ fn words_moved(operation: StackOperation) -> u32
     }
 }
 
-// How many words stand behind an instruction for those that it takes.
+// How many words an instruction puts in place of those that it takes.
 fn words_put<W: MethodWorld>(world: &W, what: &What<Target>) -> u32
     ensures { IsPut (W.environment world.now) what.now result }
 {
@@ -47,7 +47,7 @@ fn words_put<W: MethodWorld>(world: &W, what: &What<Target>) -> u32
     }
 }
 
-/// Tests whether there is room for the stack behind an instruction, where so many words stay under those that it takes.
+/// Tests whether there is room for the stack after an instruction, where `left` words stay under those that it takes.
 pub(crate) fn has_room<W: MethodWorld>(world: &W, what: &What<Target>, left: u32) -> bool
     ensures { (at : ℕ) (f : TypeFrame)
         → left + wants.words_wanted (wants.wants (W.environment world.now) what.now) ≡ length f.stack

@@ -41,7 +41,7 @@ fn long_verdict<F: FrameWords>(frame: &F, under: u32) -> Verdict
     right_if(is_long(frame.stack_word(under), frame.stack_word(under + 1)))
 }
 
-// What the words under so many others are to a want.
+// What the words under `under` others are to a want.
 fn verdict_under<W: MethodWorld, F: FrameWords>(
     world: &W,
     frame: &F,

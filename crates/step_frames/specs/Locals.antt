@@ -11,7 +11,7 @@ locals_changed Nothing locals = locals
 locals_changed (Word n word) locals = with_local locals n word
 locals_changed (Long n) locals = with_local (with_local locals n words.Long) (n + 1) words.Second
 
--- so many locals have the ones that are changed
+-- `count` locals include those that are changed
 abbrev pub IsWithin : LocalChange → ℕ → Type 0
 IsWithin Nothing count = Unit {0}
 IsWithin (Word n word) count = n < count

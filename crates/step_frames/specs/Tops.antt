@@ -1,4 +1,4 @@
--- The words that stand on top of a stack behind an instruction.
+-- The words on top of a stack after an instruction.
 use Rattle.std.specs.Prelude.{List, [], ◌∷◌, take}
 use Rattle.instructions.specs.declared.operation.StackOperation.{StackOperation}
 use Rattle.instructions.specs.declared.operation.StackOperation.TheVariants.{Pop, Pop2, Dup, DupX1, DupX2, Dup2, Dup2X1, Dup2X2, Swap}

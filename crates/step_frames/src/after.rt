@@ -1,4 +1,4 @@
-//! The frame behind an instruction.
+//! The frame after an instruction.
 
 ghost use Rattle.std.specs.Prelude.{◌≡◌, ◌≤◌, ◌++◌, true, IfOk, length, drop};
 ghost use Rattle.type_rules.specs.Assignable.{Hierarchy};

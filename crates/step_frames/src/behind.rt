@@ -1,4 +1,4 @@
-//! The words that stand on top of the stack behind an instruction.
+//! The words on top of the stack after an instruction.
 
 ghost use Rattle.std.specs.Prelude.{◌≡◌, ◌≤◌, ◌<◌, [], ◌∷◌, ◌++◌, drop, length};
 ghost use Rattle.type_rules.specs.FrameAfter as after;
@@ -282,7 +282,7 @@ fn pushed<W: MethodWorld, F: FrameWords>(
     }
 }
 
-/// The words that stand, behind an instruction at an offset, on those that it doesn't take. Takes no memory.
+/// The words that an instruction at an offset leaves on top of those that it doesn't take. Takes no memory.
 pub(crate) fn top_behind<W: MethodWorld, F: FrameWords>(
     world: &W,
     frame: &F,

@@ -8,6 +8,6 @@ pub enum LocalChange {
     Nothing,
     /// A word is put into a local.
     Word(u16, VerificationType),
-    /// A long is put into a local and the one behind it.
+    /// A long is put into a local and the next one.
     Long(u16),
 }

@@ -6,7 +6,7 @@ ghost use Rattle.step_wants.specs.Wanted.{words_listed};
 
 use step_wants::WantedWords;
 
-/// How many words are wanted, where a stack of so many has them.
+/// How many words are wanted, where a stack of `height` words has them.
 pub(crate) fn words_taken(wanted: WantedWords<'_>, height: u32) -> u32
     requires { words_wanted (words_listed wanted) ≤ height }
     ensures { result ≡ words_wanted (words_listed wanted.entry) }

@@ -1,5 +1,5 @@
-//! What one instruction does with the frame of a walk over a method (JVMS SE 8, 4.10.1.9): [`check_instruction`] tells
-//! the rule that it breaks by itself, and [`after_instruction`] makes the frame behind it.
+//! What one instruction does with the frame of a walk over a method (JVMS SE 8, 4.10.1.9): [`check_instruction`]
+//! returns the rule that it breaks by itself, and [`after_instruction`] makes the frame after it.
 #![tactic(auto)]
 
 mod after;

@@ -1,4 +1,4 @@
-//! The locals behind an instruction.
+//! The locals after an instruction.
 
 ghost use Rattle.std.specs.Prelude.{◌≡◌, true, IfOk};
 ghost use Rattle.type_rules.specs.Assignable.{Hierarchy};

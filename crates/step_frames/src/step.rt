@@ -1,4 +1,4 @@
-//! The frame behind any instruction.
+//! The frame after any instruction.
 
 ghost use Rattle.std.specs.Prelude.{◌≡◌, ◌≤◌, true, None, IfOk, length};
 ghost use Rattle.type_rules.specs.Assignable.{Hierarchy};
@@ -17,7 +17,7 @@ use step_wants::{MethodWorld, wants_of};
 use type_rules::VerificationType;
 use typing_frames::{CurrentFrame, FrameStores};
 
-// The frame behind an instruction, where the stack has what it wants and there is room.
+// The frame after an instruction, where the stack has what it wants and there is room.
 fn frame_behind<W: MethodWorld>(
     world: &W,
     stores: &mut FrameStores,
@@ -51,8 +51,8 @@ fn frame_behind<W: MethodWorld>(
     Ok(made)
 }
 
-/// The frame behind an instruction that breaks no rule by itself (JVMS 4.10.1.9), in place of the frame. Each kept
-/// frame stays as it was, also after an error.
+/// The frame after an instruction that breaks no rule by itself (JVMS 4.10.1.9), in place of the given frame. Each
+/// kept frame stays as it was, also after an error.
 pub fn after_instruction<W: MethodWorld>(
     world: &W,
     stores: &mut FrameStores,

@@ -31,8 +31,8 @@ fn push_words(
     Ok(made)
 }
 
-/// A frame with words on its stack, the top one first, in place of so many that were on top, and in place of the frame.
-/// Each kept frame stays as it was, also after an error.
+/// A frame with `words` on its stack, the top one first, in place of the `count` words that were on top, and in place
+/// of the given frame. Each kept frame stays as it was, also after an error.
 pub(crate) fn replace_top(
     stores: &mut FrameStores,
     frame: CurrentFrame,

@@ -95,8 +95,8 @@ pub trait StepPort: Sized {
         requires { allows self.old (Step.Release object) }
         ensures { stepped self.old (Step.Release object) StepAnswer.Done self.new };
 
-    /// Takes words for a new object, and answers how many were taken before: the object's reference is so far behind
-    /// the first place of the heap.
+    /// Takes words for a new object, and answers how many were taken before: the object's reference is that many places
+    /// after the first place of the heap.
     fn take_words(&mut self, count: u64) -> u64
         requires { allows self.old (Step.TakeWords count) }
         ensures { stepped self.old (Step.TakeWords count) (StepAnswer.Found result) self.new };
@@ -121,7 +121,7 @@ pub trait StepPort: Sized {
         requires { allows self.old (Step.StartThread object thread) }
         ensures { stepped self.old (Step.StartThread object thread) (exchanged result) self.new };
 
-    /// Notes that a thread has ended.
+    /// Records that a thread has ended.
     fn end_thread(&mut self, thread: u8)
         requires { allows self.old (Step.EndThread thread) }
         ensures { stepped self.old (Step.EndThread thread) StepAnswer.Done self.new };

@@ -53,7 +53,7 @@ pub enum Step {
     Revoke(u32, u64, u8),
     /// Commits a section that has this word.
     Commit(u32, u64),
-    /// Notes by this word that a section is undone to the level to which it was revoked.
+    /// Records by this word that a section is undone to the level to which it was revoked.
     MarkUndone(u32, u64),
     /// Reads the monitor of an object.
     LoadMonitor(u32),
@@ -71,9 +71,9 @@ pub enum Step {
     Ticket,
     /// Draws the number of a thread.
     DrawThread,
-    /// Notes in the start word of a thread object the number of the thread that it starts, where it has started none.
+    /// Records in the start word of a thread object the number of the thread that it starts, where it has started none.
     StartThread(u32, u8),
-    /// Notes that the thread of this number has ended.
+    /// Records that the thread of this number has ended.
     EndThread(u8),
     /// Asks whether a thread was started, or has ended.
     LoadThread(ThreadWord),
@@ -151,7 +151,7 @@ impl Step {
         }
     }
 
-    /// The word on which the step is made: `None` exactly where its place among the objects is 2^32 or more, as behind
+    /// The word on which the step is made: `None` exactly where its place among the objects is 2^32 or more, as after
     /// the highest references.
     pub fn area(self) -> Option<Area>
         ensures { MatchOption result (IsTooFar self) (λ area. area ≡ place_of self) }

@@ -1,7 +1,7 @@
 //! What an instruction wants of the words on top of the stack (JVMS SE 8, 4.10.1.9), as values that take no memory.
 //!
-//! [`wants_of`] tells what an instruction wants, and a [`WantedWords`] gives it want by want. What a [`Want`] says of a
-//! word is [`want_verdict`]. What the rules see of a method is asked through [`MethodWorld`].
+//! [`wants_of`] returns what an instruction wants, and a [`WantedWords`] gives it want by want. What a [`Want`] says of
+//! a word is [`want_verdict`]. What the rules see of a method is asked through [`MethodWorld`].
 #![tactic(auto)]
 
 mod listed;

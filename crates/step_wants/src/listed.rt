@@ -17,17 +17,17 @@ pub enum FewWants {
 }
 
 /// The wants of an instruction, from the top of the stack on: the arguments of a call, the last one first, and what
-/// stands under them.
+/// is under them.
 #[derive(Clone, Copy)]
 pub struct WantedWords<'a> {
     /// The types of the arguments, the first one first.
     pub arguments: &'a [ValueType],
-    /// What stands under the arguments.
+    /// What is under the arguments.
     pub others: FewWants,
 }
 
 impl FewWants {
-    // The first of these wants, and the others behind it.
+    // The first of these wants, and the others after it.
     fn split_first(self) -> Option<(Want, FewWants)>
         ensures { MatchOption result (few_wanted self ≡ [])
             (λ p. few_wanted self ≡ want_meant p.0 ∷ few_wanted p.1) }
@@ -43,7 +43,7 @@ impl FewWants {
 }
 
 impl<'a> WantedWords<'a> {
-    /// The first want, and the others behind it; `None` where nothing is wanted.
+    /// The first want, and the others after it; `None` where nothing is wanted.
     pub fn split_first(self) -> Option<(Want, WantedWords<'a>)>
         ensures { MatchOption result (words_listed self.entry ≡ [])
             (λ p. words_listed self.entry ≡ want_meant p.0 ∷ words_listed p.1) }

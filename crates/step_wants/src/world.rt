@@ -3,7 +3,7 @@
 use link_types::{MethodId, ObjectType, Operand, ValueType};
 use word_types::ClassHierarchy;
 
-/// Tells what the rules see of a method with code (JVMS 4.10.1.1), all by numbers. No call takes memory.
+/// Says what the rules see of a method with code (JVMS 4.10.1.1), all by numbers. No call takes memory.
 pub trait MethodWorld {
     ghost use Rattle.std.specs.Prelude.{◌≡◌};
     ghost use Rattle.type_rules.specs.Environment.{Environment};
@@ -11,7 +11,7 @@ pub trait MethodWorld {
     /// What the rules see.
     ghost environment: { Self → Environment };
 
-    /// What tells the classes of the program.
+    /// What says how the classes of the program are related.
     type Classes: ClassHierarchy;
 
     /// The classes of the program.

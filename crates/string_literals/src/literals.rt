@@ -36,8 +36,8 @@ fn number_in_files(files: &[Rows<Option<u32>>], file: u32, index: u16) -> Option
 }
 
 impl StringLiterals {
-    /// The literals of the files of a program, used or not, in the order of files and indices; literals of one text
-    /// are one. It fails for want of memory alone.
+    /// The literals of the files of a program, used or not, in the order of files and indices; literals with the same
+    /// text are the same. It fails only when memory runs out.
     pub fn new(alloc: Global, units: &[ClassUnit]) -> Result<Self, AllocError>
         requires decoded { AreUnits units.now }
         requires few { length units.now ≤ 1024 }
@@ -74,7 +74,7 @@ impl StringLiterals {
         }
     }
 
-    /// The number of the literal at an index of the pool of the file at a place, where a literal stands there.
+    /// The number of the literal at an index of the pool of the file at a place, where there is a literal.
     pub fn number(&self, file: u32, index: u16) -> Option<u32>
         ensures { (us : List ClassUnit) → IsLiteralsOf us self.now → result ≡ literal_number us file index }
     {

@@ -4,7 +4,7 @@ use Rattle.rules.specs.Rules.{Rules}
 use Rattle.type_rules.specs.declared.refusal.VerifyRefusal.{VerifyRefusal}
 use Rattle.type_rules.specs.declared.refusal.VerifyRefusal.TheVariants.{NoMemory}
 
--- what the rules refuse; want of memory may come anywhere
+-- what the rules refuse; memory may run out anywhere
 abbrev pub Refuses : VerifyRefusal → Rules VerifyRefusal → Type 0
 Refuses e rules = (e ≡ NoMemory) ⊎ rules.Refuse e
 

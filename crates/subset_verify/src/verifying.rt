@@ -68,8 +68,8 @@ fn verify_files(alloc: Global, world: &World) -> Result<(), VerifyRefusal>
     Ok(())
 }
 
-/// Checks whether each method of a linked program is type safe (JVMS 4.10.1): `Ok` exactly where all are, want of memory
-/// aside. All memory is given back.
+/// Checks whether each method of a linked program is type safe (JVMS 4.10.1): `Ok` exactly where all are, unless memory
+/// runs out. All memory is given back.
 ///
 /// # Errors
 /// The first rule that fails, in the order of the files, of the methods of a file and of the instructions of a method.

@@ -43,7 +43,7 @@ stages_stand us me u (extends builder x) (asks_keep r) a b m below = refl
 stages_stand us me u (measures builder) (asks_keep r) a b m below = refl
 stages_stand us me u (tells builder) (asks_keep r) a b m below = refl
 
--- behind a silent step a stage is no end of a frame
+-- after a silent step a stage isn't the end of a frame
 behind : (us : List ClassUnit) (u : Use) (job : TextJob) (st : TextStage) (a b m : List ℕ) → is_end (silently (stage_plan us u job st a b m)) ≡ false
 behind us u job (asks_word p s) a b m = refl
 behind us u job (asks_number p s) a b m = refl

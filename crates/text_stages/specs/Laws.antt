@@ -31,7 +31,7 @@ abbrev pub SilentStepsLead : Type 0
 SilentStepsLead = (us : List ClassUnit) (u : Use) (job : TextJob) (st : TextStage) (a b m : List ℕ)
     → at_silent (stage_plan us u job st a b m) ≡ reached_plan us u job (text_silent us job st a b m)
 
--- a thread that comes to a stage stands there
+-- a thread that comes to a stage stays there
 abbrev pub StagesStand : Type 0
 StagesStand = (us : List ClassUnit) (me : ℕ) (u : Use) (job : TextJob) (st : TextStage) (a b m : List ℕ) (below : List (FrameEnd → Plan))
     → settled us me (stage_plan us u job st a b m) below ≡ at us me (stage_plan us u job st a b m) below

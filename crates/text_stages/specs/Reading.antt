@@ -17,7 +17,7 @@ pub record Memory : Type 0 where
   pub length : ℕ → ℕ
   pub words : ℕ → ℕ → ℕ
 
--- so many units of an array from a place on
+-- n units of an array from a place on
 abbrev pub units_from : Memory → ℕ → ℕ → ℕ → List ℕ
 units_from m array i zero = []
 units_from m array i (suc n) = char_of (m.words array i) ∷ units_from m array (suc i) n

@@ -1,4 +1,4 @@
--- Where a thread stands inside a built-in method that reads or makes texts, as data: numbers, and three lists of units.
+-- Where a thread is inside a built-in method that reads or makes texts, as data: numbers, and three lists of units.
 use Rattle.std.specs.Prelude.{◌≡◌, ℕ, zero, suc, ◌==◌, Option, None, Some, List, [], ◌∷◌, ◌++◌, length, codes, slice_get, bytes_eq, unwrap_or, if◌then◌else◌}
 use Rattle.std.specs.Option.{option_map_or}
 use Rattle.builtin_world.specs.declared.Native.{Native}

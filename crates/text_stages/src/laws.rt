@@ -24,7 +24,7 @@ pub fn texts_are_read()
     ensures { TextsAreRead }
 {}
 
-/// A thread that comes to a stage of a text stands there.
+/// A thread that comes to a stage of a text stays there.
 pub fn stages_stand()
     ensures { StagesStand }
 {}

@@ -24,7 +24,7 @@ pub fn units_of_text(alloc: Global, text: &str) -> Result<Vec<u16>, AllocError>
     Ok(units)
 }
 
-/// Puts the UTF-16 code units of a text behind other units. Without memory they stay as they are.
+/// Appends the UTF-16 code units of a text to other units. When memory runs out they stay as they are.
 pub fn push_units(alloc: Global, units: &mut Vec<u16>, text: &str) -> Result<(), AllocError>
     ensures ok { OnOk result (units.new.items ≡ units.old.items ++ units_of_text text.now) }
     ensures err { OnErr result (units.new.items ≡ units.old.items) }

@@ -27,7 +27,7 @@ fn alone(unit: u16) -> char
     char::from_u32(u32::from(unit)).unwrap_or('?')
 }
 
-/// The character at the front, and the units behind it.
+/// The character at the front, and the units after it.
 fn next_character(units: &[u16]) -> Option<(char, &[u16])>
     ensures character { MatchOption result (units.now ≡ []) (λ x. characters units.now ≡ x.0 ∷ characters x.1.now) }
     ensures shorter { MatchOption result (units.now ≡ []) (λ x. length x.1.now < length units.now) }

@@ -41,7 +41,7 @@ pub data Change : Type 0 where
   waits : ℕ → Change
   -- a line was printed, with this ticket
   prints : ℕ → Line → Change
-  -- undoing has put back the word that was noted last
+  -- undoing has put back the word that was logged last
   puts_back : Change
   -- undoing has given a monitor its depth of before
   sets_back : ℕ → ℕ → Change
@@ -56,7 +56,7 @@ pub data Change : Type 0 where
 abbrev pub answered : {S : Type 0} → Code S → ThreadState S → Reply → ThreadState S
 answered code th reply = record th { local = code.reply th.local reply; attempt = Begin }
 
--- where no level is open that it hasn't seen pinned, nothing that was noted or saved is needed any more
+-- where no level is open that the thread hasn't seen pinned, nothing that was logged or saved is needed any more
 abbrev pub forgotten : {S : Type 0} → ThreadState S → ThreadState S
 forgotten th = if is_open th then th else record th { log = []; saved = []; marks = [] }
 

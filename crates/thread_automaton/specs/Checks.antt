@@ -61,7 +61,7 @@ word_loaded th (Want (ClassOf r)) at w = replies (Class (header_class w) (header
 word_loaded th (Want (Write r i v)) at w = if_safe th w (goes (Fixed (SwapWord at w (written_word th v))))
 word_loaded th next at w = if_safe th w (replies (Value (value_of w)))
 
--- the log once a word was overwritten: it is noted where the innermost level can still be undone
+-- the log once a word was overwritten: the word is logged where the innermost level can still be undone
 abbrev pub noted : {S : Type 0} → ThreadState S → ℕ → ℕ → List Noted
 noted th at old = if is_open th then record { at = at; old = old } ∷ th.log else th.log
 

@@ -65,8 +65,9 @@ held_word s h = monitor_word s h.depth h.level
 abbrev pub deepened_since : Mark → List Held → List Held
 deepened_since mark held = filter (λ h. not (nat_eq (held_as h.object held).depth h.depth)) (reverse mark.held)
 
--- Undoing to level n, once each word that was noted since is put back and each monitor has its depth of then: each monitor
--- that was taken since is released, the last one first, and then the section, whose word was w, is noted to be undone so far.
+-- Undoing to level n, once each word that was logged since is put back and each monitor has its depth of then: each
+-- monitor that was taken since is released, the last one first, and then the section, whose word was w, is marked as
+-- undone so far.
 abbrev pub release_step : ℕ → ℕ → List Held → Step
 release_step s w (h ∷ held) = Release h.object
 release_step s w [] = MarkUndone s (undone_of w)
@@ -76,7 +77,7 @@ abbrev pub depth_step : ℕ → ℕ → List Held → List Held → Step
 depth_step s w (h ∷ rest) taken = SetDepth h.object (held_word s h)
 depth_step s w [] taken = release_step s w taken
 
--- and before that each word that was noted since is put back, the last one first
+-- and before that each word that was logged since is put back, the last one first
 abbrev pub undo_step : ℕ → ℕ → List Noted → List Held → List Held → Step
 undo_step s w (x ∷ log) deepened taken = RestoreWord x.at x.old
 undo_step s w [] deepened taken = depth_step s w deepened taken

@@ -17,7 +17,7 @@ pub record Printed : Type 0 where
 pub record Mark : Type 0 where
   -- the silent moves since the last event that others can see
   pub silents : ℕ
-  -- how many words were noted
+  -- how many words were logged
   pub noted : ℕ
   -- the monitors that were held
   pub held : List Held
@@ -120,7 +120,7 @@ no_mark = record { silents = 0; noted = 0; held = [] }
 abbrev pub mark_of : {S : Type 0} → ThreadState S → ℕ → Mark
 mark_of th n = nth_or no_mark (inside th n) th.marks
 
--- what was noted since n words were
+-- the words that were logged after the first n
 abbrev pub noted_since : ℕ → List Noted → List Noted
 noted_since n log = take (length log - n) log
 

@@ -1,4 +1,4 @@
--- What a turn tells of the step that it made, and what is then counted.
+-- What a turn reports of the step that it made, and what is then counted.
 use Rattle.std.specs.Prelude.{ℕ, suc, Option, None, Some}
 use Rattle.op_core.specs.declared.Op.{Op}
 use Rattle.op_core.specs.declared.Reply.{Reply}
@@ -62,7 +62,7 @@ told_of next (Split n r p) answer change reply = born
 told_of next step answer change (Some reply) = advanced (Some reply)
 told_of next step answer change None = told_unseen next step change
 
--- what a turn tells in which the thread made the step, and this was answered
+-- what a turn reports in which the thread made the step and got this answer
 abbrev pub told : {S : Type 0} → Code S → Bounds → ThreadState S → Step → StepAnswer → Told
 told code b th step answer =
     let change = change_of code b th (code.next th.local) step answer in

@@ -167,7 +167,8 @@ pub record Walks : Type 0 where
   -- words are put back before monitors are released, and then the thread wants its Enter again
   pub undoes : steps_alone script_code small 5 revoked_thread revoked_words
       ≡ LoadSection 1 ∷ RestoreWord 5 9 ∷ Release 1 ∷ MarkUndone 1 (section_word (number_of Undone) 1 5 0 1 0) ∷ LoadMonitor 1 ∷ []
-  -- Undone to an inner level, the words noted since are put back, then the monitor that was held already gets its depth
-  -- of then, and the one taken since is released. The thread wants that level's Enter again, and its section goes on.
+  -- When undone to an inner level, the words logged since are put back, then the monitor that was held already gets
+  -- its depth of then, and the one taken since is released. The thread wants that level's Enter again, and its section
+  -- goes on.
   pub undoes_level : steps_alone script_code small 7 nested_thread nested_words
       ≡ LoadSection 1 ∷ RestoreWord 8 4 ∷ SetDepth 1 (monitor_word 1 1 1) ∷ Release 3 ∷ MarkUndone 1 (own 0 1) ∷ LoadSection 1 ∷ LoadMonitor 3 ∷ []

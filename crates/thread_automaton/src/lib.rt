@@ -2,7 +2,7 @@
 //!
 //! A thread makes each operation of its code out of steps on shared words ([`Step`]). This crate has the definitions
 //! by which it goes: from the state of a thread (`specs/ThreadState.antt`) its next move (`specs/NextMove.antt`), and
-//! from a step and its answer the state after it (`specs/Answers.antt`) and what others are told of it
+//! from a step and its answer the state after it (`specs/Answers.antt`) and what is reported to others
 //! (`specs/Told.antt`). A section opens as a thread that has none open enters a monitor, and its next level opens with
 //! each further monitor. Its levels are pinned before anything is done in them that can't be taken back, and those that
 //! another thread has revoked are undone.

@@ -103,7 +103,7 @@ rewake_at None p other awake rewakes = rewakes
 rewake_at (Some (Do op)) p other awake rewakes = rewakes
 rewake_at (Some step) p other awake rewakes = rewakes
 
--- behind the first half that was done it does
+-- after the first half of a wait was done, it does
 second_half : (steps : List ToyStep) (p : ToyPlace) (r : ℕ) → slice_get steps p.step ≡ Some (WaitOn r) → p.waits ≡ false
     → next_at (slice_get steps (place_after (slice_get steps p.step) Done p).step) (place_after (slice_get steps p.step) Done p) ≡ Want (Rewake r)
 second_half steps p r at awake =
@@ -150,7 +150,7 @@ module _ (scripts : List ToyScript) (classes first : ℕ) (orderly : EachDone (I
       wanted_of scripts (Bounds classes) (λ r i does is. bounds_of classes does (orderly r i does is)) (λ r i q is. (tt, tt)) (λ line. tt) tt
       l op (executes l can) wanted
 
-  -- the second half of a wait is wanted behind the first half alone
+  -- the second half of a wait is wanted only after the first half
   rewake_behind : (l : ToyState) (op : Op) (reply : Reply) → Executes scripts l → toy_code.next l ≡ Want op → Executes scripts (toy_code.reply l reply) → IsRewake (toy_code.next (toy_code.reply l reply)) → IsWait op × (reply ≡ Done)
   rewake_behind l op reply own wanted later rewakes =
       let at : Option ToyStep = slice_get l.steps l.place.step in

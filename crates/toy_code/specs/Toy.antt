@@ -14,7 +14,7 @@ use Rattle.toy_code.specs.declared.script.ToyStep.TheVariants.{Pass, Call, Retur
 use Rattle.toy_code.specs.declared.script.ToyScript.{ToyScript}
 use Rattle.toy_code.specs.declared.script.ToyPlace.{ToyPlace}
 
--- where a thread stands: the scripts of all threads, its own steps, and the place in them
+-- where a thread is: the scripts of all threads, its own steps, and the place in them
 pub record ToyState : Type 0 where
   pub scripts : List ToyScript
   pub steps : List ToyStep
@@ -40,7 +40,7 @@ abbrev pub half_of_wait : ℕ → Bool → Op
 half_of_wait r false = Wait r
 half_of_wait r true = Rewake r
 
--- what comes next at a step, or behind the last one
+-- what comes next at a step, or after the last one
 abbrev pub next_at : Option ToyStep → ToyPlace → Next
 next_at None p = Want (End None)
 next_at (Some Pass) p = Silent
@@ -73,7 +73,7 @@ abbrev pub answered : Reply → ToyPlace → ToyPlace
 answered (Value v) p = place_behind p p.frames v
 answered _ p = place_behind p p.frames p.value
 
--- the place after the reply to what is wanted at a step, or behind the last one
+-- the place after the reply to what is wanted at a step, or after the last one
 abbrev pub place_after : Option ToyStep → Reply → ToyPlace → ToyPlace
 place_after None reply p = p
 place_after (Some (WaitOn r)) Done p = waited p.waits p

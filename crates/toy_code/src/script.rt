@@ -1,4 +1,4 @@
-//! Toy scripts: their steps, and where a thread stands in one.
+//! Toy scripts: their steps, and where a thread is in one.
 
 use op_core::Op;
 
@@ -12,7 +12,7 @@ pub enum ToyStep {
     /// A silent step that ends the top frame.
     Return,
     /// Wants this operation. Whatever the reply is, the next step follows. For a wait there is
-    /// [`ToyStep::WaitOn`], and a thread ends behind its last step.
+    /// [`ToyStep::WaitOn`], and a thread ends after its last step.
     Do(Op),
     /// Prints the word that was read last, 0 before the first, as a Java int.
     Show,
@@ -30,7 +30,7 @@ pub struct ToyScript<'a> {
     pub steps: &'a [ToyStep],
 }
 
-/// Where a thread stands in its script.
+/// Where a thread is in its script.
 #[derive(Clone, Copy)]
 pub struct ToyPlace {
     /// The number of the step that comes next, from 0.

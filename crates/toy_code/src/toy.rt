@@ -15,7 +15,7 @@ pub struct Toy<'a> {
     pub scripts: &'a [ToyScript<'a>],
     /// The thread's own steps.
     pub steps: &'a [ToyStep],
-    /// Where it stands.
+    /// Where it is.
     pub place: ToyPlace,
     /// Where it stood at the saves that are kept.
     pub saves: ToySaves,
@@ -97,7 +97,7 @@ fn place_behind(place: ToyPlace, frames: u32, value: u32) -> ToyPlace
     }
 }
 
-// Where a thread stands after the reply to one half of a wait.
+// Where a thread is after the reply to one half of a wait.
 fn waited(place: ToyPlace) -> ToyPlace
     requires { place.step + 1 < 2 ^ 64 }
     ensures { result ≡ waited place.waits place }
@@ -113,7 +113,7 @@ fn waited(place: ToyPlace) -> ToyPlace
     }
 }
 
-// Where it stands after the reply to another operation.
+// Where it is after the reply to another operation.
 fn answered(reply: Reply, place: ToyPlace) -> ToyPlace
     requires { place.step + 1 < 2 ^ 64 }
     ensures { result ≡ answered reply place }
@@ -124,7 +124,7 @@ fn answered(reply: Reply, place: ToyPlace) -> ToyPlace
     }
 }
 
-// Where it stands after the reply to what it wanted at a step.
+// Where it is after the reply to what it wanted at a step.
 fn place_after(step: ToyStep, reply: Reply, place: ToyPlace) -> ToyPlace
     requires { place.step + 1 < 2 ^ 64 }
     ensures { result ≡ place_after (Some step) reply place }

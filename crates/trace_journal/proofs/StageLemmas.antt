@@ -130,11 +130,11 @@ ends_is events word (Some number) t = elim (cases_Bool (bytes_eq word (codes "en
   | inr other ↦ absurd (let no : false ≡ true = ap (λ b. cond b (is_number events (u32_of number)) false) (sym other) ∙ t in cc)
 ]
 
--- a line that is told to be the last is it
+-- a line that is found to be the last is the last
 ends : (events : ℕ) (line : List ℕ) → ends_at events (cut line) ≡ true → line ≡ end_line events
 ends events line t = sym (uncut_cut line) ∙ ends_is events (cut line).word (cut line).rest t
 
--- .. and the last one is told to be it
+-- .. and the last one is found to be the last
 ended : (events : ℕ) → events < 2 ^ 32 → ends_at events (cut (end_line events)) ≡ true
 ended events h = ap (is_number events) (number_of 4294967295 events (omega arith) (omega (arith, h))) ∙ eq-eqb events events refl
 

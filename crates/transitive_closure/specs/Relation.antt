@@ -33,7 +33,7 @@ pub record IsStrictOrder (rows : List (List Bool)) : Type 0 where
   pub apart : (a : ℕ) → relates rows a a ≡ false
   pub through : (a b c : ℕ) → Relates rows a b → Relates rows b c → Relates rows a c
 
--- the numbers from a first one on, each behind those of them that it is related to
+-- the numbers from a first one on, each after those of them that it is related to
 pub record PutsRelatedFirst (rows : List (List Bool)) (first : ℕ) (order : List ℕ) : Type 0 where
   pub count : length order ≡ length rows - first
   pub whole : (a : ℕ) → first ≤ a → a < length rows → (i : ℕ) × (slice_get order i ≡ Some a)

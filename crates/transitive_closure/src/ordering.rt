@@ -54,7 +54,7 @@ fn numbers(alloc: Global, ranks: &[Rank]) -> Result<Vec<u32>, AllocError>
     Ok(numbers)
 }
 
-/// The numbers from `first` on, each behind those of them that it is related to.
+/// The numbers from `first` on, each after those of them that it is related to.
 pub fn order(alloc: Global, rows: &[Row], first: u32) -> Result<Vec<u32>, AllocError>
     requires table { IsTable rows.now }
     requires strict { IsStrictOrder rows.now }

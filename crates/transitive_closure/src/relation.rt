@@ -76,7 +76,7 @@ impl Relation {
         Ok(Relation { rows })
     }
 
-    /// The numbers from `first` on, each behind those of them that it is related to.
+    /// The numbers from `first` on, each after those of them that it is related to.
     pub fn order(&self, alloc: Global, first: u32) -> Result<Vec<u32>, AllocError>
         requires { IsStrictOrder self.now }
         ensures { IfOk result (λ order. PutsRelatedFirst self.now first order.items) }

@@ -20,7 +20,7 @@ impl Model for Row {
 }
 
 impl Row {
-    /// A row of so many numbers, none of them marked.
+    /// A row of `size` numbers, none of them marked.
     pub fn new(alloc: Global, size: usize) -> Result<Self, AllocError>
         ensures { IfOk result (λ row. row ≡ replicate size false) }
     {

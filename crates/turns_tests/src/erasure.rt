@@ -164,7 +164,7 @@ fn machine<'a>(
     scripts: &'a [ToyScript<'a>],
 ) -> Result<Ordinary<Toy<'a>>, Fail> {
     if !opening.lies_below_first() {
-        return Err(Fail::from("new objects lie behind the fixed ones"));
+        return Err(Fail::from("new objects lie after the fixed ones"));
     }
     match Ordinary::start(alloc, opening, Toy::new(alloc, scripts, 0)) {
         Ok(machine) => Ok(machine),

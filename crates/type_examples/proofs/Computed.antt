@@ -10,7 +10,7 @@ use Rattle.type_rules.specs.TypeFaults.{fault_at}
 use Rattle.type_rules.specs.TypeSafe.{IsTypedAt, IsTypeSafe}
 use Rattle.type_examples.specs.TinyMethods.{IsRefusedAs, choice, choice_frames, covers_uninitialized, falls_off, has_no_room, leads_to_another_frame, leads_to_no_frame, loads_wrongly, pops_nothing, returns_nothing, returns_uninitialized}
 
--- each of the instructions that stand from a number on
+-- each of the instructions from a number on
 abbrev pub EachTyped : Environment → (ℕ → TypeFrame) → ℕ → List (Instr Target) → Type 0
 EachTyped env frames n [] = Unit {0}
 EachTyped env frames n (i ∷ others) = IsTypedAt env frames n i × EachTyped env frames (suc n) others

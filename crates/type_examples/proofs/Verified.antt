@@ -40,7 +40,7 @@ constructor_verified =
 safe_rules : (file method : ℕ) (o : Option Environment) (env : Environment) → o ≡ Some env → IsTypeSafe env → (method_type_rules file method o).Hold
 safe_rules file method o env e safe = subst (λ (x : Option Environment). (method_type_rules file method x).Hold) (sym e) safe
 
--- ---- the rules of items one behind the other
+-- ---- the rules of items one after another
 
 two_hold : {E X : Type 0} (rules : ℕ → X → Rules E) (x z : X) → (rules 0 x).Hold → (rules 1 z).Hold → (each rules (x ∷ z ∷ [])).Hold
 two_hold {X = X} rules x z first second zero y e = subst (λ (w : X). (rules 0 w).Hold) (same_Some x y e) first

@@ -116,7 +116,7 @@ leads_to_no_frame = static_method [] None (goto 1 ∷ whats.Plain (plain.Return 
 abbrev pub leads_to_another_frame : Environment
 leads_to_another_frame = with_map 1 (plain_frame [] (words.Int ∷ [])) leads_to_no_frame
 
--- nothing stands behind `nop`
+-- nothing comes after `nop`
 abbrev pub falls_off : Environment
 falls_off = static_method [] None (whats.Plain plain.Nop ∷ [])
 
@@ -187,7 +187,7 @@ stores_under_handler =
     (with_handler (record { first = 0; end = 1; entry = 1; caught = throwable_type })
     (static_method (words.Object (Class 3) ∷ []) None (whats.Local (Store values.Int) 0 ∷ whats.Plain (plain.Return None) ∷ [])))
 
--- what is behind an instruction of the constructor, where its object isn't initialized and local 0 has it
+-- the frame after an instruction of the constructor, where its object isn't initialized and local 0 has it
 abbrev pub behind : What Target → List VerificationType → TypeFrame
 behind what stack =
     frame_after working (at_zero what) (with_flag (words.UninitThis ∷ []) stack)

@@ -97,7 +97,7 @@ frame_in constructs k =
 abbrev pub frame_at : ℕ → Option TypeFrame
 frame_at k = frame_in true k
 
--- a `new` of class 30 behind a `nop`
+-- a `new` of class 30 after a `nop`
 abbrev pub makes : List (Instr Target)
 makes = steps_from 0 (whats.Plain plain.Nop ∷ whats.Class uses.New 6 ∷ [])
 

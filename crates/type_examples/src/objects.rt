@@ -17,8 +17,8 @@ ghost use Rattle.type_rules.specs.Environment.{TypeFrame};
 ghost use Rattle.type_examples.specs.TinyMethods.{behind, fault_of, plain_frame, with_flag};
 
 /// The object of a constructor is initialized by its class or the superclass, and what `new` made by its own class
-/// alone; what is initialized isn't initialized again. Behind it each copy is initialized. `new` finds nothing on the
-/// stack that it made before, and makes locals Top that have it.
+/// alone; what is initialized isn't initialized again. After the initialization each copy is initialized. `new` finds
+/// nothing on the stack that it made before, and makes locals Top that have it.
 pub fn constructors_initialize_once()
     ensures this { fault_of (whats.Call Special 3) (UninitThis ∷ []) ≡ None }
     ensures super_class { fault_of (whats.Call Special 4) (UninitThis ∷ []) ≡ None }

@@ -45,8 +45,8 @@ pub fn returns_have_an_order()
     ensures constructor { own_fault returns_uninitialized (at_zero (whats.Plain (plain.Return None))) (entry_frame returns_uninitialized) ≡ Some faults.Uninit }
 {}
 
-/// A map frame that has no room is told before one that doesn't fit, and where it stands: a branch to it finds Top
-/// behind the locals that there are.
+/// A map frame that has no room is reported before one that doesn't fit, and reported where it is: a branch to it finds
+/// Top past the locals that there are.
 pub fn frames_have_an_order()
     ensures limits { frame_fault (with_map 1 (plain_frame [] (Int ∷ Int ∷ Int ∷ [])) falls_off) 1 (Some (plain_frame [] [])) ≡ Some faults.Limits }
     ensures mismatch { frame_fault (with_map 1 (plain_frame [] (Int ∷ [])) falls_off) 1 (Some (plain_frame [] [])) ≡ Some faults.FrameMismatch }
@@ -58,8 +58,8 @@ pub fn frames_have_an_order()
     ensures wider { flow_to falls_off (plain_frame (Int ∷ []) []) (Some (plain_frame (Int ∷ Top ∷ Int ∷ []) [])) ≡ Some faults.FrameMismatch }
 {}
 
-/// At a map frame its types hold, and no more is known of what falls into it. An object that isn't initialized may stand
-/// in a map frame, and Top for anything.
+/// At a map frame its types hold, and no more is known of what falls into it. An object that isn't initialized may be
+/// in a map frame, and everything is assignable to Top.
 pub fn map_frames_hold()
     ensures wider { frame_here falls_off (Some (plain_frame (Object (Class 1) ∷ []) [])) (Some (plain_frame (Object (Class 3) ∷ []) [])) ≡ Some (plain_frame (Object (Class 1) ∷ []) []) }
     ensures padded { frame_here falls_off (Some (plain_frame [] [])) (Some (plain_frame (Int ∷ []) [])) ≡ Some (plain_frame (Top ∷ []) []) }

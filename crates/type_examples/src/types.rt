@@ -8,8 +8,8 @@ ghost use Rattle.type_rules.specs.Assignable.{are_locals_assignable, is_object_a
 ghost use Rattle.type_rules.specs.FrameAfter.{element_of, with_local};
 ghost use Rattle.type_examples.specs.TinyMethods.{tiny_hierarchy};
 
-/// Every class of the program may stand where an interface is wanted; an array and a class that the program hasn't got
-/// may not. An interface may stand for Object alone, and for other interfaces.
+/// Every class of the program is assignable to an interface; an array and a class that the program hasn't got
+/// aren't. An interface is assignable only to Object and to other interfaces.
 pub fn interfaces_take_every_class()
     ensures object { is_object_assignable tiny_hierarchy (Class 1) (Class 6) ≡ true }
     ensures array { is_object_assignable tiny_hierarchy (Array 1 elements.Int) (Class 6) ≡ false }
@@ -18,7 +18,7 @@ pub fn interfaces_take_every_class()
     ensures other { is_object_assignable tiny_hierarchy (Class 6) (Class 30) ≡ false }
 {}
 
-/// An array whose elements are arrays may stand for an array of Object; an array of numbers may not.
+/// An array whose elements are arrays is assignable to an array of Object; an array of numbers isn't.
 pub fn arrays_of_arrays_are_objects()
     ensures numbers { is_object_assignable tiny_hierarchy (Array 1 elements.Int) (Array 1 (elements.Class 1)) ≡ false }
     ensures arrays { is_object_assignable tiny_hierarchy (Array 2 elements.Int) (Array 1 (elements.Class 1)) ≡ true }

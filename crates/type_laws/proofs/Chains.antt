@@ -1,4 +1,4 @@
--- Rules one behind the other.
+-- Rules one after another.
 use Rattle.std.proofs.Common.{◌≡◌, Bool, true, false, Option, None, Some, refl, sym}
 use Rattle.std.proofs.lemmas.Option.{none-some}
 use Rattle.type_rules.specs.declared.refusal.VerifyKind.{VerifyKind}

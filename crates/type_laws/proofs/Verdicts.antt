@@ -45,7 +45,7 @@ decided_method file method (Some env) =
       | inr f ↦ inr (At f.1 file method f.2.at, record { number = f.0; kind = f.1; instruction = f.2; first = f.3; told = refl })
     ]
 
--- ---- of items one behind the other
+-- ---- of items one after another
 
 decided_below : {E X : Type 0} (rules : ℕ → X → Rules E) (xs : List X) → ((i : ℕ) (x : X) → IsDecided (rules i x)) → (n : ℕ) → n ≤ length xs
     → HoldBelow rules xs n ⊎ ((e : E) × (each rules xs).Refuse e)

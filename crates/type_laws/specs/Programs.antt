@@ -49,7 +49,7 @@ type_is_interface h (Class c) = h.is_interface c
 type_is_interface h (Array dimensions x) = element_is_interface h x
 type_is_interface h _ = false
 
--- what may stand where a type is wanted is below it, as instanceof sees it, unless that is an interface
+-- what is assignable to a type is below it, as instanceof sees it, unless that type is an interface
 pub record AssignableMeansBelow (cs : List NamedClass) : Type 0 where
   pub class : (c d : ℕ) → (hierarchy_of cs).is_interface d ≡ false → is_class_assignable (hierarchy_of cs) c d ≡ true → is_class_below cs c d ≡ true
   pub object : (s t : ObjectType) → type_is_interface (hierarchy_of cs) t ≡ false → is_object_assignable (hierarchy_of cs) s t ≡ true

@@ -11,7 +11,7 @@ pub fn what_is_wanted_is_there()
 {}
 
 /// Each instruction reads a local of the type that it wants, names no local past those of the method, and returns what
-/// the method returns; a constructor returns behind the initialization of its object.
+/// the method returns; a constructor returns after the initialization of its object.
 pub fn right_types_are_used()
     ensures { (env : Environment) (frames : ℕ → TypeFrame) → IsAssignment env frames → OfEach env frames (λ k i f. UsesRightTypes env i f) }
 {}

@@ -21,13 +21,13 @@ pub fn methods_stay_inside()
     ensures { (us : List ClassUnit) → MethodsStayInside us }
 {}
 
-/// What may stand where a class or an array is wanted is below it, as instanceof sees it. Of an interface this isn't so:
-/// every class may stand for it.
+/// What is assignable to a class or an array is below it, as instanceof sees it. Of an interface this isn't so:
+/// every class is assignable to it.
 pub fn assignable_types_are_below()
     ensures { (cs : List NamedClass) → AssignableMeansBelow cs }
 {}
 
-/// Each type may stand for itself, where the class that it names is one of the program. The test of sameness tells
+/// Each type is assignable to itself, where the class that it names is one of the program. The test of sameness decides
 /// whether types are the same.
 pub fn types_go_to_themselves()
     ensures assignable { (us : List ClassUnit) (order : List ℕ) → TypesGoToThemselves us order }

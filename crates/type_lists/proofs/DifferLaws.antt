@@ -68,7 +68,7 @@ module _ (parts : List Part) (height before after from digit : ℕ) (tall : heig
     | inr before_it ↦ so_far n past (omega (arith, before_it.1))
   ]
 
-  -- what a node's child is told of, by its number and by where it starts
+  -- what holds of a node's child, given by its number and by where it starts
   told : (below other rest : ℕ) (found : Option ℕ) → below ≡ child_at parts before digit → other ≡ child_at parts after digit → rest ≡ from - start
       → FirstWithin (word_of parts (height - 1) below) (word_of parts (height - 1) other) rest (room (height - 1)) found
       → FirstWithin (word_of parts (height - 1) (child_at parts before digit)) (word_of parts (height - 1) (child_at parts after digit)) (from - start) (room (height - 1)) found

@@ -68,14 +68,14 @@ covers_on : (marks more : List ℕ) (bound mark : ℕ) (x : Part) → ((i : ℕ)
     → Covers marks mark x → Covers more mark x
 covers_on marks more bound mark x same children covers = (covers.0, λ j. subst (HasBits mark) (sym (same (get_or (node_children x) j 0) (children j))) (covers.1 j))
 
--- behind the parts there is nothing
+-- past the parts there is nothing
 no_part : (parts : List Part) (i : ℕ) → length parts < i → part_at parts i ≡ Leaf []
 no_part parts zero past = absurd (omega (arith, past))
 no_part parts (suc i) past = get_or_past parts i (Leaf []) (omega (arith, past))
 
 -- ---- marks of parts, one part more
 
--- marks that are cut to the parts, or go on behind them
+-- marks that are cut to the parts, or go on past them
 marks_cut : (marks : List ℕ) (count i : ℕ) → i ≤ count → mark_at (take count marks) i ≡ mark_at marks i
 marks_cut marks count zero h = refl
 marks_cut marks count (suc i) h = get_or-take count marks i 0 (omega (arith, h))
@@ -153,7 +153,7 @@ module _ (parts : List Part) (marks more : List ℕ) (mark : ℕ) (longer : more
         ];
       }
 
--- a part that is changed in its place, and is covered by the mark that stands there
+-- a part that is changed in its place, and is covered by the mark there
 pub changed_marked : (parts : List Part) (marks : List ℕ) (kept part : ℕ) (x : Part) → kept < part → part ≤ length parts → AreMarked parts marks → Covers marks (mark_at marks part) x
     → AreMarked (slice_set parts (part - 1) x) marks
 changed_marked parts marks kept part x new h marked covers =

@@ -13,7 +13,7 @@ zeros count n = elim (leb_tells count n) [
   | inr inside ↦ get_or-replicate count n 0 0 (omega (arith, inside.1))
 ]
 
--- what a part has is told by the child's number one below
+-- a word of a part is a word of its child one height below
 pub word_step : (parts : List Part) (height part place : ℕ) → height ≢ 0
     → word_of parts (height - 1) (child_at parts part (place / room (height - 1))) (place % room (height - 1)) ≡ word_of parts height part place
 word_step parts zero part place h = absurd (h refl)

@@ -15,7 +15,7 @@ pub on_three : {T E : Type 0} (P Q R S : T → Type 0) (r : Result T E) → ((x 
 on_three P Q R S (Ok x) f p q r = f x p q r
 on_three P Q R S (Err e) f p q r = tt
 
--- a place is told by its digit and by its place in the child
+-- a place is determined by its digit and by its place in the child
 pub same_place : (room n place : ℕ) → n / room ≡ place / room → n % room ≡ place % room → n ≡ place
 same_place room n place high low =
     let product : room * (n / room) ≡ room * (place / room) = ap (λ x. room * x) high in

@@ -127,7 +127,7 @@ pub words_are : (store : WordStore) (words : Words) → word_at store words ≡ 
 unfolding word_at
 words_are store words = refl
 
--- words inside, and behind the end
+-- words inside, and past the end
 pub word_inside : (store : WordStore) (words : Words) (n : ℕ) → n < room store.height → word_at store words n ≡ word_of store.parts.items store.height words.root n
 unfolding word_at
 word_inside store words n low = elim (leb_tells (room store.height) n) [
@@ -249,7 +249,7 @@ follows_on a b c first later = record {
       (two.0, two.1 ∙ one.1);
 }
 
--- .. where fixed parts stay behind a first step
+-- .. where fixed parts stay after a first step
 pub follows_more : (first old new : WordStore) → Follows first old → new.most ≡ old.most → new.height ≡ old.height → new.given_back ≡ old.given_back → old.kept ≤ new.kept → old.fixed ≤ new.fixed
     → AreSame old.parts.items new.parts.items old.fixed → Follows first new
 follows_more first old new before most height given more further same = follows_on first old new before (follows old new most height given more further same)

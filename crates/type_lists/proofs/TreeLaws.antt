@@ -16,7 +16,7 @@ use Rattle.type_lists.proofs.SetLaws.{same_place, with_here, with_other}
 pub same_child : (p q : List Part) (part j : ℕ) → part_at q part ≡ part_at p part → child_at q part j ≡ child_at p part j
 same_child p q part j e = ap (λ x. get_or (node_children x) j 0) e
 
--- ---- what stands in a tree
+-- ---- what is in a tree
 
 pub root_is_new : (parts : List Part) (kept height part q : ℕ) → IsIn parts kept height part q → kept < part
 root_is_new parts kept zero part q is = is.0
@@ -90,7 +90,7 @@ module _ (p0 p1 p2 : List Part) (kept k part place digit rest made node : ℕ) (
     (first : Touches p0 p1 kept k (child_at p0 part digit)) (set : IsSet p0 p1 kept k (child_at p0 part digit) made rest word)
     (children : (j : ℕ) → child_at p2 node j ≡ (if j == digit then made else child_at p1 part j))
     (which : IsPut p1 kept part node) (later : LeavesOthers p1 p2 kept part) (node_is : node ≤ length p2) where
-  -- what stands below the part stands in its tree
+  -- what is below the part is in its tree
   up : (j q : ℕ) → IsIn p0 kept k (child_at p0 part j) q → IsIn p0 kept (suc k) part q
   up j q a = elim (leb_tells part kept) [
     | inl old ↦ absurd (omega (arith, root_is_new p0 kept k (child_at p0 part j) q a, closed_kept part j old.1))
@@ -139,7 +139,7 @@ module _ (p0 p1 p2 : List Part) (kept k part place digit rest made node : ℕ) (
   elsewhere : (j : ℕ) → j ≢ digit → child_at p2 node j ≡ child_at p0 part j
   elsewhere j ne = children j ∙ ap (λ b. cond b made (child_at p1 part j)) (ne_eqb j digit ne) ∙ child1 j
 
-  -- what stands below the node now
+  -- what is below the node now
   from_made : (j q : ℕ) → j ≡ digit → IsIn p2 kept k (child_at p2 node j) q → IsIn p1 kept k made q
   from_made j q e a = frame_in p1 p2 kept same2 closed1_kept k made q made2 (subst (λ c. IsIn p2 kept k c q) (at_digit j e) a)
 

@@ -30,7 +30,7 @@ abbrev pub room : ℕ → ℕ
 room zero = 8
 room (suc height) = 32 * room height
 
--- what a part has at a place, where it stands at a height
+-- what a part at a height has at a place
 abbrev pub word_of : List Part → ℕ → ℕ → ℕ → VerificationType
 word_of parts zero part place = leaf_word parts part place
 word_of parts (suc height) part place = word_of parts height (child_at parts part (place / room height)) (place % room height)

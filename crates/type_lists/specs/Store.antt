@@ -9,7 +9,7 @@ use Rattle.type_lists.specs.Parts.{most_parts, room, word_of}
 use Rattle.type_lists.specs.Trees.{IsTree}
 use Rattle.type_lists.specs.Compared.{KnowsRightly}
 
--- the word of a list at a place, from 0; Top behind the list's end
+-- the word of a list at a place, from 0; Top past the list's end
 unfoldable pub word_at : WordStore → Words → ℕ → VerificationType
 word_at store words n =
     if nat_le (room store.height) n then Top else word_of store.parts.items store.height words.root n

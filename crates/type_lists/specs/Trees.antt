@@ -1,16 +1,16 @@
--- Trees whose parts may be changed: those that are newer than the kept ones, and stand in the tree at one place each.
+-- Trees whose parts may be changed: those that are newer than the kept ones, and are in the tree at one place each.
 use Rattle.std.specs.Prelude.{◌≡◌, ℕ, zero, suc, ◌<◌, ◌≤◌, ◌⊎◌, List, length}
 use Rattle.type_rules.specs.declared.types.VerificationType.{VerificationType}
 use Rattle.type_lists.specs.declared.parts.Part.{Part}
 use Rattle.type_lists.specs.Parts.{part_at, child_at, word_of, with_word}
 
--- a part that isn't kept stands in the tree below a part at a height
+-- a part that isn't kept is in the tree below a part at a height
 abbrev pub IsIn : List Part → ℕ → ℕ → ℕ → ℕ → Type 0
 IsIn parts kept zero part q = (kept < part) × (part ≡ q)
 IsIn parts kept (suc height) part q =
     (kept < part) × ((part ≡ q) ⊎ ((j : ℕ) × IsIn parts kept height (child_at parts part j) q))
 
--- no part that isn't kept stands there twice
+-- no part that isn't kept is there twice
 abbrev pub IsTree : List Part → ℕ → ℕ → ℕ → Type 0
 IsTree parts kept zero part = Unit {0}
 IsTree parts kept (suc height) part =
@@ -32,7 +32,7 @@ pub record IsSet (old new : List Part) (kept height part made place : ℕ) (word
   pub tree : IsTree new kept height made
   pub inside : (q : ℕ) → IsIn new kept height made q → IsIn old kept height part q ⊎ (length old < q)
 
--- a part was put in place of one that isn't kept, or else behind all others
+-- a part was put in place of one that isn't kept, or else after all others
 abbrev pub IsPut : List Part → ℕ → ℕ → ℕ → Type 0
 IsPut old kept part made = ((kept < part) × (made ≡ part)) ⊎ (length old < made)
 

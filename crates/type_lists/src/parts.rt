@@ -65,7 +65,7 @@ fn no_children() -> [u32; 32]
     [0; 32]
 }
 
-// The words of a leaf, as they stand: none where there is no leaf.
+// The words of a leaf, as they are: none where there is no leaf.
 pub(crate) fn leaf_words(parts: &[Part], part: u32) -> &[VerificationType]
     ensures few { length result.now ≤ 8 }
     ensures words { (n : ℕ) → slice_index_or result.now n Top ≡ leaf_word parts.now part n }
@@ -96,7 +96,7 @@ pub(crate) fn children_of(parts: &[Part], part: u32) -> [u32; 32]
     }
 }
 
-// A new part, and its number. A mark that it leaves behind where there is an error is cut the next time.
+// A new part, and its number. A mark that is left over after an error is cut the next time.
 pub(crate) fn push(
     parts: &mut Vec<Part>,
     marks: &mut Vec<u64>,

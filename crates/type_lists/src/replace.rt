@@ -1,4 +1,4 @@
-//! Lists in which a word stands for another one.
+//! Lists in which one word is replaced by another.
 
 ghost use Rattle.std.specs.Prelude.{◌≡◌, ◌+◌, ◌≤◌, ◌<◌, ℕ, false, true, slice_index_or, IfOk, length};
 ghost use Rattle.type_rules.specs.Assignable as assignable;
@@ -12,8 +12,8 @@ use std::alloc::AllocError;
 use type_rules::VerificationType;
 use word_types::is_same_type;
 
-// Tests whether a word is the old one. That is an uninitialized object where there is much to compare: so it is told
-// without a call.
+// Tests whether a word is the old one. Where there is much to compare, the old word is an uninitialized object: so
+// that case is decided without a call.
 #[inline(always)]
 fn is_old(word: VerificationType, old: VerificationType) -> bool
     ensures { result ≡ assignable.is_same_type word old }
@@ -50,7 +50,7 @@ fn replace_words(words: &mut [VerificationType; 8], old: VerificationType, new: 
     }
 }
 
-// A leaf in which a word stands for another one.
+// A leaf in which one word is replaced by another.
 fn replaced_leaf(
     parts: &mut Vec<Part>,
     marks: &mut Vec<u64>,
@@ -79,7 +79,7 @@ fn replaced_leaf(
     push(parts, marks, Part::Leaf(words))
 }
 
-// A part at a height in which a word that isn't Top stands for another one.
+// A part at a height in which a word that isn't Top is replaced by another one.
 pub(crate) fn replaced_in(
     parts: &mut Vec<Part>,
     marks: &mut Vec<u64>,

@@ -33,9 +33,9 @@ impl Words {
 }
 
 /// Lists of words that share their parts: a list begins as another one and is changed in places, at the cost of what
-/// changes. Contracts see a list as a function of places from 0 (`word_at`), with Top behind its end, and say which
-/// lists are there (`IsList`). A change stands in place of the list that it is made of: behind it there are its result
-/// and the lists that are kept (`IsKept`), which stay as they are. Lists that are fixed (`IsFixed`) stay too, until those
+/// changes. Contracts see a list as a function of places from 0 (`word_at`), with Top past its end, and say which
+/// lists are there (`IsList`). A change replaces the list that it is made of: after it there are its result and the
+/// lists that are kept (`IsKept`), which stay as they are. Lists that are fixed (`IsFixed`) stay too, until those
 /// that aren't kept are given back: that happens where a kept list is changed and the others have much memory.
 ///
 /// The store remembers which of its parts were found assignable to which, so it serves the classes of one program
@@ -64,10 +64,10 @@ pub struct WordStore {
     ghost fits: { most ≤ room height },
 }
 
-/// So many parts of lists that aren't kept stay in any case.
+/// How many parts of lists that aren't kept stay in any case.
 const FEW: usize = 65_536;
 
-// The height of lists of so many words.
+// The height of lists of at most `most` words.
 fn height_for(most: u32) -> u8
     requires { most ≤ 65536 }
     ensures low { result ≤ 3 }
@@ -93,7 +93,7 @@ impl WordStore {
     ghost use Rattle.type_lists.specs.Store.{word_at, IsList, IsKept, IsMarked, IsFixed, HasFewOthers, Remembers, Follows};
     ghost use Rattle.type_lists.specs.Differ.{FirstDifference};
 
-    /// A store for lists of so many words at most. Takes no memory.
+    /// A store for lists of at most `most` words. Takes no memory.
     pub fn new(alloc: Global, most: u32) -> Self
         requires { most ≤ 65536 }
         ensures most { result.most ≡ most }
@@ -203,7 +203,7 @@ impl WordStore {
         Ok(())
     }
 
-    /// A list with another word at a place, in place of the list. What isn't fixed is changed where it stands. Each kept
+    /// A list with another word at a place, in place of the given list. What isn't fixed is changed in place. Each kept
     /// list stays as it was, also after an error. Where the list is a kept one, little is left of lists that aren't.
     pub fn set(
         &mut self,
@@ -235,8 +235,9 @@ impl WordStore {
         Ok(Words { root })
     }
 
-    /// A list in which a word stands for each word that is the old one, which isn't Top, in place of the list. Each kept
-    /// list stays as it was, also after an error. Where the list is a kept one, little is left of lists that aren't.
+    /// A list in which each word that is the old one, which isn't Top, is replaced by the new one, in place of the
+    /// given list. Each kept list stays as it was, also after an error. Where the list is a kept one, little is left of
+    /// lists that aren't.
     pub fn replaced(
         &mut self,
         words: Words,

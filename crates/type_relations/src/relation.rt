@@ -1,6 +1,6 @@
 //! A relation of classes.
 
-/// Tells which class is below which one, by the numbers of classes.
+/// Says which class is below which one, by the numbers of classes.
 pub trait ClassRelation {
     ghost use Rattle.std.specs.Prelude.{◌≡◌, ℕ, Bool};
 

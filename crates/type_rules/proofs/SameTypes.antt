@@ -1,4 +1,4 @@
--- The tests of sameness tell equality.
+-- The tests of sameness decide equality.
 use Rattle.std.proofs.Common.{◌≡◌, true, ◌==◌, ap, ◌∙◌, sym, arith}
 use Rattle.std.proofs.lemmas.Bool.{and_parts, eqb-true, true≢false}
 use Rattle.link_types.specs.declared.types.ElementType.{ElementType}

@@ -1,4 +1,4 @@
--- Which type may stand where another one is wanted (JVMS 4.10.1.2).
+-- Which type is assignable to which (JVMS 4.10.1.2).
 use Rattle.std.specs.Prelude.{ℕ, Bool, true, false, ◌==◌, ◌&&◌, ◌||◌, not, List, [], ◌∷◌}
 use Rattle.builtin_world.specs.declared.number.TheConstants.{OBJECT}
 use Rattle.link_types.specs.declared.types.ElementType.{ElementType}

@@ -65,7 +65,7 @@ pub record Environment : Type 0 where
   pub parameters : MethodId → List ValueType
   pub result : MethodId → Option ValueType
 
--- locals behind which there is nothing are Top
+-- `count` locals, which are Top past the given types
 abbrev pub padded : ℕ → List VerificationType → List VerificationType
 padded count types = take count (types ++ replicate count Top)
 

@@ -78,7 +78,7 @@ moved_words _ stack = stack
 abbrev pub local_at : TypeFrame → ℕ → VerificationType
 local_at f n = slice_index_or f.locals n Top
 
--- the word under so many others
+-- the word under n others
 abbrev pub stack_at : TypeFrame → ℕ → VerificationType
 stack_at f n = slice_index_or f.stack n Top
 
@@ -177,7 +177,7 @@ frame_with env at what f = record f { locals = locals_with what f; stack = stack
 abbrev pub replaced_types : VerificationType → VerificationType → List VerificationType → List VerificationType
 replaced_types old new types = map (λ t. if is_same_type t old then new else t) types
 
--- the object that <init> initializes, which stands under the arguments
+-- the object that <init> initializes, which is under the arguments
 abbrev pub receiver_of : Environment → What Target → TypeFrame → VerificationType
 receiver_of env what f = stack_at f (words_wanted (wants env what) - 1)
 
@@ -186,7 +186,7 @@ initialized env (Uninit p) = Object (env.made_at p)
 initialized env UninitThis = Object (Class env.class)
 initialized env type = type
 
--- behind <init> all copies of the object are initialized
+-- after <init> all copies of the object are initialized
 abbrev pub with_initialized : Environment → VerificationType → TypeFrame → TypeFrame
 with_initialized env type f = record {
   locals = replaced_types type (initialized env type) f.locals;

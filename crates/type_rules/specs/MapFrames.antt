@@ -1,4 +1,4 @@
--- The frames for which a StackMapTable stands (JVMS 4.7.4, 4.10.1.6).
+-- The frames that a StackMapTable stands for (JVMS 4.7.4, 4.10.1.6).
 use Rattle.std.specs.Prelude.{ℕ, suc, ◌==◌, ◌&&◌, Bool, true, false, Option, List, length, map, reverse, take, flat_map, slice_get, slice_index_or, option_map, option_and_then}
 use Rattle.std.specs.List.{list_any, position_from}
 use Rattle.builtin_world.specs.declared.number.TheConstants.{OBJECT}
@@ -32,7 +32,7 @@ item_type operand entry (items.Object index) = Object (object_type (operand inde
 item_type operand entry (items.Uninit at) = Uninit at
 item_type operand entry (items.Entry local) = slice_index_or entry local Top
 
--- the words of items, one behind the other
+-- the words of items, one after another
 abbrev pub item_words : (VType → VerificationType) → List VType → List VerificationType
 item_words item types = flat_map (λ t. in_locals (item t)) types
 
@@ -56,7 +56,7 @@ frame_numbered item constructs values frames number f =
     (item_words item (locals_after (entry_locals 0 (value_widths values)) (take (suc number) frames)))
     (reverse (item_words item f.stack))
 
--- the frame at the instruction of a number, if one stands there
+-- the frame at the instruction of a number, if there is one
 abbrev pub map_frame_at : (VType → VerificationType) → Bool → List VerificationType → List MapFrame → ℕ → Option TypeFrame
 map_frame_at item constructs values frames k =
     option_and_then (λ j. option_map (frame_numbered item constructs values frames j) (slice_get frames j))

@@ -1,9 +1,9 @@
--- What a refusal of the type checker is told by.
+-- The kinds by which a refusal of the type checker is reported.
 use Rattle.std.specs.Prelude.{ℕ}
 use Rattle.type_rules.specs.declared.refusal.VerifyKind.{VerifyKind}
 use Rattle.type_rules.specs.declared.refusal.VerifyKind.TheVariants.{StackShape, TypeMismatch, FrameMissing, FrameMismatch, FallsOff, Limits, Uninit, InitCovered, ReturnType}
 
--- the number by which a kind is told, from 1 in this order
+-- the number by which a kind is reported, from 1 in this order
 abbrev pub verify_kind_number : VerifyKind → ℕ
 verify_kind_number StackShape = 1
 verify_kind_number TypeMismatch = 2

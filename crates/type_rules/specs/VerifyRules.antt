@@ -14,7 +14,7 @@ use Rattle.type_rules.specs.Environment.{Environment}
 use Rattle.type_rules.specs.Environments.{environment_of}
 use Rattle.type_rules.specs.TypeSafe.{IsTypeSafe, IsFirstTypeFault}
 
--- the refusal tells the first rule that fails in a method of the file at a place, and the offset where it fails
+-- the refusal says which rule fails first in a method of the file at a place, and the offset where it fails
 pub record TellsFirstFault (file method : ℕ) (env : Environment) (refusal : VerifyRefusal) : Type 0 where
   pub number : ℕ
   pub kind : VerifyKind
@@ -30,7 +30,7 @@ method_type_rules file method (Some env) = record { Hold = IsTypeSafe env; Refus
 abbrev pub method_of_file : ℕ → ℕ → MethodId
 method_of_file file method = record { class = number_of_file file; method = method }
 
--- the methods of each file in order, one file behind the other
+-- the methods of each file in order, one file after another
 abbrev pub verify_rules : List ClassUnit → Rules VerifyRefusal
 verify_rules us =
     each (λ file (u : ClassUnit). each (λ method (code : Option Code). method_type_rules file method (environment_of us (method_of_file file method))) u.codes) us

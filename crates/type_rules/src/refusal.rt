@@ -14,8 +14,8 @@ pub enum VerifyKind {
     /// A word on the stack or in a local is of another type than the instruction wants, or half of a long; or a handler
     /// catches what is no Throwable.
     TypeMismatch,
-    /// No stack map frame stands where a branch or a handler leads, or behind an instruction that the next one doesn't
-    /// follow.
+    /// There is no stack map frame where a branch or a handler leads, or after an instruction that doesn't go on to the
+    /// next one.
     FrameMissing,
     /// What comes to a stack map frame isn't assignable to it, or a frame at the first instruction isn't the entry
     /// frame.
@@ -24,8 +24,8 @@ pub enum VerifyKind {
     FallsOff,
     /// The parameters, a frame or an instruction need more locals or more stack than the method has.
     Limits,
-    /// An object that isn't initialized stands where an initialized one is wanted, `new` finds on the stack what it made
-    /// before, or a constructor returns before its object is initialized.
+    /// An object that isn't initialized is found where an initialized one is wanted, `new` finds on the stack what it
+    /// made before, or a constructor returns before its object is initialized.
     Uninit,
     /// A handler covers an instruction of a constructor at which its object isn't initialized.
     InitCovered,
@@ -34,7 +34,7 @@ pub enum VerifyKind {
 }
 
 impl VerifyKind {
-    /// The number by which the kind is told, from 1 in the order of the variants.
+    /// The number by which the kind is reported, from 1 in the order of the variants.
     pub fn number(self) -> u8
         ensures { result ≡ verify_kind_number self }
     {

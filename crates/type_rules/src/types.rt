@@ -17,7 +17,7 @@ pub enum VerificationType {
     Long,
     /// The first word of a double.
     Double,
-    /// The second word of the long or double that stands before it.
+    /// The second word of the long or double that comes before it.
     Second,
     Null,
     /// The object that a constructor has yet to initialize.

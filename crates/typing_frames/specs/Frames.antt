@@ -15,7 +15,7 @@ shown stores frame = record {
   flag_this_uninit = frame.unset;
 }
 
--- there is such a frame in the stores, and behind its words there is nothing
+-- there is such a frame in the stores, and past its words there is nothing
 pub record IsFrame (stores : FrameStores) (frame : CurrentFrame) : Type 0 where
   pub locals : IsList stores.locals frame.locals
   pub stack : IsList stores.stacks frame.stack

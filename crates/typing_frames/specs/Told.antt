@@ -1,4 +1,4 @@
--- What an answer of the type checker tells of its rules.
+-- What an answer of the type checker says of its rules.
 use Rattle.std.specs.Prelude.{◌≡◌, Option, Some, None, Result, Ok, Err}
 use Rattle.type_rules.specs.declared.refusal.VerifyKind.{VerifyKind}
 use Rattle.typing_frames.specs.declared.stop.CheckStop.{CheckStop}

@@ -58,8 +58,8 @@ impl FrameStores {
         })
     }
 
-    /// A frame without so many words on top of its stack, in place of the frame. Each kept frame stays as it was, also
-    /// after an error.
+    /// A frame without the top `count` words of its stack, in place of the given frame. Each kept frame stays as it
+    /// was, also after an error.
     pub fn take(&mut self, frame: CurrentFrame, count: u32) -> Result<CurrentFrame, AllocError>
         requires frame { IsFrame self.old frame }
         requires count { count ≤ frame.depth }
@@ -150,8 +150,8 @@ impl FrameStores {
         self.set_local(half, at, word)
     }
 
-    /// A frame in whose locals a word stands for each word that is the old one, which isn't Top, in place of the frame.
-    /// Each kept frame stays as it was, also after an error.
+    /// A frame in whose locals each word that is the old one, which isn't Top, is replaced by the new one, in place of
+    /// the given frame. Each kept frame stays as it was, also after an error.
     pub fn replaced_in_locals(
         &mut self,
         frame: CurrentFrame,
@@ -197,8 +197,8 @@ impl FrameStores {
         })
     }
 
-    /// A frame in which a word stands for each word that is the old one, which isn't Top, in locals and stack, in place of
-    /// the frame. Each kept frame stays as it was, also after an error.
+    /// A frame in whose locals and stack each word that is the old one, which isn't Top, is replaced by the new one, in
+    /// place of the given frame. Each kept frame stays as it was, also after an error.
     pub fn replaced(
         &mut self,
         frame: CurrentFrame,

@@ -6,10 +6,10 @@ ghost use Rattle.typing_frames.specs.declared.stop.CheckStop.TheVariants as stop
 use std::alloc::AllocError;
 use type_rules::VerifyKind;
 
-/// Why the check of a method stops. Contracts say what an answer tells of the rules (`Tells`).
+/// Why the check of a method stops. Contracts say what an answer means for the rules (`Tells`).
 #[derive(Clone, Copy)]
 pub enum CheckStop {
-    /// There was no memory. Nothing is told of the method.
+    /// There was no memory. Nothing is said of the method.
     NoMemory,
     /// A rule is broken.
     At(VerifyKind),

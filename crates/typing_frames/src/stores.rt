@@ -32,7 +32,7 @@ impl FrameStores {
     ghost use Rattle.type_rules.specs.FrameAfter as after;
     ghost use Rattle.typing_frames.specs.Frames.{shown, IsFrame, IsKeptFrame, KeepsAll, StoresRemember};
 
-    /// Stores for frames of so many locals, and of so many words on the stack at most. Takes no memory.
+    /// Stores for frames of `max_locals` locals, and of at most `max_stack` words on the stack. Takes no memory.
     pub fn new(alloc: Global, max_locals: u16, max_stack: u16) -> Self
         ensures locals { result.locals.most ≡ max_locals }
         ensures stacks { result.stacks.most ≡ max_stack }
@@ -57,7 +57,7 @@ impl FrameStores {
         }
     }
 
-    /// The word of a local; Top behind the last one. Takes no memory.
+    /// The word of a local; Top past the last one. Takes no memory.
     pub fn local(&self, frame: CurrentFrame, at: u32) -> VerificationType
         requires { IsFrame self.now frame }
         ensures { result ≡ after.local_at (shown self.now frame) at }
@@ -65,7 +65,7 @@ impl FrameStores {
         self.locals.word(frame.locals, at)
     }
 
-    /// The word of the stack under so many others; Top under the lowest one. Takes no memory.
+    /// The word of the stack under `under` others; Top under the lowest one. Takes no memory.
     pub fn peek(&self, frame: CurrentFrame, under: u32) -> VerificationType
         ensures { result ≡ after.stack_at (shown self.now frame) under }
     {

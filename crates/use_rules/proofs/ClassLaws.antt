@@ -6,7 +6,7 @@ use Rattle.text_numbers.specs.Numbers.{number_of}
 use Rattle.text_numbers.proofs.NumberLaws.{text_of_number}
 use Rattle.use_rules.specs.Facts.{NumbersName}
 
--- at the number of a text stands what is made of it
+-- what is made of a text is at the text's number, counted from 1
 pub at_number : {X : Type 0} (h : List ℕ → X) (d : X) (ts : List (List ℕ)) (t : List ℕ) → number_of ts t ≢ 0 → get_or (map h ts) (number_of ts t - 1) d ≡ h t
 at_number {X} h d ts t some = go (number_of ts t) refl some
   where

@@ -79,7 +79,7 @@ pub fn class_facts(alloc: Global, lookup: &MemberLookup<'_>) -> Result<Vec<Class
     Ok(facts)
 }
 
-/// The number of the name of the Class entry at an index of the pool of the file at a place, 0 where none stands there.
+/// The number of the name of the Class entry at an index of the pool of the file at a place, 0 where there is none.
 fn name_number(lookup: &MemberLookup<'_>, place: u32, unit: &ClassUnit, index: u16) -> u32
     requires { slice_get lookup.now.units place ≡ Some unit.now }
     ensures { NumbersName lookup.now.texts (class_name_of unit.now.file.pool (slice_get unit.now.file.pool index)) result }
@@ -104,7 +104,7 @@ fn facts_numbered(facts: &[ClassFacts], number: u32) -> ClassFacts
         })
 }
 
-/// What is known of the class whose Class entry stands at an index of the pool of the file at a place.
+/// What is known of the class whose Class entry is at an index of the pool of the file at a place.
 pub fn class_at(
     lookup: &MemberLookup<'_>,
     facts: &[ClassFacts],

@@ -79,14 +79,14 @@ impl<'a, 'b> FileNames<'a, 'b> {
         self.unit.file.pool.as_slice()
     }
 
-    /// What is known of the class whose Class entry stands at an index.
+    /// What is known of the class whose Class entry is at an index.
     pub fn class(&self, index: u16) -> ClassFacts
         ensures { result ≡ class_facts self.now.classes (class_name_at self.now.pool index) }
     {
         class_at(self.lookup, self.classes, self.place, self.unit, index)
     }
 
-    /// What is known of the member whose entry stands at an index, if its class is there.
+    /// What is known of the member whose entry is at an index, if its class is there.
     pub fn member(&self, index: u16) -> Option<MemberFacts>
         ensures { AreFactsOf self.now.classes self.now.place (reference_at self.now.pool index) result }
     {

@@ -1,4 +1,4 @@
-//! Which type may stand where another one is wanted (JVMS 4.10.1.2).
+//! Which type is assignable to which (JVMS 4.10.1.2).
 
 ghost use Rattle.std.specs.Prelude.{◌≡◌};
 ghost use Rattle.type_rules.specs.Assignable as assignable;
@@ -9,7 +9,7 @@ use link_types::ObjectType;
 use type_relations::{ClassRelation, is_object_below};
 use type_rules::VerificationType;
 
-// Whether a class of the program may stand for another one.
+// Whether a class of the program is assignable to another one.
 fn is_class_assignable<H: ClassHierarchy>(hierarchy: &H, low: u32, high: u32) -> bool
     ensures { result ≡ assignable.is_class_assignable (H.hierarchy hierarchy.now) low high }
 {
@@ -34,8 +34,8 @@ impl<'a, H: ClassHierarchy> ClassRelation for Assignability<'a, H> {
     }
 }
 
-/// Tests whether a reference of one type may stand for one of another type. Each interface takes every class and every
-/// interface of the program, a class that isn't in the program goes to itself and to Object alone, an array to Object
+/// Tests whether a reference of one type is assignable to another type. Every class and every interface of the program
+/// is assignable to each interface, a class that isn't in the program only to itself and to Object, an array to Object
 /// and by its elements.
 pub fn is_object_assignable<H: ClassHierarchy>(
     hierarchy: &H,
@@ -47,7 +47,7 @@ pub fn is_object_assignable<H: ClassHierarchy>(
     is_object_below(&Assignability { hierarchy }, low, high)
 }
 
-/// Tests whether a word of one type may stand for one of another type: each for Top and for itself, null for every
+/// Tests whether a word of one type is assignable to another type: each to Top and to itself, null to every
 /// reference that is initialized, references by their types.
 pub fn is_assignable<H: ClassHierarchy>(
     hierarchy: &H,

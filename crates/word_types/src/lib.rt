@@ -1,7 +1,7 @@
-//! Which type may stand where another one is wanted (JVMS SE 8, 4.10.1.2), and what one word is to an instruction that
-//! wants it (JVMS 4.10.1.9). All of it is small functions that take no memory.
+//! Which type is assignable to which (JVMS SE 8, 4.10.1.2), and what one word is to an instruction that wants it
+//! (JVMS 4.10.1.9). All of it is small functions that take no memory.
 //!
-//! What the program's classes are to each other is asked through [`ClassHierarchy`].
+//! How the program's classes are related is asked through [`ClassHierarchy`].
 #![tactic(auto)]
 
 mod assignable;

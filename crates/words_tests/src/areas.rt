@@ -3,7 +3,7 @@
 use crate::setting::LIMITS;
 use heap_words::{Area, Areas};
 
-/// The first and the last word of each area, with the places where they stand: 3 sections, 2 classes, 25 words of
+/// The first and the last word of each area, with the places where they are: 3 sections, 2 classes, 25 words of
 /// fixed objects and 10 of the heap.
 const PLACES: [(Area, u64); 12] = [
     (Area::Control(0), 0),
@@ -59,7 +59,7 @@ fn areas_stand_one_behind_another(rt: HostRuntime) {
     assert!(rt; areas.size() == 563 && area_at(areas, 563).is_none());
 }
 
-/// The words behind the last of each area.
+/// The words after the last of each area.
 const PAST: [Area; 6] = [
     Area::Control(8),
     Area::Section(4),

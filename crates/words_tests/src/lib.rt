@@ -1,4 +1,4 @@
-//! Tests of the words that threads share and of what stands on them, over their public calls.
+//! Tests of the words that threads share and of what is built on them, over their public calls.
 #![tactic(auto)]
 
 #[cfg(test)]

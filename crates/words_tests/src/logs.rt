@@ -1,4 +1,4 @@
-//! Tests of the undo log: what is noted last comes off first.
+//! Tests of the undo log: what is logged last comes off first.
 
 ghost use Rattle.std.specs.Prelude.{◌≡◌, ◌∷◌, OnOk};
 

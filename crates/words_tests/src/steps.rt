@@ -133,7 +133,7 @@ fn each_kind_of_step_is_made_on_its_word(rt: HostRuntime) -> Result<(), Fail> {
     Ok(())
 }
 
-/// Whether the host threads are to stop, before and after they are told so.
+/// Whether the host threads are to stop, before and after the stop word is set.
 fn stops(words: &mut PlainWords) -> Option<(bool, bool)> {
     if !words.may_step(Step::LoadStop) || !words.may_step(Step::SetStop) {
         return None;

@@ -2,7 +2,7 @@
 use Rattle.std.specs.Prelude.{ℕ, List}
 use Rattle.write_log.specs.declared.Noted.{Noted}
 
--- the words that were noted, newest first, and how many more there is room for
+-- the words that were logged, newest first, and how many more there is room for
 pub record Log : Type 0 where
   pub noted : List Noted
   pub spare : ℕ

@@ -1,7 +1,7 @@
-//! What a thread notes of the words that it overwrites inside a section, so that they can be put back.
+//! What a thread logs of the words that it overwrites inside a section, so that they can be put back.
 //!
-//! The log is a stack: what was noted last is put back first. Room is taken by [`WriteLog::reserve`] before a word
-//! is overwritten, so that noting it, and putting words back, takes no memory.
+//! The log is a stack: what was logged last is put back first. Room is taken by [`WriteLog::reserve`] before a word
+//! is overwritten, so that logging it, and putting words back, takes no memory.
 #![tactic(auto)]
 
 ghost use Rattle.std.specs.Prelude.{◌≡◌, ◌≢◌, ◌+◌, ◌<◌, ◌==◌, [], ◌∷◌, IsOk, OnOk, OnErr, drop, max, slice_get, length};
@@ -22,7 +22,7 @@ pub struct Noted {
     pub old: u64,
 }
 
-/// The words that were noted. Contracts see them as a list, newest first, with the number of places that are spare.
+/// The words that were logged. Contracts see them as a list, newest first, with the number of places that are spare.
 #[derive(Drop)]
 pub struct WriteLog {
     noted: Vec<Noted>,
@@ -38,7 +38,7 @@ impl Model for WriteLog {
 }
 
 impl WriteLog {
-    /// A log in which nothing is noted. Takes no memory.
+    /// A log in which nothing is logged. Takes no memory.
     pub fn empty(alloc: Global) -> Self
         ensures { result.noted ≡ [] }
     {
@@ -47,9 +47,9 @@ impl WriteLog {
         }
     }
 
-    /// Makes room, where there is none, for as many words more as are noted, and for at least [`LEAST_ROOM`]: so the
-    /// memory that is taken grows with the words that are noted, and is taken seldom. Where there is room nothing
-    /// changes, and the call can't fail. What is noted stays, whatever the answer. No other call takes memory.
+    /// Makes room, where there is none, for as many more words as are logged, and for at least [`LEAST_ROOM`]: so the
+    /// memory that is taken grows with the words that are logged, and is taken seldom. Where there is room nothing
+    /// changes, and the call can't fail. What is logged stays, whatever the answer. No other call takes memory.
     pub fn reserve(&mut self) -> Result<(), NoMemory>
         ensures has_room { 0 < self.old.spare → IsOk result × (self.new ≡ self.old) }
         ensures grown { self.old.spare ≡ 0 → OnOk result (self.new.spare ≡ max LEAST_ROOM (length self.old.noted)) }
@@ -63,7 +63,7 @@ impl WriteLog {
         Ok(())
     }
 
-    /// Notes a word. There must be room for it, as there is after [`reserve`](WriteLog::reserve).
+    /// Logs a word. There must be room for it, as there is after [`reserve`](WriteLog::reserve).
     pub fn note(&mut self, noted: Noted)
         requires { 0 < self.old.spare }
         ensures noted { self.new.noted ≡ noted ∷ self.old.noted }
@@ -72,14 +72,14 @@ impl WriteLog {
         self.noted.push_reserved(noted);
     }
 
-    /// What was noted last, or `None` where nothing is noted.
+    /// The word that was logged last, or `None` where the log is empty.
     pub fn last(&self) -> Option<Noted>
         ensures { result ≡ slice_get self.now.noted 0 }
     {
         self.noted.last().copied()
     }
 
-    /// Takes off what was noted last. Something must be noted. Its room becomes spare.
+    /// Takes off the word that was logged last. The log must not be empty. The word's room becomes spare.
     pub fn drop_last(&mut self)
         requires { self.old.noted ≢ [] }
         ensures noted { self.new.noted ≡ drop 1 self.old.noted }
@@ -96,14 +96,14 @@ impl WriteLog {
         self.noted.clear();
     }
 
-    /// How many words are noted.
+    /// How many words are logged.
     pub fn len(&self) -> usize
         ensures { result ≡ length self.now.noted }
     {
         self.noted.len()
     }
 
-    /// Whether nothing is noted.
+    /// Whether nothing is logged.
     pub fn is_empty(&self) -> bool
         ensures { result ≡ (length self.now.noted == 0) }
     {
