@@ -47,7 +47,7 @@ unfolding library
 out_is_static us zero m e = ap (λ (x : NamedMember). has x.flags STATIC) (sym (same_Some _ m e))
 out_is_static us (suc i) m e = absurd (none-some m e)
 
-other_is_read : (us : List ClassUnit) (c i : ℕ) (m : NamedMember) → c ≢ 4 → slice_get (fields_of (classes_of us) c) i ≡ Some m → 28 < c
+pub other_is_read : (us : List ClassUnit) (c i : ℕ) (m : NamedMember) → c ≢ 4 → slice_get (fields_of (classes_of us) c) i ≡ Some m → 28 < c
 other_is_read us c i m other there =
     elim (cases_lt 28 c) [
       | inl read ↦ read
@@ -60,7 +60,7 @@ other_is_read us c i m other there =
 
 -- ---- a field of a file
 
-class_within : (cs : List NamedClass) (c i : ℕ) (m : NamedMember) → slice_get (fields_of cs c) i ≡ Some m → c ≤ length cs
+pub class_within : (cs : List NamedClass) (c i : ℕ) (m : NamedMember) → slice_get (fields_of cs c) i ≡ Some m → c ≤ length cs
 class_within cs zero i m there = omega arith
 class_within cs (suc c) i m there = go (slice_get cs c) refl there
   where
@@ -68,7 +68,7 @@ class_within cs (suc c) i m there = go (slice_get cs c) refl there
     go None e h = absurd (none-some m h)
     go (Some k) e h = (let lt : c < length cs = slice_get_within cs c k e in omega arith)
 
-stored : (m : NamedMember) → is_stored (has m.flags STATIC) m ≡ true
+pub stored : (m : NamedMember) → is_stored (has m.flags STATIC) m ≡ true
 stored m = go (has m.flags STATIC) refl
   where
     go : (b : Bool) → has m.flags STATIC ≡ b → is_stored b m ≡ true
@@ -92,7 +92,7 @@ module _ (us : List ClassUnit) (units : AreUnits us) (hold : (link_rules us).Hol
           let descriptor : IsFieldType m.descriptor = subst (λ (y : NamedMember). IsFieldType y.descriptor) same (descriptor_of_field u (units k u at) i x e) in
           member_type (program_names us) m descriptor plain
 
-  of_class : (c i : ℕ) (m : NamedMember) → 28 < c → slice_get (fields_of (classes_of us) c) i ≡ Some m → MemberType (program_names us) m
+  pub of_class : (c i : ℕ) (m : NamedMember) → 28 < c → slice_get (fields_of (classes_of us) c) i ≡ Some m → MemberType (program_names us) m
   of_class c i m read there =
       let h : (k : ℕ) × (u : ClassUnit) × (slice_get us k ≡ Some u) × (c ≡ number_of_file k) = is_file us c read (class_within (classes_of us) c i m there) in
       of_file h.0 h.1 h.2 i m (subst (λ x. slice_get (fields_of (classes_of us) x) i ≡ Some m) h.3 there)

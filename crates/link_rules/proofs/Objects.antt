@@ -33,7 +33,7 @@ range_more a (suc n) f =
     let same : f (a + 1 + n) ≡ f (a + suc n) = ap f (omega arith) in
     omega arith
 
-class_object_next : (p : ProgramNames) (n : ℕ) → class_object p (suc n) + class_object_size p.classes (suc n) ≡ class_object p (suc (suc n))
+pub class_object_next : (p : ProgramNames) (n : ℕ) → class_object p (suc n) + class_object_size p.classes (suc n) ≡ class_object p (suc (suc n))
 class_object_next p n =
     let more : sum_by (class_object_size p.classes) (range_with_len 1 (suc n)) ≡ sum_by (class_object_size p.classes) (range_with_len 1 n) + class_object_size p.classes (1 + n) = range_more 1 n (class_object_size p.classes) in
     let here : suc n - 1 ≡ n = omega arith in
@@ -50,7 +50,7 @@ one_or_two : (long : Bool) (n word : ℕ) → length (cond long (two_words n) (w
 one_or_two true n word = refl
 one_or_two false n word = refl
 
-first_words_count : (p : ProgramNames) (pool : List Constant) (m : Member) → length (first_words p pool m) ≡ field_words (member_of_file pool m)
+pub first_words_count : (p : ProgramNames) (pool : List Constant) (m : Member) → length (first_words p pool m) ≡ field_words (member_of_file pool m)
 first_words_count p pool m =
     one_or_two (is_long (member_of_file pool m)) (constant_long (first_constant pool m)) (constant_word p pool (utf8_at pool m.descriptor) (first_constant pool m))
 
@@ -125,6 +125,10 @@ class_words_count us c =
         ap (λ o. length (option_map_or (class_words_of_unit (program_names us)) o [])) unit
         ∙ words_count (program_names us) h.1.file.pool h.1.file.fields
         ∙ sym (ap (λ b. cond b 0 (own_words true (fields_of (classes_of us) c))) (high read) ∙ ap (own_words true) fields)
+
+pub class_words_are : (us : List ClassUnit) (c : ℕ) → length (option_map_or (class_words_of_unit (program_names us)) (unit_numbered us c) []) ≡ static_words (classes_of us) c
+unfolding class_words
+class_words_are us c = class_words_count us c
 
 -- ---- the rows
 

@@ -22,17 +22,25 @@ use Rattle.link_rules.proofs.Interfaces.{classes_ordered, only_object}
 use Rattle.link_rules.proofs.Subtypes.{IsElement, IsType, type_itself, type_top, type_upward}
 
 module _ (us : List ClassUnit) (order : List ℕ) (linked : IsLinked us order) where
-  classes : ClassesAreOrdered (classes_of us)
+  pub classes : ClassesAreOrdered (classes_of us)
   classes = classes_ordered us order linked
 
-  itself : (c : ℕ) → IsClassNumber (classes_of us) c → is_class_below (classes_of us) c c ≡ true
+  pub itself : (c : ℕ) → IsClassNumber (classes_of us) c → is_class_below (classes_of us) c c ≡ true
   itself c is = classes.itself c is.some is.within
 
-  only_top : (e : ℕ) → IsClassNumber (classes_of us) e → is_class_below (classes_of us) 1 e ≡ true → e ≡ 1
+  pub only_top : (e : ℕ) → IsClassNumber (classes_of us) e → is_class_below (classes_of us) 1 e ≡ true → e ≡ 1
   only_top e is h = only_object us order linked e is.some h
 
-  upward : (c d e : ℕ) → IsClassNumber (classes_of us) c → IsClassNumber (classes_of us) d → IsClassNumber (classes_of us) e → is_class_below (classes_of us) c d ≡ true → is_class_below (classes_of us) d e ≡ true → is_class_below (classes_of us) c e ≡ true
+  pub upward : (c d e : ℕ) → IsClassNumber (classes_of us) c → IsClassNumber (classes_of us) d → IsClassNumber (classes_of us) e → is_class_below (classes_of us) c d ≡ true → is_class_below (classes_of us) d e ≡ true → is_class_below (classes_of us) c e ≡ true
   upward c d e a b f h k = classes.upward c d e a.some a.within b.some b.within f.some h k
+
+  -- the classes in a type are classes of the program
+  abbrev pub IsRight : ObjectType → Type 0
+  IsRight t = IsType (is_class_below (classes_of us)) (IsClassNumber (classes_of us)) itself classes.top only_top upward t
+
+  pub right_upward : (s t u : ObjectType) → IsRight s → IsRight t → IsRight u → is_object_below (is_class_below (classes_of us)) s t ≡ true → is_object_below (is_class_below (classes_of us)) t u ≡ true
+      → is_object_below (is_class_below (classes_of us)) s u ≡ true
+  right_upward s t u a b c h k = type_upward (is_class_below (classes_of us)) (IsClassNumber (classes_of us)) itself classes.top only_top upward s t u a b c h k
 
   -- ---- the types of class numbers
 

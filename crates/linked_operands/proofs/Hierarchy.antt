@@ -90,7 +90,7 @@ module _ (us : List ClassUnit) (hold : (link_rules us).Hold) where
       ]
 
   -- the superclass of an interface is Object
-  of_interface : (i : ℕ) → i ≤ length (classes_of us) → class_has (classes_of us) i INTERFACE ≡ true → superclass_of (classes_of us) i ≡ OBJECT
+  pub of_interface : (i : ℕ) → i ≤ length (classes_of us) → class_has (classes_of us) i INTERFACE ≡ true → superclass_of (classes_of us) i ≡ OBJECT
   of_interface i within is =
       elim (cases_lt 28 i) [
         | inr low ↦ elim (or_cases (not (class_has (classes_of us) i INTERFACE)) (nat_eq (superclass_of (classes_of us) i) OBJECT) (in_library 0 29 (λ c. not (class_has (classes_of us) c INTERFACE) || nat_eq (superclass_of (classes_of us) c) OBJECT) (λ _. true) (library_objects us) i (omega arith) (omega arith))) [

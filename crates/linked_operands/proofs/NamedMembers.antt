@@ -70,7 +70,9 @@ module _ (us : List ClassUnit) where
     pub right : IsRightReference reference
     pub declared : Declared
     pub found : found_field (classes_of us) reference ≡ Some declared
+    pub read : declared.class ≢ SYSTEM
     pub kind : ValueType
+    pub typed : option_and_then (value_type (program_names us)) (field_kind declared.member.descriptor) ≡ Some kind
     pub same : f ≡ field_operand (program_names us) reference declared kind
 
   field_no_method : (r : Reference) (found : Option Declared) (m : MethodOperand) → field_named (program_names us) r found ≡ operands.Method m → ⊥
@@ -119,15 +121,15 @@ module _ (us : List ClassUnit) where
       by_field_reference : (r : Reference) → reference_at u.file.pool index ≡ r → IsRightReference r → (f : FieldOperand) → field_named (program_names us) (reference_at u.file.pool index) (found_field (classes_of us) (reference_at u.file.pool index)) ≡ operands.Field f → IsNamedField f
       by_field_reference r is right f e = by_found (found_field (classes_of us) r) refl (subst (λ x. field_named (program_names us) x (found_field (classes_of us) x) ≡ operands.Field f) is e)
         where
-          by_kind : (d : Declared) → found_field (classes_of us) r ≡ Some d → (b : Bool) (kind : Option ValueType)
+          by_kind : (d : Declared) → found_field (classes_of us) r ≡ Some d → (b : Bool) → (d.class == SYSTEM) ≡ b → (kind : Option ValueType) → option_and_then (value_type (program_names us)) (field_kind d.member.descriptor) ≡ kind
               → (if b then operands.Out else option_map_or (λ kind. operands.Field (field_operand (program_names us) r d kind)) kind operands.Nothing) ≡ operands.Field f → IsNamedField f
-          by_kind d same true kind e = cc
-          by_kind d same false None e = cc
-          by_kind d same false (Some kind) e = record { reference = r; right = right; declared = d; found = same; kind = kind; same = sym (same_field (field_operand (program_names us) r d kind) f e) }
+          by_kind d same true system kind typed e = cc
+          by_kind d same false other None typed e = cc
+          by_kind d same false other (Some kind) typed e = record { reference = r; right = right; declared = d; found = same; read = eqb-false d.class SYSTEM other; kind = kind; typed = typed; same = sym (same_field (field_operand (program_names us) r d kind) f e) }
 
           by_found : (o : Option Declared) → found_field (classes_of us) r ≡ o → field_named (program_names us) r o ≡ operands.Field f → IsNamedField f
           by_found None same e = cc
-          by_found (Some d) same e = by_kind d same (d.class == SYSTEM) (option_and_then (value_type (program_names us)) (field_kind d.member.descriptor)) e
+          by_found (Some d) same e = by_kind d same (d.class == SYSTEM) refl (option_and_then (value_type (program_names us)) (field_kind d.member.descriptor)) refl e
 
       by_constant : (c : Option Constant) → slice_get u.file.pool index ≡ c → (m : MethodOperand) → operand_of (program_names us) this u.file.pool index c ≡ operands.Method m → IsNamedMethod this m
       by_constant (Some (constants.Method a b)) entry m e =

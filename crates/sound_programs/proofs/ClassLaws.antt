@@ -39,7 +39,7 @@ use Rattle.linked_operands.proofs.Hierarchy.{found_any, object_above}
 use Rattle.linked_operands.proofs.Methods.{both_true}
 use Rattle.sound_programs.specs.ClassFacts.{ClassesGoUp, NumbersAreWords}
 
-throwable_is_class : (us : List ClassUnit) → class_has (classes_of us) THROWABLE INTERFACE ≡ false
+pub throwable_is_class : (us : List ClassUnit) → class_has (classes_of us) THROWABLE INTERFACE ≡ false
 unfolding library
 throwable_is_class us = refl
 
@@ -71,7 +71,7 @@ module _ (us : List ClassUnit) where
   raised_array m n y x e = e
 
   -- what is below a type is below it as it is seen
-  raised : (t u : ObjectType) → goes_below t u ≡ true → goes_below t (seen_type us u) ≡ true
+  pub raised : (t u : ObjectType) → goes_below t u ≡ true → goes_below t (seen_type us u) ≡ true
   raised t (Class d) e = by_flag ((hierarchy_of (classes_of us)).is_interface d)
     where
       by_flag : (b : Bool) → goes_below t (Class (if b then OBJECT else d)) ≡ true
@@ -82,7 +82,7 @@ module _ (us : List ClassUnit) where
   raised (Other c) (Array n x) e = cc
   raised (Array m y) (Array n x) e = raised_array m n y x e
 
-  subclass_parts : (c d : ℕ) → is_subclass us c d ≡ true → goes_below (type_numbered (program_names us) c) (type_numbered (program_names us) d) ≡ true
+  pub subclass_parts : (c d : ℕ) → is_subclass us c d ≡ true → goes_below (type_numbered (program_names us) c) (type_numbered (program_names us) d) ≡ true
   subclass_parts c d e =
       (and_parts (is_class_number (program_names us) d) _ (and_parts (is_class_number (program_names us) c) _ e).1).1
 

@@ -1,5 +1,5 @@
 -- The rows that load elements of arrays, and aastore (JVMS 6.5).
-use Rattle.std.proofs.Common.{◌≡◌, ◌≢◌, ◌<◌, ◌==◌, ◌*◌, ◌-◌, ◌||◌, nat_lt, ℕ, Bool, true, false, inl, inr, Option, Some, List, [], ◌∷◌, ◌++◌, drop, refl, sym, ap, subst, ◌∙◌, if◌then◌else◌}
+use Rattle.std.proofs.Common.{◌≡◌, ◌≢◌, ◌<◌, ◌==◌, ◌*◌, ◌-◌, ◌||◌, ◌&&◌, nat_lt, ℕ, Bool, true, false, inl, inr, Option, Some, List, [], ◌∷◌, ◌++◌, drop, refl, sym, ap, subst, ◌∙◌, if◌then◌else◌}
 use Rattle.std.proofs.lemmas.Bool.{and_parts, ltb-true, eqb-true, eq-eqb}
 use Rattle.builtin_world.specs.declared.number.TheConstants.{OBJECT, ARRAY_INDEX_OUT_OF_BOUNDS_EXCEPTION, ARRAY_STORE_EXCEPTION}
 use Rattle.code_decode.specs.declared.code.ClassUnit.{ClassUnit}
@@ -48,7 +48,7 @@ reference_element (Array d y) e = by_one (d == 1) refl
 
     by_one : (b : Bool) → (d == 1) ≡ b → (x : ObjectType) × ((if d == 1 then type_of_element y else Object (Array (d - 1) y)) ≡ Object x)
     by_one true one =
-        let array : (nat_lt 1 1 || is_class_element y) ≡ true = subst (λ n. (nat_lt 1 n || is_class_element y) ≡ true) (eqb-true d 1 one) e in
+        let array : (nat_lt 1 1 || ((1 == 1) && is_class_element y)) ≡ true = subst (λ n. (nat_lt 1 n || ((n == 1) && is_class_element y)) ≡ true) (eqb-true d 1 one) e in
         let (x, is) = of_element y array in
         (x, ap (λ b. if b then type_of_element y else Object (Array (d - 1) y)) one ∙ is)
     by_one false one = (Array (d - 1) y, ap (λ b. if b then type_of_element y else Object (Array (d - 1) y)) one)

@@ -223,7 +223,7 @@ is_class_element (elements.Other n) = true
 is_class_element _ = false
 
 abbrev pub is_array_of_references : ObjectType → Bool
-is_array_of_references (Array dimensions x) = nat_lt 1 dimensions || is_class_element x
+is_array_of_references (Array dimensions x) = nat_lt 1 dimensions || (dimensions == 1 && is_class_element x)
 is_array_of_references _ = false
 
 abbrev pub is_whole : VerificationType → Bool

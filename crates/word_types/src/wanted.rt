@@ -141,7 +141,9 @@ fn is_array_of_references(t: ObjectType) -> bool
 {
     match t {
         ObjectType::Array(dimensions, element) => {
-            dimensions > 1 || matches!(element, ElementType::Class(_) | ElementType::Other(_))
+            dimensions > 1
+                || (dimensions == 1
+                    && matches!(element, ElementType::Class(_) | ElementType::Other(_)))
         }
         _ => false,
     }
