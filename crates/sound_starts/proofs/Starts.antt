@@ -84,6 +84,9 @@ data IsAtStart (us : List ClassUnit) (o : ObjectAtStart) : Type 0 where
   the_arguments : o ≡ object_at_start (arguments_object (program_names us)) (arguments_class (program_names us)) 0 [] → IsAtStart us o
   a_literal : (n : ℕ) → n < length (program_names us).strings → o ≡ string_at_start (program_names us) n → IsAtStart us o
 
+value_at : (ws : List ℕ) (i j v : ℕ) → i ≡ j → slice_get ws j ≡ Some v → unwrap_or (slice_get ws i) 0 ≡ v
+value_at ws i j v same found = ap (λ n. unwrap_or (slice_get ws n) 0) same ∙ ap (λ o. unwrap_or o 0) found
+
 header_class : (us : List ClassUnit) (c : ℕ) (x : Object) → x ≡ fixed_header (fixed_object (class_object_at_start (program_names us) us c)) → x.class ≡ CLASS
 header_class us c x same = ap (λ (o : Object). o.class) same
 
@@ -187,7 +190,7 @@ module _ (us : List ClassUnit) where
           let w_at : i ≡ field_place (classes_of us) w.class w.place w.member + w.part = w.at in
           let start : field_place (classes_of us) w.class w.place w.member ≡ field_place (classes_of us) c w.place w.member = ap (λ d. field_place (classes_of us) d w.place w.member) (sym same) in
           let place : i ≡ field_place (classes_of us) c w.place w.member = omega (arith, w_at, start, part) in
-          by_word v (ap (λ n. unwrap_or (slice_get (class_words_of_unit (program_names us) u) n) 0) place ∙ ap (λ o. unwrap_or o 0) found) word
+          by_word v (value_at (class_words_of_unit (program_names us) u) i (field_place (classes_of us) c w.place w.member) v place found) word
         where
           by_word : (v : ℕ) → unwrap_or (slice_get (class_words_of_unit (program_names us) u) i) 0 ≡ v → IsReferenceWord us sound.units room k u there t v
               → (unwrap_or (slice_get (class_words_of_unit (program_names us) u) i) 0 ≡ 0) ⊎ HasObject us (fixed_of us) (unwrap_or (slice_get (class_words_of_unit (program_names us) u) i) 0) t
