@@ -24,7 +24,12 @@ use Rattle.program_accept.specs.Main.{is_main, is_named, main_of_file, main_at, 
 use Rattle.type_rules.specs.VerifyRules.{method_of_file}
 use Rattle.java_sound.specs.Sound.{HasRoom}
 use Rattle.java_rows.specs.Thread.{java_code, first_state}
+use Rattle.java_rows.specs.Start.{start_of_program}
 use Rattle.sound_programs.specs.Programs.{IsMainMethod}
+use Rattle.sound_starts.specs.Starts.{RunsFit}
+use Rattle.sound_starts.proofs.Whole.{runs_fit}
+use Rattle.waiting_runs.specs.Waiting.{StuckRunsWait}
+use Rattle.waiting_runs.proofs.Waiting.{stuck_wait}
 use Rattle.sound_programs.proofs.Programs.{go_in_order}
 use Rattle.sound_programs.proofs.ThreadLaws.{programs_have_room}
 use Rattle.accepted_programs.specs.Programs.{IsSoundProgram}
@@ -65,3 +70,17 @@ has_room p files name decoded hold order is first value small =
     let (places, sound, main) = is_sound p files name decoded hold order is in
     let below : first ≤ 2 ^ 32 = omega arith in
     programs_have_room p.units places sound (subst (λ n. n ≤ 2 ^ 32) value below)
+
+pub runs_are_fit : (p : Accepted) (files : List (List ℕ)) (name : List ℕ) → AreUnits p.units → (link_rules p.units).Hold → HasOrder p.units → IsProgram files name p → (first : ℕ) → first ≡ first_free (program_names p.units) → first < 2 ^ 30
+    → RunsFit p.units (start_of_program p.units p.main)
+runs_are_fit p files name decoded hold order is first value small =
+    let (places, sound, main) = is_sound p files name decoded hold order is in
+    let below : first ≤ 2 ^ 32 = omega arith in
+    runs_fit p.units places p.main sound (subst (λ n. n ≤ 2 ^ 32) value below) main
+
+pub stuck_waits : (p : Accepted) (files : List (List ℕ)) (name : List ℕ) → AreUnits p.units → (link_rules p.units).Hold → HasOrder p.units → IsProgram files name p → (first : ℕ) → first ≡ first_free (program_names p.units) → first < 2 ^ 30
+    → StuckRunsWait p.units p.main
+stuck_waits p files name decoded hold order is first value small =
+    let (places, sound, main) = is_sound p files name decoded hold order is in
+    let below : first ≤ 2 ^ 32 = omega arith in
+    stuck_wait p.units p.main places sound (subst (λ n. n ≤ 2 ^ 32) value below) main

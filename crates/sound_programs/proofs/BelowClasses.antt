@@ -30,7 +30,7 @@ use Rattle.link_rules.proofs.Numbers.{class_count_is}
 use Rattle.link_rules.proofs.Upward.{superclasses_step}
 use Rattle.op_core.specs.OrdinaryState.{Object}
 use Rattle.java_rows.specs.Program.{is_subclass}
-use Rattle.soundness_senses.specs.Runs.{MayStandFor, ObjectFits, seen_type}
+use Rattle.soundness_senses.specs.Runs.{MayStandFor, ObjectFits}
 use Rattle.linked_operands.specs.Sound.{IsSound}
 use Rattle.linked_operands.proofs.ClassNumbers.{type_of_class}
 use Rattle.linked_operands.proofs.Hierarchy.{object_above, superinterfaces_are}

@@ -1,5 +1,5 @@
 -- Objects of Threads have the words of a Thread.
-use Rattle.std.proofs.Common.{◌≡◌, ◌<◌, ◌≤◌, ◌+◌, ◌^◌, ℕ, false, List, length, refl, arith}
+use Rattle.std.proofs.Common.{◌≡◌, ◌≤◌, ◌+◌, ◌^◌, ℕ, false, List, length, refl, arith}
 use Rattle.access_flags.specs.declared.TheConstants.{INTERFACE}
 use Rattle.builtin_facts.proofs.NativeLaws.{numbers as built_in}
 use Rattle.builtin_world.specs.Library.{library}

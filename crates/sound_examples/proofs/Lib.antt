@@ -1,0 +1,4 @@
+pub mod Decoded
+pub mod Linked
+pub mod Verified
+pub mod Whole

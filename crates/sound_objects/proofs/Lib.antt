@@ -1,0 +1,11 @@
+pub mod BuiltInWords
+pub mod TypesGoUp
+pub mod ElementTypes
+pub mod ElementClasses
+pub mod ElementWords
+pub mod FieldFacts
+pub mod FieldWords
+pub mod OneContent
+pub mod FixedRows
+pub mod FixedFit
+pub mod Whole

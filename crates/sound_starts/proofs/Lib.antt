@@ -1,0 +1,4 @@
+pub mod FieldConstants
+pub mod FirstWords
+pub mod Starts
+pub mod Whole
