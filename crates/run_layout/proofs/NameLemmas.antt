@@ -1,5 +1,5 @@
 -- Which places of objects the steps of a thread name.
-use Rattle.std.proofs.Common.{◌≡◌, ◌⊎◌, inl, inr, ℕ, ◌&&◌, not, List, [], ◌∷◌, nat_eq, length, ◌-◌, reverse, refl, subst}
+use Rattle.std.proofs.Common.{◌≡◌, ◌⊎◌, inl, inr, ℕ, ◌<◌, ◌&&◌, not, List, [], ◌∷◌, nat_eq, length, ◌-◌, reverse, refl, sym, ◌∙◌, ap, subst}
 use Rattle.std.specs.Prelude.{nat_le}
 use Rattle.op_core.specs.declared.Op.{Op}
 use Rattle.op_core.specs.declared.Op.TheVariants.{ClassOf, Read, Write, New, Enter, Exit, Wait, Rewake, Print, Start, Join, InitDone, End}
@@ -11,7 +11,7 @@ use Rattle.section_state.specs.SectionWord.{revoke_of}
 use Rattle.write_log.specs.declared.Noted.{Noted}
 use Rattle.step_port.specs.declared.step.ThreadWord.{ThreadWord}
 use Rattle.step_port.specs.declared.step.Step.{Step}
-use Rattle.step_port.specs.declared.step.Step.TheVariants.{LoadWord, SwapWord, RestoreWord, LoadMonitor, TakeMonitor, SetDepth, Release, SetHeader, StartThread, LoadThread, LookMonitor}
+use Rattle.step_port.specs.declared.step.Step.TheVariants.{LoadWord, SwapWord, RestoreWord, LoadMonitor, TakeMonitor, SetDepth, Release, SetHeader, StartThread, LoadThread, Split, LookMonitor}
 use Rattle.thread_automaton.specs.declared.Bounds.{Bounds}
 use Rattle.thread_automaton.specs.declared.Held.{Held}
 use Rattle.thread_automaton.specs.declared.Move.{Move}
@@ -67,8 +67,9 @@ Names th next g (TakeMonitor r new) = NamesMonitor next r
 Names th next g (SetDepth r new) = NamesMonitor next r ⊎ WasMarked th.marks r
 Names th next g (Release r) = NamesMonitor next r ⊎ Holds th.held r
 Names th next g (SetHeader r w) = (g ≡ Fixed (SetHeader r w)) × NamesNew next w
-Names th next g (StartThread r n) = NamesStart next r
+Names th next g (StartThread r n) = NamesStart next r × (n < 256)
 Names th next g (LoadThread (ThreadWord.Start r)) = NamesStart next r
+Names th next g (Split n r p) = next ≡ Want (Start r p)
 Names th next g (LookMonitor r) = ⊥
 Names th next g step = Unit {0}
 
@@ -99,10 +100,12 @@ module _ {S : Type 0} (code : Code S) (b : Bounds) (th : ThreadState S) where
   fixed_names next (Release q) fits = absurd fits
   fixed_names (Want (New c n)) (SetHeader r w) fits = (refl, (c, n, refl, fits))
   fixed_names next (SetHeader r w) fits = absurd fits
-  fixed_names (Want (Start r p)) (StartThread q n) fits = fits.1
+  fixed_names (Want (Start r p)) (StartThread q n) fits = (fits.1, fits.3)
   fixed_names next (StartThread q n) fits = absurd fits
   fixed_names next (LoadThread (ThreadWord.Start r)) fits = absurd fits
   fixed_names next (LoadThread (ThreadWord.Ended n)) fits = tt
+  fixed_names (Want (Start r p)) (Split n q o) fits = ap (λ m. Want (Start m p)) (sym fits.1) ∙ ap (λ m. Want (Start q m)) (sym fits.2)
+  fixed_names next (Split n r p) fits = absurd fits
   fixed_names next (LookMonitor r) fits = absurd fits
   fixed_names next step fits = tt
 

@@ -147,7 +147,7 @@ module _ {S : Type 0} (code : Code S) (b : Bounds) (is_thread : ℕ → Bool) (b
       by_step (Release q) is object (inl names) = in_object tt (of_monitor (Release q) at q (λ thread. refl) is (monitor_there is_thread objects (code.next th.local) q names all))
       by_step (Release q) is object (inr holds) = in_object tt (of_monitor (Release q) at q (λ thread. refl) is (laid.held t q th stands holds))
       by_step (SetHeader q v) is object (at_g, names) = subst (At (SetHeader q v)) is (in_block v refl (ap new_place at_g) names)
-      by_step (StartThread q n) is object names = in_object tt (of_start is_thread objects (StartThread q n) (code.next th.local) at q (λ thread so. (refl, so)) is names all)
+      by_step (StartThread q n) is object names = in_object tt (of_start is_thread objects (StartThread q n) (code.next th.local) at q (λ thread so. (refl, so)) is names.0 all)
       by_step (LoadThread (ThreadWord.Start q)) is object names =
           in_object tt (of_start is_thread objects (LoadThread (ThreadWord.Start q)) (code.next th.local) at q (λ thread so. (refl, so)) is names all)
       by_step (LoadThread (ThreadWord.Ended n)) is object names = absurd object
