@@ -199,7 +199,7 @@ module _ {S : Type 0} (code : Code S) (b : Bounds) (is_thread : ℕ → Bool) (c
     -- a thread that is handed out has the priority that was wanted for it
     split_low : (n r p : ℕ) → step ≡ Split n r p → p < 2 ^ 8
     split_low n r p sets =
-        let wants : code.next at.from.local ≡ Want (Start r p) = subst (Names at.from (code.next at.from.local) at.from.attempt) sets names in
+        let wants : code.next at.from.local ≡ Want (Start r p) = (subst (Names at.from (code.next at.from.local) at.from.attempt) sets names).0 in
         (all (Start r p) wants).0.1
 
     next_low : LowAt (suc k)

@@ -67,9 +67,10 @@ Names th next g (TakeMonitor r new) = NamesMonitor next r
 Names th next g (SetDepth r new) = NamesMonitor next r ⊎ WasMarked th.marks r
 Names th next g (Release r) = NamesMonitor next r ⊎ Holds th.held r
 Names th next g (SetHeader r w) = (g ≡ Fixed (SetHeader r w)) × NamesNew next w
-Names th next g (StartThread r n) = NamesStart next r × (n < 256)
+Names th next g (StartThread r n) = NamesStart next r × (n < 256) × (g ≡ Fixed (StartThread r n))
 Names th next g (LoadThread (ThreadWord.Start r)) = NamesStart next r
-Names th next g (Split n r p) = next ≡ Want (Start r p)
+Names th next g (LoadThread (ThreadWord.Ended n)) = g ≡ Fixed (LoadThread (ThreadWord.Ended n))
+Names th next g (Split n r p) = (next ≡ Want (Start r p)) × (g ≡ Fixed (Split n r p))
 Names th next g (LookMonitor r) = ⊥
 Names th next g step = Unit {0}
 
@@ -100,11 +101,11 @@ module _ {S : Type 0} (code : Code S) (b : Bounds) (th : ThreadState S) where
   fixed_names next (Release q) fits = absurd fits
   fixed_names (Want (New c n)) (SetHeader r w) fits = (refl, (c, n, refl, fits))
   fixed_names next (SetHeader r w) fits = absurd fits
-  fixed_names (Want (Start r p)) (StartThread q n) fits = (fits.1, fits.3)
+  fixed_names (Want (Start r p)) (StartThread q n) fits = (fits.1, fits.3, refl)
   fixed_names next (StartThread q n) fits = absurd fits
   fixed_names next (LoadThread (ThreadWord.Start r)) fits = absurd fits
-  fixed_names next (LoadThread (ThreadWord.Ended n)) fits = tt
-  fixed_names (Want (Start r p)) (Split n q o) fits = ap (λ m. Want (Start m p)) (sym fits.1) ∙ ap (λ m. Want (Start q m)) (sym fits.2)
+  fixed_names next (LoadThread (ThreadWord.Ended n)) fits = refl
+  fixed_names (Want (Start r p)) (Split n q o) fits = (ap (λ m. Want (Start m p)) (sym fits.1) ∙ ap (λ m. Want (Start q m)) (sym fits.2), refl)
   fixed_names next (Split n r p) fits = absurd fits
   fixed_names next (LookMonitor r) fits = absurd fits
   fixed_names next step fits = tt

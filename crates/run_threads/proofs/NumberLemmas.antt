@@ -52,11 +52,11 @@ module _ {S : Type 0} (code : Code S) (b : Bounds) (th : ThreadState S) where
   split_low w n r p fits makes = low_in_row (answers_are_rows code b th (Split n r p) (answer_of w (Split n r p)) fits makes tt) tt
 
 -- the numbers of a core, and those of threads that are about to be started or handed out
-record Numbers {S : Type 0} (c : Core S) : Type 0 where
-  numbered : AreNumbered c
-  drawn : (t : ℕ) (th : ThreadState S) → c.threads t ≡ Some th → number_at th.attempt ≤ c.words (Control 4)
-  apart : (t u : ℕ) (th uh : ThreadState S) → c.threads t ≡ Some th → c.threads u ≡ Some uh → 0 < number_at th.attempt → number_at th.attempt ≡ number_at uh.attempt → t ≡ u
-  unused : (t : ℕ) (th : ThreadState S) → c.threads t ≡ Some th → 0 < number_at th.attempt → c.threads (number_at th.attempt) ≡ None
+pub record Numbers {S : Type 0} (c : Core S) : Type 0 where
+  pub numbered : AreNumbered c
+  pub drawn : (t : ℕ) (th : ThreadState S) → c.threads t ≡ Some th → number_at th.attempt ≤ c.words (Control 4)
+  pub apart : (t u : ℕ) (th uh : ThreadState S) → c.threads t ≡ Some th → c.threads u ≡ Some uh → 0 < number_at th.attempt → number_at th.attempt ≡ number_at uh.attempt → t ≡ u
+  pub unused : (t : ℕ) (th : ThreadState S) → c.threads t ≡ Some th → 0 < number_at th.attempt → c.threads (number_at th.attempt) ≡ None
 
 no_number : {A : Type 0} (n : ℕ) → 0 < n → n ≡ 0 → A
 no_number n some none = absurd (no n some none)
@@ -336,7 +336,7 @@ module _ {S : Type 0} (code : Code S) (b : Bounds) (c : ℕ → Core S) (acts : 
       low m n is = omega (arith, is)
   act_numbers k (beside t step a) here at before = subst Numbers (sym at.leads) (beside_numbers (c k) step before)
 
-  numbers_at : (k : ℕ) → k ≤ length acts → Numbers (c k)
+  pub numbers_at : (k : ℕ) → k ≤ length acts → Numbers (c k)
   numbers_at k within = along code b c acts run.leads (λ n. Numbers (c n)) first_numbers (λ n act here at before. act_numbers n act here at before) k within
 
 pub threads_are_numbered : {S : Type 0} (code : Code S) → ThreadsAreNumbered code
