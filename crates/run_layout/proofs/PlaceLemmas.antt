@@ -22,7 +22,7 @@ use Rattle.thread_automaton.specs.NextMove.{next_move}
 use Rattle.automaton_rows.specs.Fits.{AttemptFits}
 use Rattle.section_laws.proofs.WordLemmas.{stays_at}
 use Rattle.section_laws.proofs.FactLemmas.{Threads}
-use Rattle.run_layout.specs.Layout.{Objects, IsPlaced}
+use Rattle.run_layout.specs.Layout.{Objects, end_of, IsPlaced}
 use Rattle.run_layout.specs.Places.{IsPlain, FitsWord, IsInObject}
 use Rattle.run_layout.proofs.NameLemmas.{NamesStart, NamesWord, NamesNew, Names, step_names}
 use Rattle.run_layout.proofs.OwnedLemmas.{new_place}
@@ -120,6 +120,20 @@ module _ (is_thread : ℕ → Bool) (objects : Objects) where
   of_start step (Want (Join r)) at q start place names all = on_start step at r q start place names (all (Join r) refl).2
   of_start step next at q start place names all = absurd names
 
+-- where objects lie apart, a word of one isn't one of another
+pub one_place : (objects : Objects) → ((r q : ℕ) (o p : Object) → objects r ≡ Some o → objects q ≡ Some p → r ≢ q → (end_of r o ≤ q) ⊎ (end_of q p ≤ r))
+    → (r q : ℕ) (o p : Object) → objects r ≡ Some o → objects q ≡ Some p → (d e : ℕ) → d < 2 + o.words → e < 2 + p.words → r + d ≡ q + e → (r ≡ q) × (d ≡ e)
+one_place objects apart r q o p there also d e low_d low_e is = elim (same_or_other r q) [
+  | inl same ↦ (same, omega (arith, same, is))
+  | inr other ↦ elim (apart r q o p there also other) [
+    | inl before ↦ absurd (too_low r q d e o.words low_d is before)
+    | inr after ↦ absurd (too_low q r e d p.words low_e (sym is) after)
+  ]
+]
+  where
+    too_low : (r q d e words : ℕ) → d < 2 + words → r + d ≡ q + e → r + 2 + words ≤ q → ⊥
+    too_low r q d e words low is before = omega (arith, low, is, before)
+
 module _ {S : Type 0} (code : Code S) (b : Bounds) (is_thread : ℕ → Bool) (begun : Objects) (w : Words) (objects : Objects) (threads : Threads S)
     (laid : Laid code b is_thread begun w objects threads) (t : ℕ) (th : ThreadState S) (stands : threads t ≡ Some th) (step : Step)
     (fits : AttemptFits th (code.next th.local) th.attempt) (makes : next_move code b th ≡ Make step) (all : NextFits is_thread objects (code.next th.local)) where
@@ -155,18 +169,8 @@ module _ {S : Type 0} (code : Code S) (b : Bounds) (is_thread : ℕ → Bool) (b
       by_step m is object names = absurd object
 
   -- a word of one object isn't one of another
-  pub one_object : (r q : ℕ) (o p : Object) → objects r ≡ Some o → objects q ≡ Some p → (d e : ℕ) → d < 2 + o.words → e < 2 + p.words → r + d ≡ q + e
-      → (r ≡ q) × (d ≡ e)
-  one_object r q o p there also d e low_d low_e is = elim (same_or_other r q) [
-    | inl same ↦ (same, omega (arith, same, is))
-    | inr other ↦ elim (laid.apart r q o p there also other) [
-      | inl before ↦ absurd (too_low r q d e o.words low_d is before)
-      | inr after ↦ absurd (too_low q r e d p.words low_e (sym is) after)
-    ]
-  ]
-    where
-      too_low : (r q d e words : ℕ) → d < 2 + words → r + d ≡ q + e → r + 2 + words ≤ q → ⊥
-      too_low r q d e words low is before = omega (arith, low, is, before)
+  pub one_object : (r q : ℕ) (o p : Object) → objects r ≡ Some o → objects q ≡ Some p → (d e : ℕ) → d < 2 + o.words → e < 2 + p.words → r + d ≡ q + e → (r ≡ q) × (d ≡ e)
+  one_object r q o p there also d e low_d low_e is = one_place objects laid.apart r q o p there also d e low_d low_e is
 
   -- a new object isn't laid over one that is there
   pub new_apart : (at r d : ℕ) (o : Object) → new_place th.attempt ≡ Some at → objects r ≡ Some o → d < 2 + o.words → at ≡ r + d → ⊥

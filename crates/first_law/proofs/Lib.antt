@@ -1,0 +1,9 @@
+pub mod StateLemmas
+pub mod OwnerLemmas
+pub mod TurnLemmas
+pub mod EntryLemmas
+pub mod UnseenLemmas
+pub mod ReplyLemmas
+pub mod NotedLemmas
+pub mod WordLemmas
+pub mod WordRows
