@@ -7,3 +7,8 @@ pub mod ReplyLemmas
 pub mod NotedLemmas
 pub mod WordLemmas
 pub mod WordRows
+pub mod ThreadRows
+pub mod JoinRows
+pub mod ClassLemmas
+pub mod ClassRows
+pub mod MonitorLemmas

@@ -3,6 +3,8 @@ use Rattle.std.specs.Prelude.{◌≡◌, ◌<◌, ◌≤◌, ◌+◌, ◌^◌, �
 use Rattle.op_core.specs.ThreadCode.{Code}
 use Rattle.op_core.specs.OrdinaryState.{Object}
 use Rattle.op_core.specs.InPlaceList.{Entry, IsInPlaceList}
+use Rattle.heap_words.specs.declared.areas.Area.{Area}
+use Rattle.heap_words.specs.Words.{class_state}
 use Rattle.thread_automaton.specs.declared.Bounds.{Bounds}
 use Rattle.core_runs.specs.Cores.{Core}
 use Rattle.core_runs.specs.Acts.{Act}
@@ -23,6 +25,8 @@ pub record IsSeenRun {S : Type 0} (code : Code S) (b : Bounds) (is_thread : ℕ 
   -- and with threads none of which has ended
   pub starts : BeginsWithStarts is_thread (c 0)
   pub ends : HasNoEnds (c 0).words
+  -- the words of classes say how far they are
+  pub class_words : (d : ℕ) → class_state ((c 0).words (Area.Class d)) ≤ 3
   pub wants : WantsFitObjects code is_thread c acts
   -- each thread object has a start word
   pub threads : (k r : ℕ) (o : Object) → k ≤ length acts → (c k).objects r ≡ Some o → is_thread o.class ≡ true → 1 < o.words

@@ -34,7 +34,7 @@ use Rattle.run_layout.proofs.FillLemmas.{loads_none, same_word, apart_new}
 use Rattle.run_layout.proofs.RunLemmas.{fits_at, known_at, laid_at}
 use Rattle.start_words.specs.Starts.{IsThreadObject, start_of}
 
-packed : (n : ℕ) → pack n 0 ≡ n
+pub packed : (n : ℕ) → pack n 0 ≡ n
 unfolding pack
 packed n = omega arith
 
