@@ -12,3 +12,7 @@ pub mod JoinRows
 pub mod ClassLemmas
 pub mod ClassRows
 pub mod MonitorLemmas
+pub mod FixedLemmas
+pub mod MonitorRows
+pub mod WaitLemmas
+pub mod EnterRows

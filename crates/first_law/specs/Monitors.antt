@@ -42,6 +42,7 @@ FixedHolds th (Want (Exit r)) (SetDepth q new) = (is_held r th.held ≡ true)
     × ((d : ℕ) × (suc (suc d) ≡ (held_as r th.held).depth) × (new ≡ held_word th.section (record (held_as r th.held) { depth = suc d })))
 FixedHolds th (Want (Exit r)) (Release q) = (is_held r th.held ≡ true) × ((held_as r th.held).depth ≡ 1)
 FixedHolds th (Want (Wait r)) (Release q) = is_held r th.held ≡ true
+FixedHolds th (Want (Op.Notify r)) step = is_held r th.held ≡ true
 FixedHolds th next step = Unit {0}
 
 -- A thread has given up a monitor exactly where it is to take it again.
