@@ -71,19 +71,19 @@ module _ {S : Type 0} (code : Code S) (b : Bounds) (is_thread : ℕ → Bool) (f
   state = ordinary code is_thread (c k)
 
   -- the object that an operation names
-  object_of : {next : Next} {step : Step} {a : StepAnswer} {change : Change} (act : Does next step a change) (op : Op) → next ≡ Want op → (r : ℕ) → (IsAllThere (c k).objects op → IsSome ((c k).objects r))
+  pub object_of : {next : Next} {step : Step} {a : StepAnswer} {change : Change} (act : Does next step a change) (op : Op) → next ≡ Want op → (r : ℕ) → (IsAllThere (c k).objects op → IsSome ((c k).objects r))
       → (o : Object) × ((c k).objects r ≡ Some o)
   object_of act op is r names = is_there ((c k).objects r) (names (all_fit code b is_thread first classes c acts run k t th act op is).1)
 
   -- what is known of a step on a monitor that was fixed
-  fixed_holds : {next : Next} {step : Step} {a : StepAnswer} {change : Change} (act : Does next step a change) → OnlyFixed next step → IsNoUndoing th.attempt
+  pub fixed_holds : {next : Next} {step : Step} {a : StepAnswer} {change : Change} (act : Does next step a change) → OnlyFixed next step → IsNoUndoing th.attempt
       → FixedHolds th next step × FixedWaits (c k) t next step
   fixed_holds {next} {step} act only calm =
       subst (λ n. FixedHolds th n step × FixedWaits (c k) t n step) act.wants
       ((fit_here code b is_thread first classes c acts run k t th act).fixed t th step act.stands (was_fixed code b th step act.move (subst (λ n. OnlyFixed n step) (sym act.wants) only) calm))
 
   -- what is known of its waits
-  waits_hold : {next : Next} {step : Step} {a : StepAnswer} {change : Change} (act : Does next step a change) → WaitsHold th next
+  pub waits_hold : {next : Next} {step : Step} {a : StepAnswer} {change : Change} (act : Does next step a change) → WaitsHold th next
   waits_hold act = subst (WaitsHold th) act.wants ((fit_here code b is_thread first classes c acts run k t th act).waits t th act.stands).0
 
   level_low : {next : Next} {step : Step} {a : StepAnswer} {change : Change} (act : Does next step a change) → (th.levels < 2 ^ 8) × (th.level < 2 ^ 8)

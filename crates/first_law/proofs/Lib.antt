@@ -16,3 +16,4 @@ pub mod FixedLemmas
 pub mod MonitorRows
 pub mod WaitLemmas
 pub mod EnterRows
+pub mod WaitRows

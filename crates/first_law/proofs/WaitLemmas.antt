@@ -53,6 +53,9 @@ waiting_parts r w is = (object r w is, state r w is)
 pub waiting_for : (r w : ℕ) → wait_object w ≡ r → wait_state w ≡ 1 → is_waiting_for r w ≡ true
 waiting_for r w object state = grind (arith, common_steps, nat_tests)
 
+pub notified_for : (r w : ℕ) → wait_object w ≡ r → wait_state w ≡ 2 → is_notified_for r w ≡ true
+notified_for r w object state = grind (arith, common_steps, nat_tests)
+
 pub notified_is : {S : Type 0} (th : ThreadState S) (w r : ℕ) → 0 < th.depth → is_notified_for r w ≡ true → waiting_in (Some th) w ≡ notified r th.depth
 notified_is th w r some is =
     let parts = notified_parts r w is in
