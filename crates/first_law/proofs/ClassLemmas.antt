@@ -68,7 +68,7 @@ class_low (LoadClass c) w d new old = old
 class_low (LoadThread which) w d new old = old
 class_low step w d new old = subst (λ m. class_state m ≤ 3) (sym (stays_at (effect_of step) w (place_of step) (Area.Class d) refl)) old
 
-beside_class : (step : Step) → is_beside step ≡ true → (w : Words) (d : ℕ) → words_after step w (Area.Class d) ≡ w (Area.Class d)
+pub beside_class : (step : Step) → is_beside step ≡ true → (w : Words) (d : ℕ) → words_after step w (Area.Class d) ≡ w (Area.Class d)
 beside_class LoadStop is w d = refl
 beside_class SetStop is w d = refl
 beside_class (LookMonitor r) is w d = refl

@@ -51,7 +51,7 @@ use Rattle.first_law.proofs.EntryLemmas.{Stance, stance, IsUsual, HasEntry, Done
 use Rattle.first_law.proofs.ReplyLemmas.{kept_entry}
 use Rattle.first_law.proofs.WordRows.{all_fit}
 use Rattle.first_law.proofs.UnseenLemmas.{forgotten_stance}
-use Rattle.first_law.proofs.FixedLemmas.{OnlyFixed, was_fixed, undo_takes_none}
+use Rattle.first_law.proofs.FixedLemmas.{OnlyFixed, was_fixed, not_undoing}
 use Rattle.first_law.proofs.WaitLemmas.{notified_is, waiting_none}
 use Rattle.first_law.proofs.MonitorRows.{Monitored, same_waiting, monitor_entry}
 use Rattle.first_law.proofs.MonitorLemmas.{fit_here, monitor_at, others_monitor, held_monitor, words_stay, starts_stay, monitors_set, taken_so}
@@ -146,7 +146,7 @@ module _ {S : Type 0} (code : Code S) (b : Bounds) (is_thread : ℕ → Bool) (f
       entry_fixed : (act : Does (Want (Rewake r)) (take_for th (Want (Rewake r)) th.section th.levels) StepAnswer.Done (takes (entry th (Want (Rewake r)) th.levels)))
           → th.attempt ≡ Fixed (take_for th (Want (Rewake r)) th.section th.levels)
       entry_fixed act = was_fixed code b th (take_for th (Want (Rewake r)) th.section th.levels) act.move tt
-          (undo_takes_none code b th (take_for th (Want (Rewake r)) th.section th.levels) act.move (λ none. none))
+          (not_undoing code b th (take_for th (Want (Rewake r)) th.section th.levels) act.move (λ is. is))
 
       rewake_notified : (act : Does (Want (Rewake r)) (take_for th (Want (Rewake r)) th.section th.levels) StepAnswer.Done (takes (entry th (Want (Rewake r)) th.levels)))
           → th.attempt ≡ Fixed (take_for th (Want (Rewake r)) th.section th.levels) → IsNotifiedFor r (state.waiting t) × (saved_count (state.waiting t) ≡ th.depth)

@@ -159,8 +159,12 @@ module _ {S : Type 0} (code : Code S) (b : Bounds) (is_thread : ℕ → Bool) (f
         → HasSameParts (ordinary code is_thread after) (ordinary_step.after code state t th.local op reply) → HasEntry step a
     event_entry op reply is_next reports usual hands can answered same = (
       event t op reply,
-      (th, act.stands, usual_shows code b (c k) t th step a (event t op reply) usual
-          (sym (ap (λ x. event_told t (code.next th.local) x) (act.told_is ∙ reports) ∙ ap (λ n. event_told t n (advanced (Some reply))) (act.wants ∙ is_next)))),
+      (
+        th,
+        act.stands,
+        usual_shows code b (c k) t th step a (event t op reply) usual
+            (sym (ap (λ x. event_told t (code.next th.local) x) (act.told_is ∙ reports) ∙ ap (λ n. event_told t n (advanced (Some reply))) (act.wants ∙ is_next))),
+      ),
       record {
         at_op = th.local;
         stands = ap (thread_in code ((c k).starting t)) act.stands ∙ stands_so code b th ((c k).starting t) step act.move hands;
@@ -189,8 +193,12 @@ module _ {S : Type 0} (code : Code S) (b : Bounds) (is_thread : ℕ → Bool) (f
     pub unseen_entry : Unseen → HasEntry step a
     unseen_entry so = (
       unseen,
-      (th, act.stands, usual_shows code b (c k) t th step a unseen so.usual
-          (sym (no_event t (code.next th.local) (told code b th step a) (subst NoReply (sym act.told_is) so.reports)))),
+      (
+        th,
+        act.stands,
+        usual_shows code b (c k) t th step a unseen so.usual
+            (sym (no_event t (code.next th.local) (told code b th step a) (subst NoReply (sym act.told_is) so.reports))),
+      ),
       leads ∙ states_ext S (ordinary code is_thread after) state same,
     )
       where

@@ -9,7 +9,7 @@ use Rattle.op_core.specs.ThreadCode.{Code, leaves_any}
 use Rattle.section_state.specs.SectionWord.{revoke_of}
 use Rattle.write_log.specs.declared.Noted.{Noted}
 use Rattle.step_port.specs.declared.step.Step.{Step}
-use Rattle.step_port.specs.declared.step.Step.TheVariants.{TakeMonitor, SetDepth, Release, LoadWait}
+use Rattle.step_port.specs.declared.step.Step.TheVariants.{RestoreWord, MarkUndone, TakeMonitor, SetDepth, Release, LoadWait}
 use Rattle.thread_automaton.specs.declared.Bounds.{Bounds}
 use Rattle.thread_automaton.specs.declared.Move.{Move}
 use Rattle.thread_automaton.specs.declared.Move.TheVariants.{Quiet, Make}
@@ -74,19 +74,22 @@ module _ {S : Type 0} (code : Code S) (b : Bounds) (th : ThreadState S) where
   fixed_of Ended Look step makes only calm = not_fixed Ended Look step makes only tt
   fixed_of Ended Checked step makes only calm = not_fixed Ended Checked step makes only tt
 
-  -- no monitor is taken while a section is undone
-  abbrev TakesNone : Step → Type 0
-  TakesNone (TakeMonitor r new) = ⊥
-  TakesNone step = Unit {0}
+  -- other steps than these aren't made while a section is undone
+  abbrev pub IsUndoStep : Step → Type 0
+  IsUndoStep (RestoreWord at old) = Unit {0}
+  IsUndoStep (SetDepth r new) = Unit {0}
+  IsUndoStep (Release r) = Unit {0}
+  IsUndoStep (MarkUndone s w) = Unit {0}
+  IsUndoStep step = ⊥
 
-  undo_takes : (s w : ℕ) (log : List Noted) (deepened taken : List Held) → TakesNone (undo_step s w log deepened taken)
-  undo_takes s w (x ∷ log) deepened taken = tt
-  undo_takes s w [] (h ∷ deepened) taken = tt
-  undo_takes s w [] [] (h ∷ taken) = tt
-  undo_takes s w [] [] [] = tt
+  undo_is : (s w : ℕ) (log : List Noted) (deepened taken : List Held) → IsUndoStep (undo_step s w log deepened taken)
+  undo_is s w (x ∷ log) deepened taken = tt
+  undo_is s w [] (h ∷ deepened) taken = tt
+  undo_is s w [] [] (h ∷ taken) = tt
+  undo_is s w [] [] [] = tt
 
-  pub undo_takes_none : (step : Step) → next_move code b th ≡ Make step → (TakesNone step → ⊥) → IsNoUndoing th.attempt
-  undo_takes_none step makes takes = by_attempt th.attempt (makes_it th.over (nat_le b.limits.turns th.counted) _ step makes)
+  pub not_undoing : (step : Step) → next_move code b th ≡ Make step → (IsUndoStep step → ⊥) → IsNoUndoing th.attempt
+  not_undoing step makes other = by_attempt th.attempt (makes_it th.over (nat_le b.limits.turns th.counted) _ step makes)
     where
       step_in : Move → Step
       step_in (Make s) = s
@@ -95,7 +98,7 @@ module _ {S : Type 0} (code : Code S) (b : Bounds) (th : ThreadState S) where
       by_attempt : (g : Attempt) → move_of code th (code.next th.local) g ≡ Make step → IsNoUndoing g
       by_attempt (Undoing w) is =
           let n = revoke_of w in let mark = mark_of th n in
-          absurd (takes (subst TakesNone (ap step_in is) (undo_takes th.section w (noted_since mark.noted th.log) (deepened_since mark th.held) (from_level n th.held))))
+          absurd (other (subst IsUndoStep (ap step_in is) (undo_is th.section w (noted_since mark.noted th.log) (deepened_since mark th.held) (from_level n th.held))))
       by_attempt g is = tt
 
   -- such a step was fixed

@@ -127,8 +127,12 @@ module _ {S : Type 0} (code : Code S) (b : Bounds) (is_thread : ℕ → Bool) (f
     pub handed_row : Seen (Split n r p) (Found w)
     handed_row = (
       unseen,
-      (th, act.stands, usual_shows code b (c k) t th (Split n r p) (Found w) unseen tt
-          (sym (no_event t (code.next th.local) (told code b th (Split n r p) (Found w)) (subst NoReply (sym act.told_is) tt)))),
+      (
+        th,
+        act.stands,
+        usual_shows code b (c k) t th (Split n r p) (Found w) unseen tt
+            (sym (no_event t (code.next th.local) (told code b th (Split n r p) (Found w)) (subst NoReply (sym act.told_is) tt))),
+      ),
       leads code b is_thread first classes c acts run k t th act ∙ states_ext S (ordinary code is_thread (after code b is_thread first classes c acts run k t th act)) state (record {
         objects = λ q. refl;
         words = λ q i. words_part code b is_thread first classes c acts run k t (Split n r p) (Found w) act.here (did_at code b is_thread first classes c acts run k t th act) (λ p. refl) q i;
@@ -152,8 +156,10 @@ module _ {S : Type 0} (code : Code S) (b : Bounds) (is_thread : ℕ → Bool) (f
 
   pub joined_row : {r n w : ℕ} → Does (Want (Join r)) (LoadThread (ThreadWord.Ended n)) (Found w) (replies Reply.Done) → nat_eq w 0 ≡ false → Seen (LoadThread (ThreadWord.Ended n)) (Found w)
   joined_row {r} {n} {w} act some =
-      kept_entry code b is_thread first classes c acts run k t th act (Join r) Reply.Done refl refl tt tt ((all_fit code b is_thread first classes c acts run k t th act (Join r) refl).1,
-      inr (subst (λ m. HasEnded (state.threads m)) (sym started) (has_ended ((c k).threads n) refl))) tt
+      kept_entry code b is_thread first classes c acts run k t th act (Join r) Reply.Done refl refl tt tt (
+        (all_fit code b is_thread first classes c acts run k t th act (Join r) refl).1,
+        inr (subst (λ m. HasEnded (state.threads m)) (sym started) (has_ended ((c k).threads n) refl)),
+      ) tt
       (keeps_load (LoadThread (ThreadWord.Ended n)) (c k).words refl) refl (λ f. refl) (λ f. refl) (λ xs. refl) (λ f. refl) refl
     where
       awaited : (0 < n) × (start_of (c k) r ≡ n)

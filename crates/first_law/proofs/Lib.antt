@@ -17,3 +17,6 @@ pub mod MonitorRows
 pub mod WaitLemmas
 pub mod EnterRows
 pub mod WaitRows
+pub mod UndoRows
+pub mod RowLemmas
+pub mod ListLemmas

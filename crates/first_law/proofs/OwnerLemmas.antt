@@ -85,12 +85,14 @@ module _ {S : Type 0} (code : Code S) (b : Bounds) (is_thread : ℕ → Bool) (f
   own_section t th there some =
       let own = (own_words_are_known code b c acts run.levelled.ordered.run run.levelled.ordered.in_bits k t th within there some).0 in
       let number = (threads_are_numbered code b c acts run.levelled.ordered.run run.levelled.numbered k within).own t th there in
-      let word : ℕ = (c k).words (Area.Section th.section) in
-      (own.owner ∙ number, elim own.state [
-        | inl live ↦ state_some word 1 live (omega arith)
-        | inr (inl turned) ↦ state_some word 3 turned (omega arith)
-        | inr (inr committed) ↦ state_some word 5 committed (omega arith)
-      ])
+      let word : ℕ = (c k).words (Area.Section th.section) in (
+        own.owner ∙ number,
+        elim own.state [
+          | inl live ↦ state_some word 1 live (omega arith)
+          | inr (inl turned) ↦ state_some word 3 turned (omega arith)
+          | inr (inr committed) ↦ state_some word 5 committed (omega arith)
+        ],
+      )
 
   module _ (monitors : MonitorsFit code (c k)) where
     -- the section of a monitor that is held

@@ -214,15 +214,15 @@ module _ {S : Type 0} (code : Code S) (b : Bounds) (is_thread : ℕ → Bool) (f
     pub start_row : Seen (StartThread r n) StepAnswer.Done
     start_row = event_entry code b is_thread first classes c acts run k t th act (Start r p) (Number n) refl refl tt tt
         ((all_fit code b is_thread first classes c acts run k t th act (Start r p) refl).1, inr (n, free_number)) (no_start, free_number) (record {
-      objects = λ q. refl;
-      words = started_words;
-      monitors = λ q. monitors_part code b is_thread first classes c acts run k t (StartThread r n) StepAnswer.Done act.here (did_at code b is_thread first classes c acts run k t th act) q
-          (λ o there. else_stays (q + 1) (λ same. not_one 1 refl (apart_of q 1 o there (omega arith) same).1));
-      waiting = λ u. waiting_part code b is_thread first classes c acts run k t (StartThread r n) StepAnswer.Done act.here (did_at code b is_thread first classes c acts run k t th act)
-          (depth_is code b is_thread first classes c acts run k t th act) (λ u. stays_at (effect_of (StartThread r n)) (c k).words (Area.Object (r + 3)) (Area.Wait u) refl) u;
-      classes = λ d. classes_part code b is_thread first classes c acts run k t (StartThread r n) StepAnswer.Done act.here (did_at code b is_thread first classes c acts run k t th act)
-          (λ d. stays_at (effect_of (StartThread r n)) (c k).words (Area.Object (r + 3)) (Area.Class d) refl) d;
-      starts = started_starts;
-      threads = started_threads;
-      lines = refl;
-    })
+          objects = λ q. refl;
+          words = started_words;
+          monitors = λ q. monitors_part code b is_thread first classes c acts run k t (StartThread r n) StepAnswer.Done act.here (did_at code b is_thread first classes c acts run k t th act) q
+              (λ o there. else_stays (q + 1) (λ same. not_one 1 refl (apart_of q 1 o there (omega arith) same).1));
+          waiting = λ u. waiting_part code b is_thread first classes c acts run k t (StartThread r n) StepAnswer.Done act.here (did_at code b is_thread first classes c acts run k t th act)
+              (depth_is code b is_thread first classes c acts run k t th act) (λ u. stays_at (effect_of (StartThread r n)) (c k).words (Area.Object (r + 3)) (Area.Wait u) refl) u;
+          classes = λ d. classes_part code b is_thread first classes c acts run k t (StartThread r n) StepAnswer.Done act.here (did_at code b is_thread first classes c acts run k t th act)
+              (λ d. stays_at (effect_of (StartThread r n)) (c k).words (Area.Object (r + 3)) (Area.Class d) refl) d;
+          starts = started_starts;
+          threads = started_threads;
+          lines = refl;
+        })

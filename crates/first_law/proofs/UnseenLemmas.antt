@@ -41,7 +41,7 @@ forgotten_stance z = by_if (λ x. stance x ≡ stance z) (is_open z) z (record z
 
 module _ {S : Type 0} (code : Code S) (th : ThreadState S) where
   -- an attempt after a pin hands nothing out
-  pin_goes : (next : Next) → (shown (goes (behind_pin th next)) ≡ None) × ((l : S) → place_in code l (behind_pin th next) ≡ l)
+  pub pin_goes : (next : Next) → (shown (goes (behind_pin th next)) ≡ None) × ((l : S) → place_in code l (behind_pin th next) ≡ l)
   pin_goes (Want (Exit r)) = (refl, λ l. refl)
   pin_goes (Want (Wait r)) = (refl, λ l. refl)
   pin_goes (Want (Op.Notify r)) = (refl, λ l. refl)
@@ -49,7 +49,7 @@ module _ {S : Type 0} (code : Code S) (th : ThreadState S) where
   pin_goes (Want (Init c)) = (refl, λ l. refl)
   pin_goes next = (refl, λ l. refl)
 
-  to_pin_goes : (next : Next) → (shown (goes (to_pin th next)) ≡ None) × ((l : S) → place_in code l (to_pin th next) ≡ l)
+  pub to_pin_goes : (next : Next) → (shown (goes (to_pin th next)) ≡ None) × ((l : S) → place_in code l (to_pin th next) ≡ l)
   to_pin_goes next = by_if (λ g. (shown (goes g) ≡ None) × ((l : S) → place_in code l g ≡ l)) (is_open th) (Fixed (own_pin th)) (behind_pin th next) (λ _. (refl, λ l. refl)) (λ _. pin_goes next)
 
 -- the steps that a lost exchange can be
@@ -156,3 +156,25 @@ module _ {S : Type 0} (code : Code S) (b : Bounds) (is_thread : ℕ → Bool) (f
     lines = lines;
     threads = threads;
   })
+
+  -- the same where what isn't needed any more may be forgotten
+  pub forgets_row : {next : Next} {step : Step} {a : StepAnswer} {change : Change} (act : Act next step a change) (z : ThreadState S) → changed code th change ≡ forgotten z
+      → NoReply (told_of next step a change (shown change)) → IsUsual th.attempt step → HandsNone step → Keeps (c k).words (words_after step (c k).words)
+      → stance z ≡ record (stance th) { attempt = z.attempt } → ((l : S) → place_in code l z.attempt ≡ l) → ((f : ℕ → Option Object) → objects_by code step th.local next f ≡ f)
+      → ((f : ℕ → Option S) → starting_by code step a th.local f ≡ f) → ((xs : List Line) → lines_by step next xs ≡ xs)
+      → ((f : ℕ → Option (ThreadState S)) → threads_by code step th.local f ≡ f) → Seen step a
+  forgets_row {change = change} act z is reports usual hands keeps same place objects starting lines threads =
+      goes_row act reports usual hands keeps (then_is ∙ ap (λ g. record (stance th) { attempt = g }) (sym (ap (λ (x : Stance S). x.attempt) then_is)))
+      (λ l. ap (place_in code l) (ap (λ (x : Stance S). x.attempt) then_is) ∙ place l) objects starting lines threads
+    where
+      then_is : stance (changed code th change) ≡ record (stance th) { attempt = z.attempt }
+      then_is = ap stance is ∙ forgotten_stance z ∙ same
+
+  -- after a load the own section is to be pinned first
+  pub pin_row : {next : Next} {step : Step} {w : ℕ} (act : Act next step (Found w) (goes (to_pin th next))) → effect_of step ≡ Load
+      → NoReply (told_of next step (Found w) (goes (to_pin th next)) None) → IsUsual th.attempt step → HandsNone step
+      → ((f : ℕ → Option Object) → objects_by code step th.local next f ≡ f) → ((f : ℕ → Option S) → starting_by code step (Found w) th.local f ≡ f)
+      → ((xs : List Line) → lines_by step next xs ≡ xs) → ((f : ℕ → Option (ThreadState S)) → threads_by code step th.local f ≡ f) → Seen step (Found w)
+  pin_row {next} {step} {w} act load reports usual hands objects starting lines threads =
+      let goes_so = to_pin_goes code th next in
+      goes_row act (subst (λ x. NoReply (told_of next step (Found w) (goes (to_pin th next)) x)) (sym goes_so.0) reports) usual hands (keeps_load step (c k).words load) refl goes_so.1 objects starting lines threads

@@ -58,7 +58,7 @@ use Rattle.first_law.proofs.EntryLemmas.{Stance, stance, IsUsual, HasEntry, Done
 use Rattle.first_law.proofs.ReplyLemmas.{kept_entry}
 use Rattle.first_law.proofs.WordRows.{all_fit}
 use Rattle.first_law.proofs.UnseenLemmas.{forgotten_stance}
-use Rattle.first_law.proofs.FixedLemmas.{OnlyFixed, was_fixed, undo_takes_none}
+use Rattle.first_law.proofs.FixedLemmas.{OnlyFixed, was_fixed}
 use Rattle.first_law.proofs.WaitLemmas.{object_in, state_in, object_low, waiting_none, waiting_parts, waiting_for, notified_for, notified_is, waiting_is}
 use Rattle.first_law.proofs.EnterRows.{object_of, fixed_holds, waits_hold}
 use Rattle.first_law.proofs.StateLemmas.{differs}
@@ -159,14 +159,16 @@ module _ {S : Type 0} (code : Code S) (b : Bounds) (is_thread : ℕ → Bool) (f
   pub nobody_row : {r n w : ℕ} → Does (Want (Op.Notify r)) (LoadWait n) (Found w) (replies (Woken 0)) → IsNoUndoing th.attempt → is_waiting_for r w ≡ false → n ≡ 255 → Seen (LoadWait n) (Found w)
   nobody_row {r} {n} {w} act calm other last =
       let known = fixed_holds code b is_thread first classes c acts run k t th act tt calm in
-      kept_entry code b is_thread first classes c acts run k t th act (Op.Notify r) (Woken 0) refl refl tt tt (all_fit code b is_thread first classes c acts run k t th act (Op.Notify r) refl).1
-      (owns_it act known.0, λ u waiting. elim (leb_tells n u) [
-        | inl high ↦ elim (same_or_other u n) [
-          | inl here ↦ not_waiting act r u (ap (is_waiting_for r) (ap (λ m. (c k).words (Area.Wait m)) here ∙ sym (found_is w ((c k).words (Area.Wait n)) act.answered)) ∙ other) waiting
-          | inr away ↦ none_above act r u (above u n high.1 away last) waiting
-        ]
-        | inr low ↦ known.1 u low.1 waiting
-      ])
+      kept_entry code b is_thread first classes c acts run k t th act (Op.Notify r) (Woken 0) refl refl tt tt (all_fit code b is_thread first classes c acts run k t th act (Op.Notify r) refl).1 (
+        owns_it act known.0,
+        λ u waiting. elim (leb_tells n u) [
+          | inl high ↦ elim (same_or_other u n) [
+            | inl here ↦ not_waiting act r u (ap (is_waiting_for r) (ap (λ m. (c k).words (Area.Wait m)) here ∙ sym (found_is w ((c k).words (Area.Wait n)) act.answered)) ∙ other) waiting
+            | inr away ↦ none_above act r u (above u n high.1 away last) waiting
+          ]
+          | inr low ↦ known.1 u low.1 waiting
+        ],
+      )
       (keeps_load (LoadWait n) (c k).words refl) refl (λ f. refl) (λ f. refl) (λ xs. refl) (λ f. refl) refl
     where
       above : (u n : ℕ) → n ≤ u → u ≢ n → n ≡ 255 → 256 ≤ u
@@ -235,17 +237,17 @@ module _ {S : Type 0} (code : Code S) (b : Bounds) (is_thread : ℕ → Bool) (f
     pub woken_row : Seen (Step.Notify (suc n) w) StepAnswer.Done
     woken_row = event_entry code b is_thread first classes c acts run k t th act (Op.Notify r) (Woken (suc n)) refl refl tt tt (all_fit code b is_thread first classes c acts run k t th act (Op.Notify r) refl).1
         (owns_it act seen_so.0, (subst (IsWaitingFor r) (sym was_waiting) refl, λ u low. seen_so.1.0 u (omega (arith, low)))) (record {
-      objects = λ q. refl;
-      words = λ q i. words_part code b is_thread first classes c acts run k t notify StepAnswer.Done act.here (did_at code b is_thread first classes c acts run k t th act) object q i;
-      monitors = λ q. monitors_part code b is_thread first classes c acts run k t notify StepAnswer.Done act.here (did_at code b is_thread first classes c acts run k t th act) q (λ o there. object (q + 1));
-      waiting = woken_waiting;
-      classes = λ d. classes_part code b is_thread first classes c acts run k t notify StepAnswer.Done act.here (did_at code b is_thread first classes c acts run k t th act)
-          (λ d. stays_at (effect_of notify) (c k).words (Area.Wait (suc n)) (Area.Class d) refl) d;
-      starts = λ q. starts_part code b is_thread first classes c acts run k t notify StepAnswer.Done act.here (did_at code b is_thread first classes c acts run k t th act) object q;
-      threads = λ u. threads_part code b is_thread first classes c acts run k t notify StepAnswer.Done act.here (did_at code b is_thread first classes c acts run k t th act) (live (code.reply th.local (Woken (suc n))))
-          (then_live code b is_thread first classes c acts run k t th act ((c k).starting t) (code.reply th.local (Woken (suc n))) (live_from code b is_thread first classes c acts run k t th act) refl) u;
-      lines = refl;
-    })
+          objects = λ q. refl;
+          words = λ q i. words_part code b is_thread first classes c acts run k t notify StepAnswer.Done act.here (did_at code b is_thread first classes c acts run k t th act) object q i;
+          monitors = λ q. monitors_part code b is_thread first classes c acts run k t notify StepAnswer.Done act.here (did_at code b is_thread first classes c acts run k t th act) q (λ o there. object (q + 1));
+          waiting = woken_waiting;
+          classes = λ d. classes_part code b is_thread first classes c acts run k t notify StepAnswer.Done act.here (did_at code b is_thread first classes c acts run k t th act)
+              (λ d. stays_at (effect_of notify) (c k).words (Area.Wait (suc n)) (Area.Class d) refl) d;
+          starts = λ q. starts_part code b is_thread first classes c acts run k t notify StepAnswer.Done act.here (did_at code b is_thread first classes c acts run k t th act) object q;
+          threads = λ u. threads_part code b is_thread first classes c acts run k t notify StepAnswer.Done act.here (did_at code b is_thread first classes c acts run k t th act) (live (code.reply th.local (Woken (suc n))))
+              (then_live code b is_thread first classes c acts run k t th act ((c k).starting t) (code.reply th.local (Woken (suc n))) (live_from code b is_thread first classes c acts run k t th act) refl) u;
+          lines = refl;
+        })
       where
         object : (p : ℕ) → words_after (Step.Notify (suc n) w) (c k).words (Area.Object p) ≡ (c k).words (Area.Object p)
         object p = stays_at (effect_of (Step.Notify (suc n) w)) (c k).words (Area.Wait (suc n)) (Area.Object p) refl

@@ -245,7 +245,7 @@ module _ {S : Type 0} (code : Code S) (b : Bounds) (is_thread : ℕ → Bool) (f
     is_made : IsNewObject b c k r made
     is_made =
         let so = is_new code b is_thread c acts (laid code b is_thread first classes c acts run) k t (SetHeader r (pack_header m n)) StepAnswer.Done act.here (did_at code b is_thread first classes c acts run k t th act)
-            r (pack_header m n) refl in
+        r (pack_header m n) refl in
         let same = same_new so.0 so.1 (sym so.2 ∙ act.wants) in
         subst (λ j. IsNewObject b c k r (record { class = m; length = j; words = code.words th.local m j })) same.1
         (subst (λ j. IsNewObject b c k r (record { class = j; length = so.1; words = code.words th.local j so.1 })) same.0 so.3)
@@ -344,15 +344,15 @@ module _ {S : Type 0} (code : Code S) (b : Bounds) (is_thread : ℕ → Bool) (f
     new_row = event_entry code b is_thread first classes c acts run k t th act (New m n) (Made r) refl refl tt tt tt
         (let from = is_made.first in let heap = run.heap in let last = is_made.last in
         (omega (arith, from, heap), omega (arith, last, heap), ap is_some is_made.none)) (record {
-      objects = objects_then;
-      words = new_words;
-      monitors = new_monitors;
-      waiting = λ u. waiting_part code b is_thread first classes c acts run k t (SetHeader r (pack_header m n)) StepAnswer.Done act.here (did_at code b is_thread first classes c acts run k t th act)
-          (depth_is code b is_thread first classes c acts run k t th act) (λ u. refl) u;
-      classes = λ d. refl;
-      starts = new_starts;
-      threads = λ u. threads_part code b is_thread first classes c acts run k t (SetHeader r (pack_header m n)) StepAnswer.Done act.here (did_at code b is_thread first classes c acts run k t th act)
-          (live (code.reply th.local (Made r))) (then_live code b is_thread first classes c acts run k t th act ((c k).starting t) (code.reply th.local (Made r))
-          (live_from code b is_thread first classes c acts run k t th act) refl) u;
-      lines = refl;
-    })
+          objects = objects_then;
+          words = new_words;
+          monitors = new_monitors;
+          waiting = λ u. waiting_part code b is_thread first classes c acts run k t (SetHeader r (pack_header m n)) StepAnswer.Done act.here (did_at code b is_thread first classes c acts run k t th act)
+              (depth_is code b is_thread first classes c acts run k t th act) (λ u. refl) u;
+          classes = λ d. refl;
+          starts = new_starts;
+          threads = λ u. threads_part code b is_thread first classes c acts run k t (SetHeader r (pack_header m n)) StepAnswer.Done act.here (did_at code b is_thread first classes c acts run k t th act)
+              (live (code.reply th.local (Made r))) (then_live code b is_thread first classes c acts run k t th act ((c k).starting t) (code.reply th.local (Made r))
+              (live_from code b is_thread first classes c acts run k t th act) refl) u;
+          lines = refl;
+        })
