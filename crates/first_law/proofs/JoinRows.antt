@@ -1,60 +1,42 @@
 -- Acts that hand a thread out, that wait for a thread's end, and that end one.
-use Rattle.std.proofs.Common.{◌≡◌, ◌≢◌, ◌⊎◌, inl, inr, ℕ, suc, ◌+◌, ◌<◌, ◌≤◌, ◌^◌, nat_eq, Bool, true, false, Option, None, Some, List, [], ◌∷◌, ◌++◌, length, refl, sym, ◌∙◌, ap, subst, arith}
-use Rattle.std.specs.Prelude.{IsSome, slice_get, if◌then◌else◌}
+use Rattle.std.proofs.Common.{◌≡◌, ◌≢◌, inl, inr, ℕ, ◌<◌, nat_eq, Bool, true, false, Option, None, Some, List, refl, sym, ◌∙◌, ap, subst, arith}
+use Rattle.std.specs.Prelude.{if◌then◌else◌}
 use Rattle.std.proofs.lemmas.Grind.{common_steps}
 use Rattle.std.proofs.lemmas.Bool.Decides.{nat_tests}
-use Rattle.std.proofs.lemmas.Option.{same_Some}
-use Rattle.op_core.specs.declared.Line.{Line}
-use Rattle.op_core.specs.declared.Op.{Op}
-use Rattle.op_core.specs.declared.Op.TheVariants.{Print, Start, Join, End}
+use Rattle.op_core.specs.declared.Op.TheVariants.{Start, Join, End}
 use Rattle.op_core.specs.declared.Reply.{Reply}
-use Rattle.op_core.specs.declared.Reply.TheVariants.{Already, Number}
+use Rattle.op_core.specs.declared.Reply.TheVariants.{Number}
 use Rattle.op_core.specs.declared.Next.{Next}
 use Rattle.op_core.specs.declared.Next.TheVariants.{Want}
 use Rattle.op_core.specs.ThreadCode.{Code}
-use Rattle.op_core.specs.OrdinaryState.{set_at, Object, unused, live, ended, HasEnded, OrdinaryState}
-use Rattle.op_core.specs.OrdinaryStep.{IsFreeNumber}
+use Rattle.op_core.specs.OrdinaryState.{set_at, live, ended, HasEnded, OrdinaryState}
 use Rattle.op_core.specs.InPlaceList.{unseen}
-use Rattle.op_core.specs.Laws.{HasSameParts}
 use Rattle.op_core.proofs.ExecutionLemmas.{states_ext}
 use Rattle.op_core.proofs.PointwiseLemmas.{same_or_other, set_at-hit, set_at-other}
 use Rattle.heap_words.specs.declared.areas.Area.{Area}
-use Rattle.heap_words.specs.Words.{pack, value_of}
 use Rattle.step_port.specs.declared.answer.StepAnswer.{StepAnswer}
 use Rattle.step_port.specs.declared.answer.StepAnswer.TheVariants.{Found}
 use Rattle.step_port.specs.declared.step.ThreadWord.{ThreadWord}
 use Rattle.step_port.specs.declared.step.Step.{Step}
-use Rattle.step_port.specs.declared.step.Step.TheVariants.{Ticket, StartThread, EndThread, LoadThread, Split}
-use Rattle.step_port.specs.Steps.{effect_of}
-use Rattle.step_port.specs.Words.{Words, answer_of, words_after}
-use Rattle.ordinary_words.specs.Reading.{word_in, start_in, monitor_in}
+use Rattle.step_port.specs.declared.step.Step.TheVariants.{EndThread, LoadThread, Split}
 use Rattle.thread_automaton.specs.declared.Bounds.{Bounds}
-use Rattle.thread_automaton.specs.declared.Attempt.{Attempt}
 use Rattle.thread_automaton.specs.declared.Attempt.TheVariants.{Fixed}
 use Rattle.thread_automaton.specs.ThreadState.{ThreadState, first_state}
-use Rattle.thread_automaton.specs.Changes.{Change, goes, replies, prints, ends}
+use Rattle.thread_automaton.specs.Changes.{Change, replies, ends}
 use Rattle.thread_automaton.specs.Told.{told, after_answer}
 use Rattle.automaton_rows.specs.Fits.{AttemptFits}
-use Rattle.core_runs.specs.Cores.{Core, lines_by}
+use Rattle.core_runs.specs.Cores.{Core}
 use Rattle.core_runs.specs.Acts.{Act}
 use Rattle.core_runs.specs.Reading.{end_wanted, place_in, waiting_in, thread_in, ordinary}
-use Rattle.section_laws.proofs.WordLemmas.{exchanged, stays_at}
 use Rattle.section_laws.proofs.ClaimLemmas.{none_some, found_is}
 use Rattle.section_laws.proofs.NumberLemmas.{number_at}
 use Rattle.run_threads.specs.Ends.{end_word}
-use Rattle.run_threads.proofs.NumberLemmas.{Numbers, numbers_at}
 use Rattle.run_threads.proofs.EndLemmas.{ends_are_known}
-use Rattle.run_layout.proofs.LaidLemmas.{is_such}
-use Rattle.run_layout.proofs.NameLemmas.{Names, step_names}
-use Rattle.run_layout.proofs.PlaceLemmas.{object_other, put_object, one_place}
-use Rattle.start_words.specs.Starts.{IsThreadObject, start_of, StartsAreKnown}
-use Rattle.start_words.proofs.WordLemmas.{packed, value_low, above_zero}
-use Rattle.start_words.proofs.RunLemmas.{starts_at}
-use Rattle.level_saves.proofs.SaveLemmas.{stands_so, is_live}
+use Rattle.start_words.specs.Starts.{start_of}
+use Rattle.level_saves.proofs.SaveLemmas.{is_live}
 use Rattle.first_law.specs.InPlace.{IsSeenRun}
-use Rattle.first_law.proofs.StateLemmas.{word_kept, start_kept, start_is}
-use Rattle.first_law.proofs.TurnLemmas.{Keeps, keeps_load, laid, within, up, known, words_part, starts_part, monitors_part, waiting_part, classes_part, threads_part, stays_part}
-use Rattle.first_law.proofs.EntryLemmas.{NoReply, HasEntry, Done, did_at, after, live_from, then_live, over_is, local_is, attempt_is, depth_is, event_entry, leads, usual_shows, no_event}
+use Rattle.first_law.proofs.TurnLemmas.{keeps_load, known, words_part, starts_part, monitors_part, waiting_part, threads_part, stays_part}
+use Rattle.first_law.proofs.EntryLemmas.{NoReply, HasEntry, Done, did_at, after, live_from, then_live, over_is, local_is, depth_is, event_entry, leads, usual_shows, no_event}
 use Rattle.first_law.proofs.ReplyLemmas.{kept_entry}
 use Rattle.first_law.proofs.WordRows.{all_fit}
 use Rattle.first_law.proofs.ThreadRows.{zero_is, low, starts, numbers, names, start_value, joined}

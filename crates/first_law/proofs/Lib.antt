@@ -20,3 +20,5 @@ pub mod WaitRows
 pub mod UndoRows
 pub mod RowLemmas
 pub mod ListLemmas
+pub mod RestLemmas
+pub mod GroundedLemmas

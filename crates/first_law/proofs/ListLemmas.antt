@@ -1,11 +1,10 @@
 -- The acts of a run show entries, which are an in-place list.
-use Rattle.std.proofs.Common.{◌≡◌, ◌≢◌, nat_eq, Option, ℕ, suc, ◌+◌, ◌<◌, ◌≤◌, Bool, true, false, Some, List, [], ◌∷◌, length, refl, sym, ◌∙◌, ap, subst, arith}
+use Rattle.std.proofs.Common.{◌≡◌, ◌≢◌, nat_eq, Option, ℕ, suc, ◌+◌, Bool, true, false, Some, List, [], ◌∷◌, length, refl, sym, ◌∙◌, ap, subst, arith}
 use Rattle.std.specs.Prelude.{slice_get, nat_le, if◌then◌else◌}
 use Rattle.std.proofs.lemmas.Option.{slice_get_within}
 use Rattle.op_core.specs.declared.Limit.TheVariants.{Turns}
 use Rattle.op_core.specs.declared.Next.{Next}
-use Rattle.op_core.specs.declared.Next.TheVariants.{Silent, Want, Ended}
-use Rattle.op_core.specs.ThreadCode.{Code, quiet_step}
+use Rattle.op_core.specs.ThreadCode.{Code}
 use Rattle.op_core.specs.OrdinaryState.{set_at, Object, live, ended, OrdinaryState}
 use Rattle.op_core.specs.InPlaceList.{Entry, silent, unseen, with_thread, FitsAt, FitFrom}
 use Rattle.op_core.proofs.ExecutionLemmas.{states_ext}
@@ -35,11 +34,11 @@ use Rattle.core_runs.specs.Acts.{Act, quiet, did, beside, QuietAt, DidAt, Beside
 use Rattle.core_runs.specs.Entries.{Shows, ShowFrom}
 use Rattle.core_runs.specs.Reading.{end_wanted, place_in, waiting_in, thread_in, ordinary}
 use Rattle.section_laws.proofs.WordLemmas.{stays_at}
-use Rattle.section_laws.proofs.RunLemmas.{act_at, facts_at}
+use Rattle.section_laws.proofs.RunLemmas.{facts_at}
 use Rattle.own_sections.proofs.MoveLemmas.{moves_at}
 use Rattle.run_layout.proofs.RunLemmas.{beside_object}
 use Rattle.first_law.specs.InPlace.{IsSeenRun, RunsAreInPlace}
-use Rattle.first_law.proofs.StateLemmas.{equal, word_kept, start_kept, monitor_kept}
+use Rattle.first_law.proofs.StateLemmas.{word_kept, start_kept, monitor_kept}
 use Rattle.first_law.proofs.OwnerLemmas.{owner_kept, held_section}
 use Rattle.first_law.proofs.ClassLemmas.{beside_class}
 use Rattle.first_law.proofs.RowLemmas.{rows}

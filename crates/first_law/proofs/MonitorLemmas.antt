@@ -1,5 +1,5 @@
 -- A monitor gets another owner or depth, and every other part of the ordinary state that words stand for stays.
-use Rattle.std.proofs.Common.{◌≡◌, ◌≢◌, ◌⊎◌, inl, inr, ℕ, zero, suc, ◌+◌, ◌<◌, ◌≤◌, ◌^◌, nat_eq, Bool, true, false, Option, None, Some, List, length, refl, sym, ◌∙◌, ap, subst, arith}
+use Rattle.std.proofs.Common.{◌≡◌, ◌≢◌, inl, inr, ℕ, ◌+◌, ◌<◌, ◌≤◌, nat_eq, Bool, true, false, Some, List, length, refl, sym, ◌∙◌, ap, subst, arith}
 use Rattle.std.specs.Prelude.{if◌then◌else◌}
 use Rattle.std.proofs.lemmas.Grind.{common_steps}
 use Rattle.std.proofs.lemmas.Bool.Decides.{nat_tests}
@@ -14,8 +14,7 @@ use Rattle.section_state.specs.SectionWord.{owner_of}
 use Rattle.monitor_core.specs.Monitors.{monitor_section, monitor_depth, is_own}
 use Rattle.step_port.specs.declared.answer.StepAnswer.{StepAnswer}
 use Rattle.step_port.specs.declared.step.Step.{Step}
-use Rattle.step_port.specs.Steps.{place_of, effect_of}
-use Rattle.step_port.specs.Words.{Words, words_after}
+use Rattle.step_port.specs.Words.{Words}
 use Rattle.ordinary_words.specs.Reading.{word_in, start_in, monitor_of, monitor_in}
 use Rattle.thread_automaton.specs.declared.Bounds.{Bounds}
 use Rattle.thread_automaton.specs.declared.Held.{Held}
@@ -26,14 +25,13 @@ use Rattle.automaton_rows.specs.Undoing.{is_held}
 use Rattle.core_runs.specs.Cores.{Core}
 use Rattle.core_runs.specs.Acts.{Act}
 use Rattle.core_runs.specs.Reading.{ordinary}
-use Rattle.section_laws.proofs.WordLemmas.{stays_at}
-use Rattle.run_layout.proofs.PlaceLemmas.{object_other, one_place}
+use Rattle.run_layout.proofs.PlaceLemmas.{one_place}
 use Rattle.first_law.specs.Monitors.{FitsWord, MonitorsFit}
 use Rattle.first_law.specs.InPlace.{IsSeenRun}
 use Rattle.first_law.proofs.StateLemmas.{differs, word_kept, start_kept, monitor_kept}
 use Rattle.first_law.proofs.OwnerLemmas.{section_is, not_free, own_section, section_held, depth_held, some_held}
 use Rattle.first_law.proofs.OwnerLemmas as owners
-use Rattle.first_law.proofs.TurnLemmas.{up, monitors, monitors_part}
+use Rattle.first_law.proofs.TurnLemmas.{up, monitors}
 use Rattle.first_law.proofs.EntryLemmas.{Done, did_at}
 use Rattle.first_law.proofs.WordRows.{layout, has_start}
 

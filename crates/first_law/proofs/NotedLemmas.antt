@@ -1,5 +1,5 @@
 -- What threads have logged was so at an earlier place of the run.
-use Rattle.std.proofs.Common.{◌≡◌, inl, inr, ℕ, suc, ◌<◌, ◌≤◌, Bool, Some, List, length, refl, sym, ◌∙◌, ap, subst, arith}
+use Rattle.std.proofs.Common.{◌≡◌, inl, inr, ℕ, suc, ◌<◌, ◌≤◌, Bool, Some, List, length, sym, ◌∙◌, ap, subst, arith}
 use Rattle.std.specs.Prelude.{slice_get}
 use Rattle.std.proofs.lemmas.Option.{slice_get_within}
 use Rattle.op_core.specs.ThreadCode.{Code}
@@ -7,9 +7,8 @@ use Rattle.op_core.specs.OrdinaryState.{set_at}
 use Rattle.heap_words.specs.declared.areas.Area.{Area}
 use Rattle.write_log.specs.declared.Noted.{Noted}
 use Rattle.step_port.specs.declared.answer.StepAnswer.{StepAnswer}
-use Rattle.step_port.specs.declared.answer.StepAnswer.TheVariants as answers
 use Rattle.step_port.specs.declared.step.Step.{Step}
-use Rattle.step_port.specs.declared.step.Step.TheVariants.{SwapWord, Split}
+use Rattle.step_port.specs.declared.step.Step.TheVariants.{Split}
 use Rattle.step_port.specs.Words.{answer_of}
 use Rattle.thread_automaton.specs.declared.Bounds.{Bounds}
 use Rattle.thread_automaton.specs.ThreadState.{ThreadState, first_state}

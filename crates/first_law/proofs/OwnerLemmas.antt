@@ -1,16 +1,13 @@
 -- Who owns the section that holds a monitor.
-use Rattle.std.proofs.Common.{◌≡◌, ◌≢◌, inl, inr, ℕ, ◌+◌, ◌*◌, ◌-◌, ◌/◌, ◌%◌, ◌<◌, ◌≤◌, ◌^◌, Bool, true, false, Some, List, length, refl, sym, ◌∙◌, ap, subst, arith}
+use Rattle.std.proofs.Common.{◌≡◌, ◌≢◌, inl, inr, ℕ, ◌+◌, ◌-◌, ◌<◌, ◌≤◌, ◌^◌, Bool, true, false, Some, List, length, sym, ◌∙◌, ap, subst, arith}
 use Rattle.std.specs.Prelude.{nat_le, if◌then◌else◌}
 use Rattle.op_core.specs.ThreadCode.{Code}
 use Rattle.op_core.specs.OrdinaryState.{Object}
 use Rattle.heap_words.specs.declared.areas.Area.{Area}
-use Rattle.section_state.specs.declared.State.TheVariants.{Live}
-use Rattle.section_state.specs.SectionWord.{number_of, state_of, owner_of, revoke_of, with_state, with_pinned, with_depth, with_revoke, opened_of, revoked_of, committed_of, undone_of}
+use Rattle.section_state.specs.SectionWord.{state_of, owner_of, revoke_of, with_state, with_pinned, with_depth, with_revoke, undone_of}
 use Rattle.monitor_core.specs.Monitors.{monitor_word, monitor_section, monitor_depth}
 use Rattle.thread_automaton.specs.declared.Bounds.{Bounds}
-use Rattle.thread_automaton.specs.declared.Held.{Held}
 use Rattle.thread_automaton.specs.ThreadState.{ThreadState, held_as}
-use Rattle.thread_automaton.specs.NextMove.{held_word}
 use Rattle.automaton_rows.specs.Undoing.{is_held}
 use Rattle.core_runs.specs.Cores.{Core}
 use Rattle.core_runs.specs.Acts.{Act}
@@ -18,7 +15,7 @@ use Rattle.section_laws.proofs.WordLemmas.{state_of_zero}
 use Rattle.own_sections.specs.Moves.{Move}
 use Rattle.own_sections.proofs.MoveLemmas.{own_words_are_known}
 use Rattle.run_threads.proofs.NumberLemmas.{threads_are_numbered}
-use Rattle.first_law.specs.Monitors.{FitsWord, MonitorsFit}
+use Rattle.first_law.specs.Monitors.{MonitorsFit}
 use Rattle.first_law.specs.InPlace.{IsSeenRun}
 
 -- ---- words of monitors

@@ -1,5 +1,5 @@
 -- Acts that answer an operation and change nothing else.
-use Rattle.std.proofs.Common.{◌≡◌, ℕ, ◌+◌, Bool, Option, Some, List, refl, sym, ◌∙◌, ap, subst}
+use Rattle.std.proofs.Common.{◌≡◌, ℕ, ◌+◌, Bool, Option, Some, List, ◌∙◌, ap, subst}
 use Rattle.op_core.specs.declared.Line.{Line}
 use Rattle.op_core.specs.declared.Op.{Op}
 use Rattle.op_core.specs.declared.Reply.{Reply}

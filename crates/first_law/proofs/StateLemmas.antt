@@ -1,9 +1,9 @@
 -- The parts of ordinary states that words stand for, where words stay.
-use Rattle.std.proofs.Common.{◌≡◌, ◌≢◌, ℕ, ◌+◌, ◌&&◌, ◌<◌, Bool, true, false, Option, None, Some, nat_eq, refl, sym, ◌∙◌, ap, arith}
+use Rattle.std.proofs.Common.{◌≡◌, ◌≢◌, ℕ, ◌+◌, ◌&&◌, ◌<◌, Bool, true, false, Option, None, Some, nat_eq, refl, ◌∙◌, ap, arith}
 use Rattle.std.specs.Prelude.{nat_lt, if◌then◌else◌}
 use Rattle.std.proofs.lemmas.Grind.{common_steps}
 use Rattle.std.proofs.lemmas.Bool.Decides.{nat_tests}
-use Rattle.op_core.specs.OrdinaryState.{Object, Monitor, free, held}
+use Rattle.op_core.specs.OrdinaryState.{Object, free, held}
 use Rattle.heap_words.specs.declared.areas.Area.{Area}
 use Rattle.heap_words.specs.Words.{value_of}
 use Rattle.section_state.specs.SectionWord.{owner_of}

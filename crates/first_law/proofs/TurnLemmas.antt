@@ -1,14 +1,13 @@
 -- What is known of one act of a thread in a run, and which parts of the ordinary state it leaves.
-use Rattle.std.proofs.Common.{◌≡◌, ◌≢◌, ◌⊎◌, inl, inr, ℕ, suc, ◌+◌, ◌<◌, ◌≤◌, ◌^◌, Bool, true, false, Option, None, Some, List, length, nat_eq, refl, sym, ◌∙◌, ap, subst, arith}
+use Rattle.std.proofs.Common.{◌≡◌, ◌≢◌, ℕ, suc, ◌+◌, ◌<◌, ◌≤◌, Bool, true, false, Some, List, length, nat_eq, refl, sym, ◌∙◌, ap, subst, arith}
 use Rattle.std.specs.Prelude.{slice_get, if◌then◌else◌}
 use Rattle.std.proofs.lemmas.Option.{slice_get_within}
-use Rattle.op_core.specs.declared.Next.{Next}
 use Rattle.op_core.specs.ThreadCode.{Code}
 use Rattle.op_core.specs.OrdinaryState.{set_at, Object, Thread, live, awake, notified, waits, OrdinaryState}
 use Rattle.op_core.proofs.PointwiseLemmas.{set_at-at, set_at-same}
 use Rattle.heap_words.specs.declared.areas.Area.{Area}
 use Rattle.heap_words.specs.Words.{value_of, wait_object, wait_state}
-use Rattle.section_state.specs.SectionWord.{owner_of, with_pinned, with_depth, opened_of, revoked_of, committed_of, undone_of}
+use Rattle.section_state.specs.SectionWord.{owner_of}
 use Rattle.monitor_core.specs.Monitors.{monitor_section}
 use Rattle.step_port.specs.declared.answer.StepAnswer.{StepAnswer}
 use Rattle.step_port.specs.declared.answer.StepAnswer.TheVariants.{Lost}
@@ -25,7 +24,6 @@ use Rattle.core_runs.specs.Reading.{waiting_in, thread_in, ordinary}
 use Rattle.ordinary_words.specs.Reading.{word_in, start_in, monitor_in, class_of}
 use Rattle.section_laws.proofs.WordLemmas.{lost, stays_at}
 use Rattle.section_laws.proofs.RunLemmas.{Known, facts_at}
-use Rattle.own_sections.specs.Moves.{Move}
 use Rattle.own_sections.proofs.MoveLemmas.{moves_at}
 use Rattle.run_layout.specs.Layout.{IsLaidRun}
 use Rattle.first_law.specs.Monitors.{MonitorsFit}

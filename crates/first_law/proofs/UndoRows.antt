@@ -1,17 +1,14 @@
 -- Acts of undoing on monitors and sections, and the note that a thread is about to wait.
-use Rattle.std.proofs.Common.{◌≡◌, ◌≢◌, ◌⊎◌, inl, inr, ℕ, zero, suc, ◌+◌, ◌-◌, ◌<◌, ◌≤◌, ◌^◌, not, nat_eq, Bool, true, false, Option, None, Some, List, [], ◌∷◌, length, reverse, refl, sym, ◌∙◌, ap, subst, arith}
-use Rattle.std.specs.Prelude.{Contains, slice_index_or, slice_get, get_or, nat_lt, nat_le, if◌then◌else◌}
-use Rattle.std.proofs.lemmas.Grind.{common_steps}
-use Rattle.std.proofs.lemmas.Bool.Decides.{nat_tests}
-use Rattle.op_core.specs.declared.Op.{Op}
+use Rattle.std.proofs.Common.{◌≡◌, inl, inr, ℕ, zero, suc, ◌+◌, ◌-◌, ◌<◌, ◌≤◌, not, nat_eq, Bool, true, Some, List, [], ◌∷◌, length, reverse, refl, sym, ◌∙◌, ap, subst, arith}
+use Rattle.std.specs.Prelude.{Contains, slice_get, get_or, nat_lt, if◌then◌else◌}
 use Rattle.op_core.specs.declared.Op.TheVariants.{Wait}
 use Rattle.op_core.specs.declared.Next.{Next}
 use Rattle.op_core.specs.declared.Next.TheVariants.{Want}
 use Rattle.op_core.specs.ThreadCode.{Code}
-use Rattle.op_core.specs.OrdinaryState.{set_at, Object, Monitor, free, held, live, OrdinaryState}
-use Rattle.op_core.specs.InPlaceList.{with_monitor, with_thread, owned_by, give_back, go_back}
+use Rattle.op_core.specs.OrdinaryState.{set_at, Object, held, live, OrdinaryState}
+use Rattle.op_core.specs.InPlaceList.{owned_by, give_back, go_back}
 use Rattle.op_core.proofs.ExecutionLemmas.{states_ext}
-use Rattle.op_core.proofs.PointwiseLemmas.{same_or_other, set_at-hit, set_at-other, set_at-at, set_at-same}
+use Rattle.op_core.proofs.PointwiseLemmas.{same_or_other, set_at-hit, set_at-other, set_at-same}
 use Rattle.heap_words.specs.declared.areas.Area.{Area}
 use Rattle.heap_words.specs.declared.words.WaitWord.TheVariants.{Waiting}
 use Rattle.heap_words.specs.Words.{wait_word_of}
@@ -21,14 +18,13 @@ use Rattle.monitor_core.specs.Monitors.{monitor_depth}
 use Rattle.step_port.specs.declared.answer.StepAnswer.{StepAnswer}
 use Rattle.step_port.specs.declared.step.Step.{Step}
 use Rattle.step_port.specs.declared.step.Step.TheVariants.{SetDepth, Release, MarkUndone, SetWait}
-use Rattle.step_port.specs.Steps.{place_of, effect_of}
-use Rattle.step_port.specs.Words.{Words, words_after}
+use Rattle.step_port.specs.Steps.{place_of}
+use Rattle.step_port.specs.Words.{words_after}
 use Rattle.ordinary_words.specs.Reading.{monitor_of}
 use Rattle.thread_automaton.specs.declared.Bounds.{Bounds}
-use Rattle.thread_automaton.specs.declared.Attempt.{Attempt}
 use Rattle.thread_automaton.specs.declared.Attempt.TheVariants.{Begin, Fixed, Undoing}
 use Rattle.thread_automaton.specs.declared.Held.{Held}
-use Rattle.thread_automaton.specs.ThreadState.{ThreadState, Mark, inside, mark_of, noted_since, held_as, from_level}
+use Rattle.thread_automaton.specs.ThreadState.{ThreadState, inside, mark_of, noted_since, held_as, from_level}
 use Rattle.thread_automaton.specs.NextMove.{held_word, deepened_since, undo_step, undo_next}
 use Rattle.thread_automaton.specs.Changes.{Change, goes, sets_back, gives_back, goes_back, without_level, stood_at, section_at, changed}
 use Rattle.thread_automaton.specs.Told.{told, after_answer}
@@ -46,7 +42,7 @@ use Rattle.level_marks.proofs.RunLemmas.{undone_levels_have_marks}
 use Rattle.section_levels.proofs.RunLemmas.{levels_are_counted}
 use Rattle.level_saves.specs.Saves.{StoodAt, SavesStand}
 use Rattle.level_saves.proofs.SaveLemmas.{HandsNone, stands_so, saves_at}
-use Rattle.first_law.specs.Monitors.{FitsWord, WaitsHold}
+use Rattle.first_law.specs.Monitors.{FitsWord}
 use Rattle.first_law.specs.InPlace.{IsSeenRun}
 use Rattle.first_law.proofs.StateLemmas.{differs}
 use Rattle.first_law.proofs.OwnerLemmas as owners

@@ -1,38 +1,35 @@
 -- Acts of which the ordinary state shows nothing.
-use Rattle.std.proofs.Common.{◌≡◌, ◌≢◌, ℕ, suc, ◌+◌, ◌-◌, Bool, true, false, Option, None, Some, List, [], ◌∷◌, nat_eq, refl, sym, ◌∙◌, ap, subst}
+use Rattle.std.proofs.Common.{◌≡◌, ℕ, Bool, Option, None, Some, List, [], refl, sym, ◌∙◌, ap, subst}
 use Rattle.op_core.specs.declared.Line.{Line}
 use Rattle.op_core.specs.declared.Op.{Op}
 use Rattle.op_core.specs.declared.Op.TheVariants.{Exit, Wait, Start, Init}
-use Rattle.op_core.specs.declared.Reply.{Reply}
 use Rattle.op_core.specs.declared.Next.{Next}
 use Rattle.op_core.specs.declared.Next.TheVariants.{Want}
 use Rattle.op_core.specs.ThreadCode.{Code}
 use Rattle.op_core.specs.OrdinaryState.{set_at, Object}
 use Rattle.heap_words.specs.declared.areas.Area.{Area}
-use Rattle.section_state.specs.SectionWord.{pinned_of}
 use Rattle.step_port.specs.declared.answer.StepAnswer.{StepAnswer}
 use Rattle.step_port.specs.declared.answer.StepAnswer.TheVariants.{Found, Lost}
 use Rattle.step_port.specs.declared.step.Effect.TheVariants.{Load}
 use Rattle.step_port.specs.declared.step.Step.{Step}
-use Rattle.step_port.specs.declared.step.Step.TheVariants.{OpenSection, OpenLevel, CloseLevel, Pin, Commit, LoadMonitor, LoadSection, LoadThread, LoadClass, SetWait, SetHeader, StartThread, Split, Release, Ticket}
+use Rattle.step_port.specs.declared.step.Step.TheVariants.{SetHeader, StartThread, Split, Release, Ticket}
 use Rattle.step_port.specs.Steps.{place_of, effect_of}
-use Rattle.step_port.specs.Words.{CanAnswer, answer_of, words_after}
+use Rattle.step_port.specs.Words.{CanAnswer, words_after}
 use Rattle.thread_automaton.specs.declared.Bounds.{Bounds}
 use Rattle.thread_automaton.specs.declared.Attempt.{Attempt}
-use Rattle.thread_automaton.specs.declared.Attempt.TheVariants.{Checked, Fixed}
+use Rattle.thread_automaton.specs.declared.Attempt.TheVariants.{Fixed}
 use Rattle.thread_automaton.specs.ThreadState.{ThreadState, is_open, is_own_section}
 use Rattle.thread_automaton.specs.NextMove.{own_pin}
-use Rattle.thread_automaton.specs.Changes.{Change, goes, sees_pinned, opens_level, closes_to, forgotten, with_level, with_levels, changed}
+use Rattle.thread_automaton.specs.Changes.{Change, goes, forgotten, changed}
 use Rattle.thread_automaton.specs.Checks.{behind_pin, to_pin}
-use Rattle.thread_automaton.specs.Monitors.{take_for}
 use Rattle.thread_automaton.specs.Answers.{lost_on}
-use Rattle.thread_automaton.specs.Told.{Told, shown, told_of, after_answer}
+use Rattle.thread_automaton.specs.Told.{shown, told_of, after_answer}
 use Rattle.automaton_rows.proofs.RowLemmas.{by_if}
 use Rattle.core_runs.specs.Cores.{Core, threads_by, starting_by, objects_by, lines_by}
 use Rattle.core_runs.specs.Reading.{place_in, waiting_in}
 use Rattle.level_saves.proofs.SaveLemmas.{HandsNone}
 use Rattle.first_law.specs.InPlace.{IsSeenRun}
-use Rattle.first_law.proofs.TurnLemmas.{Keeps, keeps_load, keeps_lost, keeps_else}
+use Rattle.first_law.proofs.TurnLemmas.{Keeps, keeps_load, keeps_lost}
 use Rattle.first_law.proofs.EntryLemmas.{NoReply, IsUsual, Stance, stance, HasEntry, Done, Unseen, unseen_entry, waits_still}
 
 -- what is forgotten isn't seen

@@ -1,69 +1,53 @@
 -- Acts by which a thread waits and notifies.
-use Rattle.std.proofs.Common.{◌≡◌, ◌≢◌, ◌⊎◌, inl, inr, ℕ, zero, suc, ◌+◌, ◌<◌, ◌≤◌, ◌^◌, nat_eq, Bool, true, false, true≢false, Option, None, Some, List, [], ◌∷◌, length, refl, sym, ◌∙◌, ap, subst, arith}
-use Rattle.std.specs.Prelude.{IsSome, nat_lt, if◌then◌else◌}
+use Rattle.std.proofs.Common.{◌≡◌, ◌≢◌, inl, inr, ℕ, suc, ◌+◌, ◌<◌, ◌≤◌, ◌^◌, nat_eq, Bool, true, false, true≢false, Option, None, Some, List, refl, sym, ◌∙◌, ap, subst, arith}
+use Rattle.std.specs.Prelude.{if◌then◌else◌}
 use Rattle.std.proofs.lemmas.Grind.{common_steps}
 use Rattle.std.proofs.lemmas.Bool.Decides.{nat_tests, leb_tells}
 use Rattle.std.proofs.lemmas.Option.{same_Some}
-use Rattle.op_core.specs.declared.Line.{Line}
 use Rattle.op_core.specs.declared.Op.{Op}
-use Rattle.op_core.specs.declared.Op.TheVariants.{Enter, Exit, Wait, Rewake}
+use Rattle.op_core.specs.declared.Op.TheVariants.{Wait, Rewake}
 use Rattle.op_core.specs.declared.Reply.{Reply}
 use Rattle.op_core.specs.declared.Reply.TheVariants.{Woken}
 use Rattle.op_core.specs.declared.Next.{Next}
 use Rattle.op_core.specs.declared.Next.TheVariants.{Want}
-use Rattle.op_core.specs.Replies.{IsEntry}
 use Rattle.op_core.specs.ThreadCode.{Code}
-use Rattle.op_core.specs.OrdinaryState.{set_at, Object, Monitor, free, held, Waiting, awake, waits, notified, IsWaitingFor, notified_of, count_of, live, IsOwner, OrdinaryState}
-use Rattle.op_core.specs.OrdinaryStep.{CanStep, MayAnswer}
-use Rattle.op_core.specs.OrdinaryStep as ordinary_step
-use Rattle.op_core.specs.InPlaceList.{IsAllThere}
+use Rattle.op_core.specs.OrdinaryState.{set_at, Object, free, held, waits, notified, IsWaitingFor, notified_of, count_of, live, IsOwner, OrdinaryState}
 use Rattle.op_core.proofs.PointwiseLemmas.{same_or_other, set_at-hit, set_at-other, set_at-at, set_at-both}
 use Rattle.heap_words.specs.declared.areas.Area.{Area}
 use Rattle.heap_words.specs.Words.{wait_word, wait_object, wait_state}
-use Rattle.monitor_core.specs.Monitors.{monitor_depth, is_own}
 use Rattle.step_port.specs.declared.answer.StepAnswer.{StepAnswer}
 use Rattle.step_port.specs.declared.answer.StepAnswer.TheVariants.{Found}
 use Rattle.step_port.specs.declared.step.Step.{Step}
 use Rattle.step_port.specs.declared.step.Step.TheVariants.{Release, LoadWait}
-use Rattle.step_port.specs.Steps.{place_of, effect_of}
-use Rattle.step_port.specs.Words.{Words, put_by, area_eq, words_after}
-use Rattle.ordinary_words.specs.Reading.{word_in, start_in, monitor_of, monitor_in, class_of}
+use Rattle.step_port.specs.Steps.{effect_of}
+use Rattle.step_port.specs.Words.{Words, words_after}
+use Rattle.ordinary_words.specs.Reading.{monitor_of}
 use Rattle.thread_automaton.specs.declared.Bounds.{Bounds}
-use Rattle.thread_automaton.specs.declared.Attempt.{Attempt}
 use Rattle.thread_automaton.specs.declared.Attempt.TheVariants.{Fixed}
-use Rattle.thread_automaton.specs.declared.Held.{Held}
 use Rattle.thread_automaton.specs.ThreadState.{ThreadState, held_as}
-use Rattle.thread_automaton.specs.NextMove.{held_word}
-use Rattle.thread_automaton.specs.Changes.{Change, replies, changed}
-use Rattle.thread_automaton.specs.Changes as changes
+use Rattle.thread_automaton.specs.Changes.{Change, replies}
 use Rattle.thread_automaton.specs.Answers.{is_waiting_for}
-use Rattle.thread_automaton.specs.Monitors.{monitor_wanted, entry, take_for}
-use Rattle.thread_automaton.specs.Told.{advanced, shown, told_of, after_answer}
-use Rattle.automaton_rows.specs.Rows.{NeedsOwner, IsNoUndoing}
+use Rattle.thread_automaton.specs.Told.{after_answer}
+use Rattle.automaton_rows.specs.Rows.{IsNoUndoing}
 use Rattle.automaton_rows.specs.Undoing.{is_held}
-use Rattle.core_runs.specs.Cores.{Core, threads_by, starting_by, objects_by, lines_by}
+use Rattle.core_runs.specs.Cores.{Core}
 use Rattle.core_runs.specs.Acts.{Act}
-use Rattle.core_runs.specs.Reading.{place_in, waiting_in, thread_in, ordinary}
+use Rattle.core_runs.specs.Reading.{waiting_in, ordinary}
 use Rattle.section_laws.proofs.WordLemmas.{Exchanged, exchanged, stays_at}
 use Rattle.run_threads.proofs.NumberLemmas.{threads_are_numbered}
-use Rattle.section_laws.proofs.DeedLemmas.{above}
 use Rattle.section_laws.proofs.ClaimLemmas.{found_is}
-use Rattle.run_layout.proofs.LaidLemmas.{is_there}
-use Rattle.run_layout.proofs.PlaceLemmas.{object_other, put_object}
-use Rattle.level_saves.proofs.SaveLemmas.{HandsNone}
+use Rattle.run_layout.proofs.PlaceLemmas.{put_object}
 use Rattle.first_law.specs.Monitors.{FixedHolds, FixedWaits, WaitsHold, WaitWordSays}
 use Rattle.first_law.specs.InPlace.{IsSeenRun}
 use Rattle.first_law.proofs.TurnLemmas.{keeps_load, up, words_part, starts_part, monitors_part, classes_part, threads_part, waiting_so}
-use Rattle.first_law.proofs.EntryLemmas.{Stance, stance, IsUsual, HasEntry, Done, did_at, after, live_from, then_live, depth_is, event_entry}
+use Rattle.first_law.proofs.EntryLemmas.{HasEntry, Done, did_at, live_from, then_live, depth_is, event_entry}
 use Rattle.first_law.proofs.ReplyLemmas.{kept_entry}
 use Rattle.first_law.proofs.WordRows.{all_fit}
-use Rattle.first_law.proofs.UnseenLemmas.{forgotten_stance}
-use Rattle.first_law.proofs.FixedLemmas.{OnlyFixed, was_fixed}
 use Rattle.first_law.proofs.WaitLemmas.{object_in, state_in, object_low, waiting_none, waiting_parts, waiting_for, notified_for, notified_is, waiting_is}
 use Rattle.first_law.proofs.EnterRows.{object_of, fixed_holds, waits_hold}
 use Rattle.first_law.proofs.StateLemmas.{differs}
-use Rattle.first_law.proofs.MonitorRows.{Monitored, same_waiting, monitor_entry}
-use Rattle.first_law.proofs.MonitorLemmas.{fit_here, monitor_at, others_monitor, held_monitor, words_stay, starts_stay, monitors_set, taken_so}
+use Rattle.first_law.proofs.MonitorRows.{monitor_entry}
+use Rattle.first_law.proofs.MonitorLemmas.{fit_here, held_monitor}
 
 module _ {S : Type 0} (code : Code S) (b : Bounds) (is_thread : ℕ → Bool) (first : S) (classes : ℕ) (c : ℕ → Core S) (acts : List Act) (run : IsSeenRun code b is_thread first classes c acts) (k t : ℕ)
     (th : ThreadState S) where

@@ -1,8 +1,7 @@
 -- Acts on the words of objects: those that read them, that write them, that put them back, and that make an object.
-use Rattle.std.proofs.Common.{◌≡◌, ◌≢◌, ◌⊎◌, inl, inr, ℕ, suc, ◌+◌, ◌*◌, ◌/◌, ◌%◌, ◌<◌, ◌≤◌, ◌^◌, ◌&&◌, nat_eq, Bool, true, false, Option, None, Some, List, length, refl, sym, ◌∙◌, ap, subst, arith}
-use Rattle.std.specs.Prelude.{IsSomeAnd, is_some, nat_lt, slice_get, if◌then◌else◌}
+use Rattle.std.proofs.Common.{◌≡◌, ◌≢◌, inl, inr, ℕ, suc, ◌+◌, ◌<◌, ◌≤◌, ◌^◌, ◌&&◌, nat_eq, Bool, true, false, Option, None, Some, List, length, refl, sym, ◌∙◌, ap, subst, arith}
+use Rattle.std.specs.Prelude.{IsSomeAnd, is_some, nat_lt, if◌then◌else◌}
 use Rattle.std.proofs.lemmas.Option.{same_Some}
-use Rattle.op_core.specs.declared.Op.{Op}
 use Rattle.op_core.specs.declared.Op.TheVariants.{ClassOf, Read, Write, New}
 use Rattle.op_core.specs.declared.Reply.{Reply}
 use Rattle.op_core.specs.declared.Reply.TheVariants.{Class, Value, Made}
@@ -10,7 +9,6 @@ use Rattle.op_core.specs.declared.Next.{Next}
 use Rattle.op_core.specs.declared.Next.TheVariants.{Want}
 use Rattle.op_core.specs.ThreadCode.{Code}
 use Rattle.op_core.specs.OrdinaryState.{set_at, Object, live, free, OrdinaryState}
-use Rattle.op_core.specs.OrdinaryStep as ordinary_step
 use Rattle.op_core.specs.InPlaceList.{put_back}
 use Rattle.op_core.specs.Laws.{HasSameParts}
 use Rattle.op_core.proofs.ExecutionLemmas.{states_ext}
@@ -18,21 +16,19 @@ use Rattle.op_core.proofs.PointwiseLemmas.{same_or_other, set_at-hit, set_at-oth
 use Rattle.heap_words.specs.declared.areas.Area.{Area}
 use Rattle.heap_words.specs.Words.{pack, value_of, pack_tag, pack_header, header_class, header_length}
 use Rattle.write_log.specs.declared.Noted.{Noted}
-use Rattle.section_state.specs.SectionWord.{revoke_of}
 use Rattle.step_port.specs.declared.answer.StepAnswer.{StepAnswer}
 use Rattle.step_port.specs.declared.answer.StepAnswer.TheVariants.{Found}
 use Rattle.step_port.specs.declared.step.Step.{Step}
 use Rattle.step_port.specs.declared.step.Step.TheVariants.{LoadWord, SwapWord, RestoreWord, SetHeader}
 use Rattle.step_port.specs.Steps.{effect_of}
-use Rattle.step_port.specs.Words.{Words, answer_of, words_after}
+use Rattle.step_port.specs.Words.{Words, words_after}
 use Rattle.ordinary_words.specs.Reading.{word_in, start_in, monitor_in, monitor_of}
 use Rattle.thread_automaton.specs.declared.Bounds.{Bounds}
 use Rattle.thread_automaton.specs.declared.Attempt.TheVariants.{Undoing}
 use Rattle.thread_automaton.specs.ThreadState.{ThreadState}
-use Rattle.thread_automaton.specs.NextMove.{word_place, undo_next}
-use Rattle.thread_automaton.specs.Changes.{Change, replies, writes, puts_back, changed}
+use Rattle.thread_automaton.specs.NextMove.{word_place}
+use Rattle.thread_automaton.specs.Changes.{Change, replies, writes, puts_back}
 use Rattle.thread_automaton.specs.Checks.{written_word, noted}
-use Rattle.thread_automaton.specs.Told.{after_answer}
 use Rattle.core_runs.specs.Cores.{Core, objects_by}
 use Rattle.core_runs.specs.Acts.{Act}
 use Rattle.core_runs.specs.Reading.{place_in, ordinary}
@@ -47,8 +43,8 @@ use Rattle.run_layout.proofs.PlaceLemmas.{object_other, put_object, one_place}
 use Rattle.run_layout.proofs.FillLemmas.{Filled}
 use Rattle.run_layout.proofs.RunLemmas.{laid_at, stays, is_new}
 use Rattle.first_law.specs.InPlace.{IsSeenRun}
-use Rattle.first_law.proofs.StateLemmas.{word_is, word_kept, start_kept, start_is}
-use Rattle.first_law.proofs.TurnLemmas.{Keeps, keeps_load, laid, within, up, known, monitors_part, waiting_part, classes_part, threads_part, stays_part}
+use Rattle.first_law.proofs.StateLemmas.{word_is, word_kept, start_kept}
+use Rattle.first_law.proofs.TurnLemmas.{keeps_load, laid, within, up, known, monitors_part, waiting_part, classes_part, threads_part, stays_part}
 use Rattle.first_law.proofs.EntryLemmas.{HasEntry, Done, did_at, after, live_from, then_live, depth_is, event_entry, leads}
 use Rattle.first_law.proofs.ReplyLemmas.{kept_entry}
 use Rattle.first_law.proofs.NotedLemmas.{WasNoted, noted_at}
