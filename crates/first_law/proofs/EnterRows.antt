@@ -39,7 +39,7 @@ use Rattle.section_laws.proofs.DeedLemmas.{above}
 use Rattle.section_laws.proofs.ClaimLemmas.{found_is}
 use Rattle.run_layout.proofs.LaidLemmas.{is_there}
 use Rattle.run_layout.proofs.PlaceLemmas.{put_object}
-use Rattle.first_law.specs.Monitors.{FitsWord, FixedHolds, FixedWaits, WaitsHold}
+use Rattle.first_law.specs.Monitors.{FitsMonitorWord, FixedHolds, FixedWaits, WaitsHold}
 use Rattle.first_law.specs.InPlace.{IsSeenRun}
 use Rattle.first_law.proofs.TurnLemmas.{keeps_load, known}
 use Rattle.first_law.proofs.EntryLemmas.{Stance, stance, HasEntry, Done, did_at, depth_is}
@@ -112,7 +112,7 @@ module _ {S : Type 0} (code : Code S) (b : Bounds) (is_thread : ℕ → Bool) (f
     sections_same : (s : ℕ) → taken (Area.Section s) ≡ (c k).words (Area.Section s)
     sections_same s = stays_at (effect_of take) (c k).words (Area.Object (r + 1)) (Area.Section s) refl
 
-    then_held : FitsWord (entry th next th.levels) → nat_lt 0 th.section ≡ true → monitor_of taken (taken (Area.Object (r + 1))) ≡ held t (entry th next th.levels).depth
+    then_held : FitsMonitorWord (entry th next th.levels) → nat_lt 0 th.section ≡ true → monitor_of taken (taken (Area.Object (r + 1))) ≡ held t (entry th next th.levels).depth
     then_held fits some = ap (monitor_of taken) then_word ∙ taken_so code b is_thread first classes c acts run k t th act taken (entry th next th.levels) sections_same fits (above th.section some)
 
   pub take_row : (next : Next) → IsEntry next → nat_lt 0 th.section ≡ true → Does next (take_for th next th.section th.levels) StepAnswer.Done (takes (entry th next th.levels))

@@ -32,7 +32,7 @@ use Rattle.section_laws.proofs.ClaimLemmas.{none_some, found_is}
 use Rattle.section_laws.proofs.NumberLemmas.{number_at}
 use Rattle.run_threads.specs.Ends.{end_word}
 use Rattle.run_threads.proofs.EndLemmas.{ends_are_known}
-use Rattle.start_words.specs.Starts.{start_of}
+use Rattle.start_words.specs.Starts.{start_word_of}
 use Rattle.level_saves.proofs.SaveLemmas.{is_live}
 use Rattle.first_law.specs.InPlace.{IsSeenRun}
 use Rattle.first_law.proofs.TurnLemmas.{keeps_load, known, words_part, starts_part, monitors_part, waiting_part, threads_part, stays_part}
@@ -131,7 +131,7 @@ module _ {S : Type 0} (code : Code S) (b : Bounds) (is_thread : ℕ → Bool) (f
 
   pub never_row : {r w : ℕ} → Does (Want (Join r)) (LoadThread (ThreadWord.Start r)) (Found w) (replies Reply.Done) → nat_eq w 0 ≡ true → Seen (LoadThread (ThreadWord.Start r)) (Found w)
   never_row {r} {w} act none =
-      let word : w ≡ start_of (c k) r = found_is w (start_of (c k) r) act.answered in
+      let word : w ≡ start_word_of (c k) r = found_is w (start_word_of (c k) r) act.answered in
       let no_start : state.starts r ≡ 0 = start_value code b is_thread first classes c acts run k t th act r (joined code b is_thread first classes c acts run k t th act) ∙ sym word ∙ zero_is w none in
       kept_entry code b is_thread first classes c acts run k t th act (Join r) Reply.Done refl refl tt tt ((all_fit code b is_thread first classes c acts run k t th act (Join r) refl).1, inl no_start) tt
       (keeps_load (LoadThread (ThreadWord.Start r)) (c k).words refl) refl (λ f. refl) (λ f. refl) (λ xs. refl) (λ f. refl) refl
@@ -144,7 +144,7 @@ module _ {S : Type 0} (code : Code S) (b : Bounds) (is_thread : ℕ → Bool) (f
       ) tt
       (keeps_load (LoadThread (ThreadWord.Ended n)) (c k).words refl) refl (λ f. refl) (λ f. refl) (λ xs. refl) (λ f. refl) refl
     where
-      awaited : (0 < n) × (start_of (c k) r ≡ n)
+      awaited : (0 < n) × (start_word_of (c k) r ≡ n)
       awaited = ((starts code b is_thread first classes c acts run k t th act).threads t th act.stands).awaited n r (names code b is_thread first classes c acts run k t th act) act.wants
 
       started : state.starts r ≡ n

@@ -26,7 +26,7 @@ use Rattle.core_runs.specs.Cores.{Core}
 use Rattle.core_runs.specs.Acts.{Act}
 use Rattle.core_runs.specs.Reading.{ordinary}
 use Rattle.run_layout.proofs.PlaceLemmas.{one_place}
-use Rattle.first_law.specs.Monitors.{FitsWord, MonitorsFit}
+use Rattle.first_law.specs.Monitors.{FitsMonitorWord, MonitorsFit}
 use Rattle.first_law.specs.InPlace.{IsSeenRun}
 use Rattle.first_law.proofs.StateLemmas.{differs, word_kept, start_kept, monitor_kept}
 use Rattle.first_law.proofs.OwnerLemmas.{section_is, not_free, own_section, section_held, depth_held, some_held}
@@ -144,7 +144,7 @@ module _ {S : Type 0} (code : Code S) (b : Bounds) (is_thread : ℕ → Bool) (f
       ]
 
     -- the own section holds a monitor then
-    pub taken_so : (v : Words) (h : Held) → ((s : ℕ) → v (Area.Section s) ≡ (c k).words (Area.Section s)) → FitsWord h → 0 < th.section → monitor_of v (held_word th.section h) ≡ held t h.depth
+    pub taken_so : (v : Words) (h : Held) → ((s : ℕ) → v (Area.Section s) ≡ (c k).words (Area.Section s)) → FitsMonitorWord h → 0 < th.section → monitor_of v (held_word th.section h) ≡ held t h.depth
     taken_so v h sections fits some =
         let low = fit_here.numbers t th act.stands in
         monitor_some v (held_word th.section h) (not_free th.section h.depth h.level fits.0)

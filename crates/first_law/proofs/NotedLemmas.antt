@@ -18,7 +18,7 @@ use Rattle.core_runs.specs.Acts.{Act, quiet, did, beside, DidAt, ActAt}
 use Rattle.section_laws.proofs.WordLemmas.{exchanged}
 use Rattle.section_laws.proofs.FactLemmas.{each}
 use Rattle.section_laws.proofs.RunLemmas.{along}
-use Rattle.run_layout.specs.Layout.{IsPlaced, IsLaidRun}
+use Rattle.run_layout.specs.Layout.{IsWordPlace, IsLaidRun}
 use Rattle.run_layout.proofs.ListLemmas.{In}
 use Rattle.run_layout.proofs.OwnedLemmas.{owned_by, OwnedStep, owned_steps}
 use Rattle.run_layout.proofs.LaidLemmas.{write_there}
@@ -30,7 +30,7 @@ module _ {S : Type 0} (code : Code S) (b : Bounds) (is_thread : ℕ → Bool) (c
     pub place : ℕ
     pub earlier : place < k
     pub was : (c place).words (Area.Object x.at) ≡ x.old
-    pub there : IsPlaced is_thread (c place).objects x.at
+    pub there : IsWordPlace is_thread (c place).objects x.at
 
   abbrev pub NotedAt : ℕ → Type 0
   NotedAt k = (t : ℕ) (th : ThreadState S) (x : Noted) → (c k).threads t ≡ Some th → In x th.log → WasNoted k x

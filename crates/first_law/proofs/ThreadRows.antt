@@ -38,7 +38,7 @@ use Rattle.run_threads.proofs.NumberLemmas.{Numbers, numbers_at}
 use Rattle.run_layout.proofs.LaidLemmas.{is_such}
 use Rattle.run_layout.proofs.NameLemmas.{Names, step_names}
 use Rattle.run_layout.proofs.PlaceLemmas.{object_other, put_object, one_place}
-use Rattle.start_words.specs.Starts.{IsThreadObject, start_of, StartsAreKnown}
+use Rattle.start_words.specs.Starts.{IsThreadObject, start_word_of, StartsAreKnown}
 use Rattle.start_words.proofs.WordLemmas.{packed, value_low, above_zero}
 use Rattle.start_words.proofs.RunLemmas.{starts_at}
 use Rattle.first_law.specs.InPlace.{IsSeenRun}
@@ -80,9 +80,9 @@ module _ {S : Type 0} (code : Code S) (b : Bounds) (is_thread : ℕ → Bool) (f
     names = step_names code b th step ((known code b is_thread first classes c acts run k t step a act.here (did_at code b is_thread first classes c acts run k t th act)).fit t th act.stands).attempt act.move
 
   -- the start word of a thread object that an operation names
-  pub start_value : {next : Next} {step : Step} {a : StepAnswer} {change : Change} (act : Does next step a change) (r : ℕ) → IsThreadObject is_thread (c k).objects r → state.starts r ≡ start_of (c k) r
+  pub start_value : {next : Next} {step : Step} {a : StepAnswer} {change : Change} (act : Does next step a change) (r : ℕ) → IsThreadObject is_thread (c k).objects r → state.starts r ≡ start_word_of (c k) r
   start_value act r (o, there, thread, some) =
-      ap (start_in is_thread (c k).words r) there ∙ start_is is_thread (c k).words r o thread ∙ value_low (start_of (c k) r) ((starts act).words.low r (o, there, thread, some))
+      ap (start_in is_thread (c k).words r) there ∙ start_is is_thread (c k).words r o thread ∙ value_low (start_word_of (c k) r) ((starts act).words.low r (o, there, thread, some))
 
   -- ---- lines
 
@@ -110,7 +110,7 @@ module _ {S : Type 0} (code : Code S) (b : Bounds) (is_thread : ℕ → Bool) (f
 
   pub already_row : {r p w : ℕ} → Does (Want (Start r p)) (LoadThread (ThreadWord.Start r)) (Found w) (replies Already) → nat_eq w 0 ≡ false → Seen (LoadThread (ThreadWord.Start r)) (Found w)
   already_row {r} {p} {w} act some =
-      let word : w ≡ start_of (c k) r = found_is w (start_of (c k) r) act.answered in
+      let word : w ≡ start_word_of (c k) r = found_is w (start_word_of (c k) r) act.answered in
       let started : 0 < state.starts r = subst (λ n. 0 < n) (word ∙ sym (start_value act r (named act))) (above_zero w some) in
       kept_entry code b is_thread first classes c acts run k t th act (Start r p) Already refl refl tt tt ((all_fit code b is_thread first classes c acts run k t th act (Start r p) refl).1, inl started) started
       (keeps_load (LoadThread (ThreadWord.Start r)) (c k).words refl) refl (λ f. refl) (λ f. refl) (λ xs. refl) (λ f. refl) refl
@@ -125,7 +125,7 @@ module _ {S : Type 0} (code : Code S) (b : Bounds) (is_thread : ℕ → Bool) (f
     at_object : IsThreadObject is_thread (c k).objects r
     at_object = named act
 
-    new_so : (2 ≤ n) × ((c k).starting n ≡ None) × ((q : ℕ) → IsThreadObject is_thread (c k).objects q → start_of (c k) q ≢ n)
+    new_so : (2 ≤ n) × ((c k).starting n ≡ None) × ((q : ℕ) → IsThreadObject is_thread (c k).objects q → start_word_of (c k) q ≢ n)
     new_so = ((starts act).threads t th act.stands).unused r n attempt_so
 
     no_thread : (c k).threads n ≡ None
@@ -136,7 +136,7 @@ module _ {S : Type 0} (code : Code S) (b : Bounds) (is_thread : ℕ → Bool) (f
     free_number : IsFreeNumber state.threads n
     free_number = let few = (names act).1 in (new_so.0, omega (arith, few), ap (λ o. thread_in code o ((c k).threads n)) new_so.1 ∙ ap (thread_in code None) no_thread)
 
-    was_zero : start_of (c k) r ≡ 0
+    was_zero : start_word_of (c k) r ≡ 0
     was_zero = (exchanged (c k).words (Area.Object (r + 3)) 0 (pack n 0) act.answered).found
 
     no_start : state.starts r ≡ 0

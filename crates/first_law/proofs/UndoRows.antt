@@ -42,7 +42,7 @@ use Rattle.level_marks.proofs.RunLemmas.{undone_levels_have_marks}
 use Rattle.section_levels.proofs.RunLemmas.{levels_are_counted}
 use Rattle.level_saves.specs.Saves.{StoodAt, SavesStand}
 use Rattle.level_saves.proofs.SaveLemmas.{HandsNone, stands_so, saves_at}
-use Rattle.first_law.specs.Monitors.{FitsWord}
+use Rattle.first_law.specs.Monitors.{FitsMonitorWord}
 use Rattle.first_law.specs.InPlace.{IsSeenRun}
 use Rattle.first_law.proofs.StateLemmas.{differs}
 use Rattle.first_law.proofs.OwnerLemmas as owners
@@ -185,7 +185,7 @@ module _ {S : Type 0} (code : Code S) (b : Bounds) (is_thread : ℕ → Bool) (f
       named : (h : Held) × In h (deepened_since (mark_of th (revoke_of w)) th.held) × (h.object ≡ r) × (held_word th.section h ≡ new)
       named = undo_depth th.section w (noted_since (mark_of th (revoke_of w)).noted th.log) (deepened_since (mark_of th (revoke_of w)) th.held) (from_level (revoke_of w) th.held) r new does
 
-      fits : FitsWord named.0
+      fits : FitsMonitorWord named.0
       fits = (fit_here code b is_thread first classes c acts run k t th act).marked t w th named.0 act.stands at
           (has_it named.0 (mark_of th (revoke_of w)).held (in_reverse named.0 (mark_of th (revoke_of w)).held
           (in_filter (λ h. not (nat_eq (held_as h.object th.held).depth h.depth)) named.0 (reverse (mark_of th (revoke_of w)).held) named.1)))

@@ -7,12 +7,12 @@ use Rattle.heap_words.specs.declared.areas.Area.{Area}
 use Rattle.heap_words.specs.Words.{value_of}
 use Rattle.step_port.specs.Words.{Words}
 use Rattle.ordinary_words.specs.Reading.{word_in, start_in}
-use Rattle.run_layout.specs.Layout.{Objects, end_of}
+use Rattle.run_layout.specs.Layout.{Objects, object_end}
 use Rattle.run_layout.proofs.PlaceLemmas.{one_place}
 use Rattle.first_law.proofs.StateLemmas.{word_is, word_kept, start_kept}
 
 -- where in an object's words a place lies that isn't that of word i of the object at r
-module _ (is_thread : ℕ → Bool) (objects : Objects) (apart : (r q : ℕ) (o p : Object) → objects r ≡ Some o → objects q ≡ Some p → r ≢ q → (end_of r o ≤ q) ⊎ (end_of q p ≤ r))
+module _ (is_thread : ℕ → Bool) (objects : Objects) (apart : (r q : ℕ) (o p : Object) → objects r ≡ Some o → objects q ≡ Some p → r ≢ q → (object_end r o ≤ q) ⊎ (object_end q p ≤ r))
     (starts : (q : ℕ) (o : Object) → objects q ≡ Some o → is_thread o.class ≡ true → 1 < o.words) (w v : Words) (r i new : ℕ) (o : Object) (there : objects r ≡ Some o) (low : i < o.words)
     (plain : is_thread o.class ≡ true → i ≢ 1) (puts : v (Area.Object (r + 2 + i)) ≡ new) (others : (p : ℕ) → p ≢ r + 2 + i → v (Area.Object p) ≡ w (Area.Object p)) where
   pub words_put : (q j : ℕ) → word_in is_thread v q j (objects q) ≡ set_at (λ q j. word_in is_thread w q j (objects q)) r (set_at (λ j. word_in is_thread w r j (objects r)) i (value_of new)) q j

@@ -35,7 +35,7 @@ use Rattle.core_runs.specs.Reading.{place_in, ordinary}
 use Rattle.level_saves.proofs.SaveLemmas.{stands_so}
 use Rattle.section_laws.proofs.WordLemmas.{exchanged, stays_at}
 use Rattle.section_laws.proofs.ClaimLemmas.{none_some, found_is}
-use Rattle.run_layout.specs.Layout.{end_of, IsPlaced, IsNewObject}
+use Rattle.run_layout.specs.Layout.{object_end, IsWordPlace, IsNewObject}
 use Rattle.run_layout.proofs.ListLemmas.{In}
 use Rattle.run_layout.proofs.LaidLemmas.{is_there, is_such, placed, NextFits, Laid}
 use Rattle.run_layout.proofs.NameLemmas.{step_names}
@@ -127,7 +127,7 @@ module _ {S : Type 0} (code : Code S) (b : Bounds) (is_thread : ℕ → Bool) (f
     abbrev swapped : Words
     swapped = words_after (SwapWord (word_place r i) old (written_word th v)) (c k).words
 
-    written : IsPlaced is_thread (c k).objects (word_place r i)
+    written : IsWordPlace is_thread (c k).objects (word_place r i)
     written = let fits = all_fit act (Write r i v) refl in placed is_thread (c k).objects r i (word_place r i) fits.1 fits.2 refl
 
     such : (o : Object) × ((c k).objects r ≡ Some o) × (i < o.words)
@@ -178,7 +178,7 @@ module _ {S : Type 0} (code : Code S) (b : Bounds) (is_thread : ℕ → Bool) (f
     earlier : was.place ≤ k
     earlier = let less = was.earlier in omega (arith, less)
 
-    abbrev word : IsPlaced is_thread (c k).objects at
+    abbrev word : IsWordPlace is_thread (c k).objects at
     word = record {
       r = was.there.r;
       i = was.there.i;
@@ -261,7 +261,7 @@ module _ {S : Type 0} (code : Code S) (b : Bounds) (is_thread : ℕ → Bool) (f
     then = after code b is_thread first classes c acts run k t th act
 
     -- the words of the new object are 0
-    fresh : (p : ℕ) → r < p → p < end_of r made → headed (Area.Object p) ≡ 0
+    fresh : (p : ℕ) → r < p → p < object_end r made → headed (Area.Object p) ≡ 0
     fresh p above below = ap (λ (z : Core S). z.words (Area.Object p)) (sym act.leads) ∙ is_made.empty p above below
 
     headed_else : (p : ℕ) → p ≢ r → headed (Area.Object p) ≡ (c k).words (Area.Object p)
@@ -290,7 +290,7 @@ module _ {S : Type 0} (code : Code S) (b : Bounds) (is_thread : ℕ → Bool) (f
           ∙ sym (ap (λ (f : ℕ → ℕ). f i) (set_at-other state.words r (λ _. 0) q other))
     ]
       where
-        end_low : (i : ℕ) (o : Object) → Some made ≡ Some o → i < o.words → r + 2 + i < end_of r made
+        end_low : (i : ℕ) (o : Object) → Some made ≡ Some o → i < o.words → r + 2 + i < object_end r made
         end_low i o is below = let size = ap (λ (x : Object). x.words) (same_Some made o is) in omega (arith, below, size)
 
         zero_word : (q i : ℕ) (x : Option Object) → word_in is_thread (λ _. 0) q i x ≡ 0
@@ -320,7 +320,7 @@ module _ {S : Type 0} (code : Code S) (b : Bounds) (is_thread : ℕ → Bool) (f
           ∙ start_kept is_thread (c k).words headed q ((c k).objects q) (λ o there thread. headed_else (q + 3) (λ same. old_else q 3 o there (three (has_start act q o there thread)) same))
     ]
       where
-        start_low : 1 < made.words → r + 3 < end_of r made
+        start_low : 1 < made.words → r + 3 < object_end r made
         start_low some = omega (arith, some)
 
         three : {j : ℕ} → 1 < j → 3 < 2 + j

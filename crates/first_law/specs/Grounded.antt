@@ -14,7 +14,7 @@ use Rattle.core_runs.specs.Entries.{ShowFrom}
 use Rattle.core_runs.specs.Reading.{ordinary}
 use Rattle.section_laws.specs.Runs.{IsRun}
 use Rattle.run_threads.specs.Ends.{HasNoEnds}
-use Rattle.run_layout.specs.Layout.{free_place, AreLaidOut}
+use Rattle.run_layout.specs.Layout.{free_place, ObjectsLieApart}
 use Rattle.run_bits.specs.Bits.{BeginsInBits}
 use Rattle.start_words.specs.Starts.{BeginsWithStarts}
 use Rattle.first_law.specs.Monitors.{MonitorsFit}
@@ -33,7 +33,7 @@ pub record IsGroundedRun {S : Type 0} (code : Code S) (b : Bounds) (is_thread : 
   pub ends : HasNoEnds (c 0).words
   -- and with objects that are laid out, within a heap of 2^32 places, and words in range
   pub in_bits : BeginsInBits (c 0)
-  pub begins : AreLaidOut (free_place b (c 0).words) (c 0).words (c 0).objects
+  pub begins : ObjectsLieApart (free_place b (c 0).words) (c 0).words (c 0).objects
   pub heap : (0 < b.first) × (b.first + b.limits.heap ≤ 2 ^ 32)
   pub class_words : (d : ℕ) → class_state ((c 0).words (Area.Class d)) ≤ 3
   -- each thread object has a start word

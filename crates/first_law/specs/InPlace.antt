@@ -11,7 +11,7 @@ use Rattle.core_runs.specs.Acts.{Act}
 use Rattle.core_runs.specs.Reading.{ordinary}
 use Rattle.core_runs.specs.Entries.{ShowFrom}
 use Rattle.run_threads.specs.Ends.{HasNoEnds}
-use Rattle.run_layout.specs.Layout.{free_place, AreLaidOut, WantsFitObjects}
+use Rattle.run_layout.specs.Layout.{free_place, ObjectsLieApart, WantsFitObjects}
 use Rattle.start_words.specs.Starts.{BeginsWithStarts}
 use Rattle.section_levels.specs.Levels.{IsLevelledRun}
 use Rattle.first_law.specs.Monitors.{MonitorsFit}
@@ -20,7 +20,7 @@ use Rattle.first_law.specs.Monitors.{MonitorsFit}
 pub record IsSeenRun {S : Type 0} (code : Code S) (b : Bounds) (is_thread : ℕ → Bool) (first : S) (classes : ℕ) (c : ℕ → Core S) (acts : List Act) : Type 0 where
   pub levelled : IsLevelledRun code b first classes c acts
   -- it begins with objects that are laid out, within a heap of 2^32 places
-  pub begins : AreLaidOut (free_place b (c 0).words) (c 0).words (c 0).objects
+  pub begins : ObjectsLieApart (free_place b (c 0).words) (c 0).words (c 0).objects
   pub heap : (0 < b.first) × (b.first + b.limits.heap ≤ 2 ^ 32)
   -- and with threads none of which has ended
   pub starts : BeginsWithStarts is_thread (c 0)

@@ -22,13 +22,13 @@ use Rattle.core_runs.specs.Cores.{Core}
 use Rattle.core_runs.specs.Reading.{waiting_in}
 
 -- the word of a monitor can say this of one that is held
-abbrev pub FitsWord : Held → Type 0
-FitsWord h = (0 < h.depth) × (h.depth < 2 ^ 16) × (h.level < 2 ^ 8)
+abbrev pub FitsMonitorWord : Held → Type 0
+FitsMonitorWord h = (0 < h.depth) × (h.depth < 2 ^ 16) × (h.level < 2 ^ 8)
 
 -- A monitor that isn't free is held by one thread, and its word says what the thread knows of it.
 pub record MonitorsAreHeld {S : Type 0} (c : Core S) : Type 0 where
   pub says : (t r : ℕ) (th : ThreadState S) → c.threads t ≡ Some th → is_held r th.held ≡ true
-      → (c.words (Area.Object (r + 1)) ≡ held_word th.section (held_as r th.held)) × FitsWord (held_as r th.held)
+      → (c.words (Area.Object (r + 1)) ≡ held_word th.section (held_as r th.held)) × FitsMonitorWord (held_as r th.held)
   pub sections : (t r : ℕ) (th : ThreadState S) → c.threads t ≡ Some th → is_held r th.held ≡ true → 0 < th.section
   pub holders : (r : ℕ) (o : Object) → c.objects r ≡ Some o → c.words (Area.Object (r + 1)) ≢ 0
       → (t : ℕ) × (th : ThreadState S) × (c.threads t ≡ Some th) × (is_held r th.held ≡ true)
@@ -74,4 +74,4 @@ pub record MonitorsFit {S : Type 0} (code : Code S) (c : Core S) : Type 0 where
   pub waits : (t : ℕ) (th : ThreadState S) → c.threads t ≡ Some th
       → WaitsHold th (code.next th.local) × WaitWordSays (code.next th.local) (c.words (Area.Wait t))
   -- what a level found held that is being undone
-  pub marked : (t w : ℕ) (th : ThreadState S) (h : Held) → c.threads t ≡ Some th → th.attempt ≡ Undoing w → Contains (mark_of th (revoke_of w)).held h → FitsWord h
+  pub marked : (t w : ℕ) (th : ThreadState S) (h : Held) → c.threads t ≡ Some th → th.attempt ≡ Undoing w → Contains (mark_of th (revoke_of w)).held h → FitsMonitorWord h

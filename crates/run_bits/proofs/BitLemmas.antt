@@ -31,7 +31,7 @@ use Rattle.section_laws.proofs.RunLemmas.{act_at, along, Known}
 use Rattle.own_sections.specs.OwnWords.{IsInBits}
 use Rattle.run_threads.proofs.NumberLemmas.{same_priority, threads_are_numbered}
 use Rattle.run_layout.specs.Layout.{Objects, IsLaidRun}
-use Rattle.run_layout.specs.Places.{FitsWord}
+use Rattle.run_layout.specs.Places.{FitsNumber}
 use Rattle.run_layout.proofs.ListLemmas.{In}
 use Rattle.run_layout.proofs.NameLemmas.{NamesWrite, NamesNew, Names, step_names}
 use Rattle.run_layout.proofs.OwnedLemmas.{new_place, owned_by, OwnedStep, owned_steps}
@@ -96,7 +96,7 @@ module _ {S : Type 0} (code : Code S) (b : Bounds) (is_thread : ℕ → Bool) (c
 
   -- what is stored in a word that is no monitor
   effect_low : (th : ThreadState S) (objects : Objects) (next : Next) (g : Attempt) (step : Step) (thread : Bool) (d : ℕ) → th.levels < 2 ^ 8
-      → ((x : Noted) → In x th.log → x.old < 2 ^ 64) → NextFits is_thread objects next → Names th next g step → SetsNoHeader step → FitsWord thread d step → d ≢ 1 → StoresLow (effect_of step)
+      → ((x : Noted) → In x th.log → x.old < 2 ^ 64) → NextFits is_thread objects next → Names th next g step → SetsNoHeader step → FitsNumber thread d step → d ≢ 1 → StoresLow (effect_of step)
   effect_low th objects next g (LoadWord at) thread d levels olds all names none fits other = tt
   effect_low th objects next g (SwapWord at old new) thread d levels olds all names none fits other = write_low th objects next at new levels names all
   effect_low th objects next g (RestoreWord at old) thread d levels olds all (x, there, at_x, old_x) none fits other = subst (λ n. n < 2 ^ 64) old_x (olds x there)
@@ -261,7 +261,7 @@ module _ {S : Type 0} (code : Code S) (b : Bounds) (is_thread : ℕ → Bool) (c
         by_place k low (in_object none so) =
             subst (λ n. (c k).words (Area.Object n) < 2 ^ 64) (sym so.place) (low.words so.r so.number so.o so.there so.below (λ one. not_monitor so.number one so.fits))
           where
-            not_monitor : {thread : Bool} (d : ℕ) → d ≡ 1 → FitsWord thread d (LoadWord at) → ⊥
+            not_monitor : {thread : Bool} (d : ℕ) → d ≡ 1 → FitsNumber thread d (LoadWord at) → ⊥
             not_monitor d one (inl none) = omega (arith, one, none)
             not_monitor d one (inr (low, other)) = omega (arith, one, low)
         by_place k low (in_block v sets new names) = absurd (subst IsLoad sets tt)

@@ -23,8 +23,8 @@ use Rattle.automaton_rows.specs.Fits.{AttemptFits}
 use Rattle.core_runs.specs.Cores.{threads_by}
 use Rattle.section_laws.proofs.ClaimLemmas.{none_some}
 use Rattle.section_laws.proofs.FactLemmas.{Threads, each}
-use Rattle.run_layout.specs.Layout.{Objects, IsPlaced, free_place}
-use Rattle.run_layout.specs.Places.{FitsWord}
+use Rattle.run_layout.specs.Layout.{Objects, IsWordPlace, free_place}
+use Rattle.run_layout.specs.Places.{FitsNumber}
 use Rattle.run_layout.proofs.ListLemmas.{In, Holds, WasMarked}
 use Rattle.run_layout.proofs.NameLemmas.{NamesNew, Names, step_names}
 use Rattle.run_layout.proofs.OwnedLemmas.{new_place}
@@ -46,7 +46,7 @@ no_next : (d e : ℕ) → d ≡ 0 → d ≡ suc e → ⊥
 no_next d e none next = omega (arith, none, next)
 
 -- a step on a header, but for the one that sets it, is a load
-header_load : (thread : Bool) (step : Step) → SetsNoHeader step → FitsWord thread 0 step → effect_of step ≡ Load
+header_load : (thread : Bool) (step : Step) → SetsNoHeader step → FitsNumber thread 0 step → effect_of step ≡ Load
 header_load thread (LoadWord at) none fits = refl
 header_load thread (SwapWord at old new) none fits = absurd (no_low 0 refl fits.0)
 header_load thread (RestoreWord at old) none fits = absurd (no_low 0 refl fits.0)
@@ -115,7 +115,7 @@ module _ {S : Type 0} (code : Code S) (b : Bounds) (is_thread : ℕ → Bool) (b
         | inl stays ↦ stays ∙ filled.headers q p old
         | inr (in_object none so) ↦
             let same = zero_number so.r so.number q so.o p so.there old so.below so.place in
-            loads_none step w q (header_load (is_thread so.o.class) step none (subst (λ d. FitsWord (is_thread so.o.class) d step) (sym same.1) so.fits)) ∙ filled.headers q p old
+            loads_none step w q (header_load (is_thread so.o.class) step none (subst (λ d. FitsNumber (is_thread so.o.class) d step) (sym same.1) so.fits)) ∙ filled.headers q p old
         | inr (in_block v sets new names) ↦ absurd (apart_new q q 0 p new old (omega arith) (omega arith))
       ])
       (λ q v c n sets new wants. new_header q v c n sets wants) r o there
@@ -192,7 +192,7 @@ module _ {S : Type 0} (code : Code S) (b : Bounds) (is_thread : ℕ → Bool) (b
 
   -- a thread that holds and logs no more than before, and is about to make no object
   calm_laid : (threads : Threads S) (t : ℕ) (y : ThreadState S) → LaidSo threads → ((q : ℕ) → Holds y.held q → There objects q) → ((q : ℕ) → WasMarked y.marks q → There objects q)
-      → ((x : _) → In x y.log → IsPlaced is_thread objects x.at) → new_place y.attempt ≡ None → LaidSo (set_at threads t (Some y))
+      → ((x : _) → In x y.log → IsWordPlace is_thread objects x.at) → new_place y.attempt ≡ None → LaidSo (set_at threads t (Some y))
   calm_laid threads t y (laid, filled) held marked logged none = (
     record {
       apart = laid.apart;
@@ -201,7 +201,7 @@ module _ {S : Type 0} (code : Code S) (b : Bounds) (is_thread : ℕ → Bool) (b
       from = laid.from;
       held = λ u q. each (λ (uh : ThreadState S). Holds uh.held q → There objects q) threads t y u (λ own. held q) (λ uh other at. laid.held u q uh at);
       marked = λ u q. each (λ (uh : ThreadState S). WasMarked uh.marks q → There objects q) threads t y u (λ own. marked q) (λ uh other at. laid.marked u q uh at);
-      logged = λ u x. each (λ (uh : ThreadState S). In x uh.log → IsPlaced is_thread objects x.at) threads t y u (λ own. logged x) (λ uh other at. laid.logged u x uh at);
+      logged = λ u x. each (λ (uh : ThreadState S). In x uh.log → IsWordPlace is_thread objects x.at) threads t y u (λ own. logged x) (λ uh other at. laid.logged u x uh at);
       room = λ u r. each (λ (uh : ThreadState S). new_place uh.attempt ≡ Some r → HasRoom code b w objects (set_at threads t (Some y)) u r (new_end code uh r)) threads t y u
           (λ own new. none_some r (sym none ∙ new))
           (λ uh other at new.

@@ -26,7 +26,7 @@ use Rattle.core_runs.specs.Cores.{objects_by}
 use Rattle.section_laws.proofs.WordLemmas.{stays_at}
 use Rattle.section_laws.proofs.ClaimLemmas.{none_some, found_is}
 use Rattle.section_laws.proofs.FactLemmas.{Threads, each}
-use Rattle.run_layout.specs.Layout.{Objects, end_of, free_place, FitsObjects, IsPlaced}
+use Rattle.run_layout.specs.Layout.{Objects, object_end, free_place, FitsObjects, IsWordPlace}
 use Rattle.run_layout.proofs.ListLemmas.{In, Holds, WasMarked}
 use Rattle.run_layout.proofs.NameLemmas.{NamesMonitor, NamesWrite, Names, step_names}
 use Rattle.run_layout.proofs.OwnedLemmas.{new_place, owned_by, OwnedStep, owned_steps}
@@ -58,7 +58,7 @@ module _ (is_thread : ℕ → Bool) where
 
   -- a word of such an object, of which both is known
   pub placed : (objects : Objects) (r i at : ℕ) → IsSomeAnd (objects r) (λ o. i < o.words) → IsSomeAnd (objects r) (λ o. is_thread o.class ≡ true → i ≢ 1) → at ≡ word_place r i
-      → IsPlaced is_thread objects at
+      → IsWordPlace is_thread objects at
   placed objects r i at word start is =
       let such = is_such (objects r) word in
       let kept = is_such (objects r) start in
@@ -72,7 +72,7 @@ module _ (is_thread : ℕ → Bool) where
         kept = λ thread. kept.2 (ap (λ (x : Object). is_thread x.class) (same_Some kept.0 such.0 (sym kept.1 ∙ such.1)) ∙ thread);
       }
 
-  pub write_there : {S : Type 0} (th : ThreadState S) (objects : Objects) (next : Next) (at new : ℕ) → NamesWrite th next at new → NextFits is_thread objects next → IsPlaced is_thread objects at
+  pub write_there : {S : Type 0} (th : ThreadState S) (objects : Objects) (next : Next) (at new : ℕ) → NamesWrite th next at new → NextFits is_thread objects next → IsWordPlace is_thread objects at
   write_there th objects (Want (Write r i v)) at new names all = let fits = all (Write r i v) refl in placed objects r i at fits.1 fits.2 names.0
   write_there th objects next at new names all = absurd names
 
@@ -95,17 +95,17 @@ pub record HasRoom {S : Type 0} (code : Code S) (b : Bounds) (w : Words) (object
   pub within : last ≤ b.first + b.limits.heap
   pub high : b.first ≤ r
   pub some : r + 2 ≤ last
-  pub objects_apart : (q : ℕ) (p : Object) → objects q ≡ Some p → (last ≤ q) ⊎ (end_of q p ≤ r)
+  pub objects_apart : (q : ℕ) (p : Object) → objects q ≡ Some p → (last ≤ q) ⊎ (object_end q p ≤ r)
   pub others_apart : (v q : ℕ) (vh : ThreadState S) → v ≢ u → threads v ≡ Some vh → new_place vh.attempt ≡ Some q → (last ≤ q) ⊎ (new_end code vh q ≤ r)
 
 pub record Laid {S : Type 0} (code : Code S) (b : Bounds) (is_thread : ℕ → Bool) (begun : Objects) (w : Words) (objects : Objects) (threads : Threads S) : Type 0 where
-  pub apart : (r q : ℕ) (o p : Object) → objects r ≡ Some o → objects q ≡ Some p → r ≢ q → (end_of r o ≤ q) ⊎ (end_of q p ≤ r)
-  pub low : (r : ℕ) (o : Object) → objects r ≡ Some o → end_of r o ≤ free_place b w
+  pub apart : (r q : ℕ) (o p : Object) → objects r ≡ Some o → objects q ≡ Some p → r ≢ q → (object_end r o ≤ q) ⊎ (object_end q p ≤ r)
+  pub low : (r : ℕ) (o : Object) → objects r ≡ Some o → object_end r o ≤ free_place b w
   pub in_range : (r : ℕ) (o : Object) → objects r ≡ Some o → (o.class < 2 ^ 32) × (o.length < 2 ^ 32)
-  pub from : (r : ℕ) (o : Object) → objects r ≡ Some o → (begun r ≡ Some o) ⊎ ((b.first ≤ r) × (end_of r o ≤ b.first + b.limits.heap))
+  pub from : (r : ℕ) (o : Object) → objects r ≡ Some o → (begun r ≡ Some o) ⊎ ((b.first ≤ r) × (object_end r o ≤ b.first + b.limits.heap))
   pub held : (u q : ℕ) (th : ThreadState S) → threads u ≡ Some th → Holds th.held q → There objects q
   pub marked : (u q : ℕ) (th : ThreadState S) → threads u ≡ Some th → WasMarked th.marks q → There objects q
-  pub logged : (u : ℕ) (x : Noted) (th : ThreadState S) → threads u ≡ Some th → In x th.log → IsPlaced is_thread objects x.at
+  pub logged : (u : ℕ) (x : Noted) (th : ThreadState S) → threads u ≡ Some th → In x th.log → IsWordPlace is_thread objects x.at
   pub room : (u r : ℕ) (th : ThreadState S) → threads u ≡ Some th → new_place th.attempt ≡ Some r → HasRoom code b w objects threads u r (new_end code th r)
 
 -- the count of words doesn't sink
@@ -154,7 +154,7 @@ module _ {S : Type 0} (code : Code S) (b : Bounds) (is_thread : ℕ → Bool) (b
       by_step m same = no_more (λ r v other. absurd (subst IsHeader (sym other ∙ same) tt)) (ap (λ s. objects_by code s th.local (code.next th.local) objects) same)
 
   -- the end of the new object
-  same_end : (r c n : ℕ) → code.next th.local ≡ Want (New c n) → new_end code th r ≡ end_of r (new_object code th.local c n)
+  same_end : (r c n : ℕ) → code.next th.local ≡ Want (New c n) → new_end code th r ≡ object_end r (new_object code th.local c n)
   same_end r c n wants = ap (λ next. r + size_of code th.local next) wants ∙ omega arith
 
   -- what is so of an object after the step
@@ -191,18 +191,18 @@ module _ {S : Type 0} (code : Code S) (b : Bounds) (is_thread : ℕ → Bool) (b
   there_after : (q : ℕ) → There objects q → There objects_after q
   there_after q so = (so.0, grows q so.0 so.1)
 
-  placed_after : (at : ℕ) → IsPlaced is_thread objects at → IsPlaced is_thread objects_after at
+  placed_after : (at : ℕ) → IsWordPlace is_thread objects at → IsWordPlace is_thread objects_after at
   placed_after at so = record { r = so.r; i = so.i; o = so.o; there = grows so.r so.o so.there; low = so.low; place = so.place; kept = so.kept }
 
-  apart_after : (r q : ℕ) (o p : Object) → objects_after r ≡ Some o → objects_after q ≡ Some p → r ≢ q → (end_of r o ≤ q) ⊎ (end_of q p ≤ r)
-  apart_after r q o p there also = with_objects (λ m x. m ≢ q → (end_of m x ≤ q) ⊎ (end_of q p ≤ m))
-      (λ m x old. with_objects (λ n z. m ≢ n → (end_of m x ≤ n) ⊎ (end_of n z ≤ m))
+  apart_after : (r q : ℕ) (o p : Object) → objects_after r ≡ Some o → objects_after q ≡ Some p → r ≢ q → (object_end r o ≤ q) ⊎ (object_end q p ≤ r)
+  apart_after r q o p there also = with_objects (λ m x. m ≢ q → (object_end m x ≤ q) ⊎ (object_end q p ≤ m))
+      (λ m x old. with_objects (λ n z. m ≢ n → (object_end m x ≤ n) ⊎ (object_end n z ≤ m))
       (λ n z old_too other. laid.apart m n x z old old_too other)
       (λ n v c k sets at wants other. elim ((laid.room t n th stands at).objects_apart m x old) [
         | inl high ↦ inr (subst (λ e. e ≤ m) (same_end n c k wants) high)
         | inr low ↦ inl low
       ]) q p also)
-      (λ m v c k sets at wants. with_objects (λ n z. m ≢ n → (end_of m (new_object code th.local c k) ≤ n) ⊎ (end_of n z ≤ m))
+      (λ m v c k sets at wants. with_objects (λ n z. m ≢ n → (object_end m (new_object code th.local c k) ≤ n) ⊎ (object_end n z ≤ m))
       (λ n z old other. elim ((laid.room t m th stands at).objects_apart n z old) [
         | inl high ↦ inl (subst (λ e. e ≤ n) (same_end m c k wants) high)
         | inr low ↦ inr low
@@ -210,16 +210,16 @@ module _ {S : Type 0} (code : Code S) (b : Bounds) (is_thread : ℕ → Bool) (b
       (λ n u d j sets_too at_too wants_too other. absurd (other (same_Some m n (sym at ∙ at_too)))) q p also)
       r o there
 
-  low_after : (r : ℕ) (o : Object) → objects_after r ≡ Some o → end_of r o ≤ free_place b after
-  low_after = with_objects (λ r o. end_of r o ≤ free_place b after)
+  low_after : (r : ℕ) (o : Object) → objects_after r ≡ Some o → object_end r o ≤ free_place b after
+  low_after = with_objects (λ r o. object_end r o ≤ free_place b after)
       (λ r o old. let was = laid.low r o old in let up = taken in omega (arith, was, up))
       (λ r v c n sets at wants. let was = (laid.room t r th stands at).low in let up = taken in let ends = same_end r c n wants in omega (arith, was, up, ends))
 
   range_after : (r : ℕ) (o : Object) → objects_after r ≡ Some o → (o.class < 2 ^ 32) × (o.length < 2 ^ 32)
   range_after = with_objects (λ r o. (o.class < 2 ^ 32) × (o.length < 2 ^ 32)) (λ r o old. laid.in_range r o old) (λ r v c n sets at wants. (all (New c n) wants).0)
 
-  from_after : (r : ℕ) (o : Object) → objects_after r ≡ Some o → (begun r ≡ Some o) ⊎ ((b.first ≤ r) × (end_of r o ≤ b.first + b.limits.heap))
-  from_after = with_objects (λ r o. (begun r ≡ Some o) ⊎ ((b.first ≤ r) × (end_of r o ≤ b.first + b.limits.heap))) (λ r o old. laid.from r o old)
+  from_after : (r : ℕ) (o : Object) → objects_after r ≡ Some o → (begun r ≡ Some o) ⊎ ((b.first ≤ r) × (object_end r o ≤ b.first + b.limits.heap))
+  from_after = with_objects (λ r o. (begun r ≡ Some o) ⊎ ((b.first ≤ r) × (object_end r o ≤ b.first + b.limits.heap))) (λ r o old. laid.from r o old)
       (λ r v c n sets at wants. let room = laid.room t r th stands at in inr (room.high, subst (λ e. e ≤ b.first + b.limits.heap) (same_end r c n wants) room.within))
 
   held_own : (q : ℕ) → Holds y.held q → There objects_after q
@@ -234,7 +234,7 @@ module _ {S : Type 0} (code : Code S) (b : Bounds) (is_thread : ℕ → Bool) (b
     | inr same ↦ there_after q (laid.held t q th stands (subst (λ held. Holds held q) same holds))
   ]
 
-  logged_own : (x : Noted) → In x y.log → IsPlaced is_thread objects_after x.at
+  logged_own : (x : Noted) → In x y.log → IsWordPlace is_thread objects_after x.at
   logged_own x there = elim (owned.log x there) [
     | inl before ↦ placed_after x.at (laid.logged t x th stands before)
     | inr logs ↦ placed_after x.at (write_there is_thread th objects (code.next th.local) x.at logs.new logs.names all)
@@ -300,7 +300,7 @@ module _ {S : Type 0} (code : Code S) (b : Bounds) (is_thread : ℕ → Bool) (b
         within = room.within;
         high = room.high;
         some = room.some;
-        objects_apart = with_objects (λ q p. (new_end code uh r ≤ q) ⊎ (end_of q p ≤ r)) (λ q p old. room.objects_apart q p old)
+        objects_apart = with_objects (λ q p. (new_end code uh r ≤ q) ⊎ (object_end q p ≤ r)) (λ q p old. room.objects_apart q p old)
             (λ q v c n sets about wants. elim (room.others_apart t q th (λ own. other (sym own)) stands about) [
               | inl high ↦ inl high
               | inr low ↦ inr (subst (λ e. e ≤ r) (same_end q c n wants) low)
@@ -319,7 +319,7 @@ module _ {S : Type 0} (code : Code S) (b : Bounds) (is_thread : ℕ → Bool) (b
     held = λ u q. each (λ (uh : ThreadState S). Holds uh.held q → There objects_after q) threads t y u (λ own there. held_own q there) (λ uh other at there. there_after q (laid.held u q uh at there));
     marked = λ u q. each (λ (uh : ThreadState S). WasMarked uh.marks q → There objects_after q) threads t y u (λ own there. marked_own q there)
         (λ uh other at there. there_after q (laid.marked u q uh at there));
-    logged = λ u x. each (λ (uh : ThreadState S). In x uh.log → IsPlaced is_thread objects_after x.at) threads t y u (λ own there. logged_own x there)
+    logged = λ u x. each (λ (uh : ThreadState S). In x uh.log → IsWordPlace is_thread objects_after x.at) threads t y u (λ own there. logged_own x there)
         (λ uh other at there. placed_after x.at (laid.logged u x uh at there));
     room = λ u r. each (λ (uh : ThreadState S). new_place uh.attempt ≡ Some r → HasRoom code b after objects_after threads_now u r (new_end code uh r)) threads t y u
         (λ own new. subst (λ v. HasRoom code b after objects_after threads_now v r (new_end code y r)) (sym own) (room_own r new))

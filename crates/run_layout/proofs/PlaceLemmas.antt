@@ -22,8 +22,8 @@ use Rattle.thread_automaton.specs.NextMove.{next_move}
 use Rattle.automaton_rows.specs.Fits.{AttemptFits}
 use Rattle.section_laws.proofs.WordLemmas.{stays_at}
 use Rattle.section_laws.proofs.FactLemmas.{Threads}
-use Rattle.run_layout.specs.Layout.{Objects, end_of, IsPlaced}
-use Rattle.run_layout.specs.Places.{IsPlain, FitsWord, IsInObject}
+use Rattle.run_layout.specs.Layout.{Objects, object_end, IsWordPlace}
+use Rattle.run_layout.specs.Places.{IsCodeWord, FitsNumber, IsInObject}
 use Rattle.run_layout.proofs.NameLemmas.{NamesStart, NamesWord, NamesNew, Names, step_names}
 use Rattle.run_layout.proofs.OwnedLemmas.{new_place}
 use Rattle.run_layout.proofs.LaidLemmas.{There, is_there, is_such, NextFits, monitor_there, placed, write_there, Laid}
@@ -84,7 +84,7 @@ module _ (is_thread : ℕ → Bool) (objects : Objects) where
   abbrev On : Step → ℕ → Type 0
   On step at = IsInObject is_thread objects step at
 
-  on_word : (step : Step) (at : ℕ) → ((thread : Bool) (d : ℕ) → IsPlain thread d → FitsWord thread d step) → IsPlaced is_thread objects at → On step at
+  on_word : (step : Step) (at : ℕ) → ((thread : Bool) (d : ℕ) → IsCodeWord thread d → FitsNumber thread d step) → IsWordPlace is_thread objects at → On step at
   on_word step at word so =
       let low = so.low in let place = so.place in
       record {
@@ -97,7 +97,7 @@ module _ (is_thread : ℕ → Bool) (objects : Objects) where
         fits = word (is_thread so.o.class) (2 + so.i) (omega arith, λ thread three. so.kept thread (omega (arith, three)));
       }
 
-  on_monitor : (step : Step) (at r : ℕ) → ((thread : Bool) → FitsWord thread 1 step) → r + 1 ≡ at → There objects r → On step at
+  on_monitor : (step : Step) (at r : ℕ) → ((thread : Bool) → FitsNumber thread 1 step) → r + 1 ≡ at → There objects r → On step at
   on_monitor step at r monitor place so = record { r = r; o = so.0; there = so.1; number = 1; below = omega arith; place = sym place; fits = monitor (is_thread so.0.class) }
 
   on_read : (next : Next) (at : ℕ) → NamesWord next at → NextFits is_thread objects next → On (LoadWord at) at
@@ -108,20 +108,20 @@ module _ (is_thread : ℕ → Bool) (objects : Objects) where
   on_read (Want (Write r i v)) at names all = let fits = all (Write r i v) refl in on_word (LoadWord at) at (λ thread d plain. inr plain) (placed is_thread objects r i at fits.1 fits.2 names)
   on_read next at names all = absurd names
 
-  on_start : (step : Step) (at r q : ℕ) → ((thread : Bool) → thread ≡ true → FitsWord thread 3 step) → q + 3 ≡ at → q ≡ r
+  on_start : (step : Step) (at r q : ℕ) → ((thread : Bool) → thread ≡ true → FitsNumber thread 3 step) → q + 3 ≡ at → q ≡ r
       → IsSomeAnd (objects r) (λ o. (is_thread o.class ≡ true) × (1 < o.words)) → On step at
   on_start step at r q start place names some =
       let so = is_such (objects r) some in
       let low = so.2.1 in
       record { r = r; o = so.0; there = so.1; number = 3; below = omega (arith, low); place = omega (arith, place, names); fits = start (is_thread so.0.class) so.2.0 }
 
-  of_start : (step : Step) (next : Next) (at q : ℕ) → ((thread : Bool) → thread ≡ true → FitsWord thread 3 step) → q + 3 ≡ at → NamesStart next q → NextFits is_thread objects next → On step at
+  of_start : (step : Step) (next : Next) (at q : ℕ) → ((thread : Bool) → thread ≡ true → FitsNumber thread 3 step) → q + 3 ≡ at → NamesStart next q → NextFits is_thread objects next → On step at
   of_start step (Want (Start r p)) at q start place names all = on_start step at r q start place names (all (Start r p) refl).2
   of_start step (Want (Join r)) at q start place names all = on_start step at r q start place names (all (Join r) refl).2
   of_start step next at q start place names all = absurd names
 
 -- where objects lie apart, a word of one isn't one of another
-pub one_place : (objects : Objects) → ((r q : ℕ) (o p : Object) → objects r ≡ Some o → objects q ≡ Some p → r ≢ q → (end_of r o ≤ q) ⊎ (end_of q p ≤ r))
+pub one_place : (objects : Objects) → ((r q : ℕ) (o p : Object) → objects r ≡ Some o → objects q ≡ Some p → r ≢ q → (object_end r o ≤ q) ⊎ (object_end q p ≤ r))
     → (r q : ℕ) (o p : Object) → objects r ≡ Some o → objects q ≡ Some p → (d e : ℕ) → d < 2 + o.words → e < 2 + p.words → r + d ≡ q + e → (r ≡ q) × (d ≡ e)
 one_place objects apart r q o p there also d e low_d low_e is = elim (same_or_other r q) [
   | inl same ↦ (same, omega (arith, same, is))
@@ -140,7 +140,7 @@ module _ {S : Type 0} (code : Code S) (b : Bounds) (is_thread : ℕ → Bool) (b
   abbrev At : Step → ℕ → Type 0
   At step at = Place is_thread objects th (code.next th.local) step at
 
-  of_monitor : (step : Step) (at q : ℕ) → ((thread : Bool) → FitsWord thread 1 step) → q + 1 ≡ at → There objects q → IsInObject is_thread objects step at
+  of_monitor : (step : Step) (at q : ℕ) → ((thread : Bool) → FitsNumber thread 1 step) → q + 1 ≡ at → There objects q → IsInObject is_thread objects step at
   of_monitor step at q monitor place there = on_monitor is_thread objects step at q monitor place there
 
   pub step_place : (at : ℕ) → place_of step ≡ Area.Object at → At step at
@@ -151,7 +151,7 @@ module _ {S : Type 0} (code : Code S) (b : Bounds) (is_thread : ℕ → Bool) (b
       by_step (SwapWord q old new) is object names = subst (At (SwapWord q old new)) is
           (in_object tt (on_word is_thread objects (SwapWord q old new) q (λ thread d plain. plain) (write_there is_thread th objects (code.next th.local) q new names all)))
       by_step (RestoreWord q old) is object (x, there, at_x, old_x) =
-          in_object tt (on_word is_thread objects (RestoreWord q old) at (λ thread d plain. plain) (subst (IsPlaced is_thread objects) (at_x ∙ is) (laid.logged t x th stands there)))
+          in_object tt (on_word is_thread objects (RestoreWord q old) at (λ thread d plain. plain) (subst (IsWordPlace is_thread objects) (at_x ∙ is) (laid.logged t x th stands there)))
       by_step (LoadMonitor q) is object names = in_object tt (of_monitor (LoadMonitor q) at q (λ thread. refl) is (monitor_there is_thread objects (code.next th.local) q names all))
       by_step (TakeMonitor q new) is object names =
           in_object tt (of_monitor (TakeMonitor q new) at q (λ thread. refl) is (monitor_there is_thread objects (code.next th.local) q names all))

@@ -25,8 +25,8 @@ use Rattle.core_runs.specs.Acts.{Act, quiet, did, beside, DidAt, ActAt, ActFrom}
 use Rattle.section_laws.proofs.WordLemmas.{stays_at}
 use Rattle.section_laws.proofs.ClaimLemmas.{none_some}
 use Rattle.section_laws.proofs.RunLemmas.{act_at, along, Known, facts_at}
-use Rattle.run_layout.specs.Layout.{Objects, end_of, IsLaidRun, RunsKeepLayout, ObjectsStay, IsNewObject, NewObjectsAreEmpty, ThreadsNameWhatIsThere}
-use Rattle.run_layout.specs.Places.{FitsWord, IsInObject, StepsStayInObjects}
+use Rattle.run_layout.specs.Layout.{Objects, object_end, IsLaidRun, RunsKeepLayout, ObjectsStay, IsNewObject, NewObjectsAreEmpty, ThreadsNameObjects}
+use Rattle.run_layout.specs.Places.{FitsNumber, IsInObject, StepsStayInObjects}
 use Rattle.run_layout.proofs.ListLemmas.{In, in_list, Holds, WasMarked}
 use Rattle.run_layout.proofs.NameLemmas.{Names, step_names}
 use Rattle.run_layout.proofs.OwnedLemmas.{new_place}
@@ -185,7 +185,7 @@ module _ {S : Type 0} (code : Code S) (b : Bounds) (is_thread : ℕ → Bool) (c
         ((known_at k (up_to k within)).fit t at.from at.stands).attempt at.move (fits_at k t at.from within at.stands) r r 0 o new there (omega arith) (omega arith))
 
     new_empty : (r v m n : ℕ) → step ≡ SetHeader r v → new_place at.from.attempt ≡ Some r → code.next at.from.local ≡ Want (New m n)
-        → (p : ℕ) → r < p → p < end_of r (new_object code at.from.local m n) → (c (suc k)).words (Area.Object p) ≡ 0
+        → (p : ℕ) → r < p → p < object_end r (new_object code at.from.local m n) → (c (suc k)).words (Area.Object p) ≡ 0
     new_empty r v m n sets new wants p above below =
         let so = laid_at k (up_to k within) in
         let size : size_of code at.from.local (code.next at.from.local) ≡ words_asked code at.from.local m n = ap (λ next. size_of code at.from.local next) wants in
@@ -235,7 +235,7 @@ module _ {S : Type 0} (code : Code S) (b : Bounds) (is_thread : ℕ → Bool) (c
       number = 0;
       below = omega arith;
       place = omega arith;
-      fits = subst (FitsWord (is_thread names.0) 0) (sym sets) refl;
+      fits = subst (FitsNumber (is_thread names.0) 0) (sym sets) refl;
     }
 
 pub runs_keep_layout : {S : Type 0} (code : Code S) → RunsKeepLayout code
@@ -256,7 +256,7 @@ new_objects code b is_thread c acts run k t r w th a here stands =
 some_there : (objects : Objects) (r : ℕ) → There objects r → IsThere objects r
 some_there objects r (o, there) = ap is_some there
 
-pub names_there : {S : Type 0} (code : Code S) → ThreadsNameWhatIsThere code
+pub names_there : {S : Type 0} (code : Code S) → ThreadsNameObjects code
 names_there code b is_thread c acts run k t th within stands =
     let laid = (laid_at code b is_thread c acts run k within).0 in
     record {

@@ -26,8 +26,8 @@ abbrev pub Objects : Type 0
 Objects = ℕ → Option Object
 
 -- the first place after an object at r: its header, its monitor and its words lie one after another
-abbrev pub end_of : ℕ → Object → ℕ
-end_of r o = r + 2 + o.words
+abbrev pub object_end : ℕ → Object → ℕ
+object_end r o = r + 2 + o.words
 
 -- the first place that wasn't taken for an object yet
 abbrev pub free_place : Bounds → Words → ℕ
@@ -35,9 +35,9 @@ free_place b w = b.first + w (Control 2)
 
 -- The objects lie apart, each with a header that says its class and its length, below a place from which on all words
 -- are 0.
-pub record AreLaidOut (free : ℕ) (w : Words) (objects : Objects) : Type 0 where
-  pub apart : (r q : ℕ) (o p : Object) → objects r ≡ Some o → objects q ≡ Some p → r ≢ q → (end_of r o ≤ q) ⊎ (end_of q p ≤ r)
-  pub low : (r : ℕ) (o : Object) → objects r ≡ Some o → end_of r o ≤ free
+pub record ObjectsLieApart (free : ℕ) (w : Words) (objects : Objects) : Type 0 where
+  pub apart : (r q : ℕ) (o p : Object) → objects r ≡ Some o → objects q ≡ Some p → r ≢ q → (object_end r o ≤ q) ⊎ (object_end q p ≤ r)
+  pub low : (r : ℕ) (o : Object) → objects r ≡ Some o → object_end r o ≤ free
   pub in_range : (r : ℕ) (o : Object) → objects r ≡ Some o → (o.class < 2 ^ 32) × (o.length < 2 ^ 32)
   pub headers : (r : ℕ) (o : Object) → objects r ≡ Some o → w (Area.Object r) ≡ pack_header o.class o.length
   pub unused : (at : ℕ) → free ≤ at → w (Area.Object at) ≡ 0
@@ -54,13 +54,13 @@ WantsFitObjects {S} code is_thread c acts = (k t : ℕ) (th : ThreadState S) (op
 -- A run that begins with objects that are laid out, and whose threads want what fits them.
 pub record IsLaidRun {S : Type 0} (code : Code S) (b : Bounds) (is_thread : ℕ → Bool) (c : ℕ → Core S) (acts : List Act) : Type 0 where
   pub run : IsRun code b c acts
-  pub begins : AreLaidOut (free_place b (c 0).words) (c 0).words (c 0).objects
+  pub begins : ObjectsLieApart (free_place b (c 0).words) (c 0).words (c 0).objects
   pub wants : WantsFitObjects code is_thread c acts
 
 -- the objects are laid out at each place of it
 abbrev pub RunsKeepLayout : {S : Type 0} → Code S → Type 0
 RunsKeepLayout {S} code = (b : Bounds) (is_thread : ℕ → Bool) (c : ℕ → Core S) (acts : List Act) → IsLaidRun code b is_thread c acts
-    → (k : ℕ) → k ≤ length acts → AreLaidOut (free_place b (c k).words) (c k).words (c k).objects
+    → (k : ℕ) → k ≤ length acts → ObjectsLieApart (free_place b (c k).words) (c k).words (c k).objects
 
 -- and each object stays
 abbrev pub ObjectsStay : {S : Type 0} → Code S → Type 0
@@ -74,8 +74,8 @@ pub record IsNewObject {S : Type 0} (b : Bounds) (c : ℕ → Core S) (k r : ℕ
   pub none : (c k).objects r ≡ None
   pub there : (c (suc k)).objects r ≡ Some o
   pub first : b.first ≤ r
-  pub last : end_of r o ≤ b.first + b.limits.heap
-  pub empty : (at : ℕ) → r < at → at < end_of r o → (c (suc k)).words (Area.Object at) ≡ 0
+  pub last : object_end r o ≤ b.first + b.limits.heap
+  pub empty : (at : ℕ) → r < at → at < object_end r o → (c (suc k)).words (Area.Object at) ≡ 0
 
 -- so is each object whose header a thread sets
 abbrev pub NewObjectsAreEmpty : {S : Type 0} → Code S → Type 0
@@ -86,7 +86,7 @@ NewObjectsAreEmpty {S} code = (b : Bounds) (is_thread : ℕ → Bool) (c : ℕ �
 -- ---- what threads have logged and hold
 
 -- the place is that of a word of an object that is there, and that isn't a start word
-pub record IsPlaced (is_thread : ℕ → Bool) (objects : Objects) (at : ℕ) : Type 0 where
+pub record IsWordPlace (is_thread : ℕ → Bool) (objects : Objects) (at : ℕ) : Type 0 where
   pub r : ℕ
   pub i : ℕ
   pub o : Object
@@ -96,12 +96,12 @@ pub record IsPlaced (is_thread : ℕ → Bool) (objects : Objects) (at : ℕ) : 
   pub kept : is_thread o.class ≡ true → i ≢ 1
 
 -- A thread has logged words of objects that are there, and holds and held monitors of objects that are.
-pub record NamesWhatIsThere {S : Type 0} (is_thread : ℕ → Bool) (objects : Objects) (th : ThreadState S) : Type 0 where
-  pub logged : (x : Noted) → Contains th.log x → IsPlaced is_thread objects x.at
+pub record NamesObjects {S : Type 0} (is_thread : ℕ → Bool) (objects : Objects) (th : ThreadState S) : Type 0 where
+  pub logged : (x : Noted) → Contains th.log x → IsWordPlace is_thread objects x.at
   pub held : (h : Held) → Contains th.held h → IsThere objects h.object
   pub marked : (m : Mark) (h : Held) → Contains th.marks m → Contains m.held h → IsThere objects h.object
 
 -- so it is with each thread at each place
-abbrev pub ThreadsNameWhatIsThere : {S : Type 0} → Code S → Type 0
-ThreadsNameWhatIsThere {S} code = (b : Bounds) (is_thread : ℕ → Bool) (c : ℕ → Core S) (acts : List Act) → IsLaidRun code b is_thread c acts
-    → (k t : ℕ) (th : ThreadState S) → k ≤ length acts → (c k).threads t ≡ Some th → NamesWhatIsThere is_thread (c k).objects th
+abbrev pub ThreadsNameObjects : {S : Type 0} → Code S → Type 0
+ThreadsNameObjects {S} code = (b : Bounds) (is_thread : ℕ → Bool) (c : ℕ → Core S) (acts : List Act) → IsLaidRun code b is_thread c acts
+    → (k t : ℕ) (th : ThreadState S) → k ≤ length acts → (c k).threads t ≡ Some th → NamesObjects is_thread (c k).objects th

@@ -17,22 +17,22 @@ use Rattle.run_layout.specs.Layout.{Objects, IsLaidRun}
 -- where it is i + 2. `thread` says whether it is a thread object, whose word 1 is the start word.
 
 -- it is a word that code reads and writes
-abbrev pub IsPlain : Bool → ℕ → Type 0
-IsPlain thread d = (2 ≤ d) × (thread ≡ true → d ≢ 3)
+abbrev pub IsCodeWord : Bool → ℕ → Type 0
+IsCodeWord thread d = (2 ≤ d) × (thread ≡ true → d ≢ 3)
 
 -- the step is one on number d
-abbrev pub FitsWord : Bool → ℕ → Step → Type 0
-FitsWord thread d (SetHeader r w) = d ≡ 0
-FitsWord thread d (LoadWord at) = (d ≡ 0) ⊎ IsPlain thread d
-FitsWord thread d (SwapWord at old new) = IsPlain thread d
-FitsWord thread d (RestoreWord at old) = IsPlain thread d
-FitsWord thread d (LoadMonitor r) = d ≡ 1
-FitsWord thread d (TakeMonitor r new) = d ≡ 1
-FitsWord thread d (SetDepth r new) = d ≡ 1
-FitsWord thread d (Release r) = d ≡ 1
-FitsWord thread d (StartThread r n) = (d ≡ 3) × (thread ≡ true)
-FitsWord thread d (LoadThread (Start r)) = (d ≡ 3) × (thread ≡ true)
-FitsWord thread d step = ⊥
+abbrev pub FitsNumber : Bool → ℕ → Step → Type 0
+FitsNumber thread d (SetHeader r w) = d ≡ 0
+FitsNumber thread d (LoadWord at) = (d ≡ 0) ⊎ IsCodeWord thread d
+FitsNumber thread d (SwapWord at old new) = IsCodeWord thread d
+FitsNumber thread d (RestoreWord at old) = IsCodeWord thread d
+FitsNumber thread d (LoadMonitor r) = d ≡ 1
+FitsNumber thread d (TakeMonitor r new) = d ≡ 1
+FitsNumber thread d (SetDepth r new) = d ≡ 1
+FitsNumber thread d (Release r) = d ≡ 1
+FitsNumber thread d (StartThread r n) = (d ≡ 3) × (thread ≡ true)
+FitsNumber thread d (LoadThread (Start r)) = (d ≡ 3) × (thread ≡ true)
+FitsNumber thread d step = ⊥
 
 -- The place is that of such a word of an object that is there.
 pub record IsInObject (is_thread : ℕ → Bool) (objects : Objects) (step : Step) (at : ℕ) : Type 0 where
@@ -42,7 +42,7 @@ pub record IsInObject (is_thread : ℕ → Bool) (objects : Objects) (step : Ste
   pub number : ℕ
   pub below : number < 2 + o.words
   pub place : at ≡ r + number
-  pub fits : FitsWord (is_thread o.class) number step
+  pub fits : FitsNumber (is_thread o.class) number step
 
 -- each step of a thread on the words of objects is made so
 abbrev pub StepsStayInObjects : {S : Type 0} → Code S → Type 0

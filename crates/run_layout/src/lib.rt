@@ -3,7 +3,7 @@
 //! Each function does nothing: its contract is the law.
 #![tactic(auto)]
 
-ghost use Rattle.run_layout.specs.Layout.{RunsKeepLayout, ObjectsStay, NewObjectsAreEmpty, ThreadsNameWhatIsThere};
+ghost use Rattle.run_layout.specs.Layout.{RunsKeepLayout, ObjectsStay, NewObjectsAreEmpty, ThreadsNameObjects};
 ghost use Rattle.run_layout.specs.Places.{StepsStayInObjects};
 
 use op_core::ThreadCode;
@@ -33,5 +33,5 @@ pub fn new_objects_are_empty<C: ThreadCode>()
 /// What a thread has logged are words of objects that are there, and no start words; and the monitors that it holds, and
 /// those that it held as its levels opened, are of objects that are there.
 pub fn threads_name_what_is_there<C: ThreadCode>()
-    ensures { ThreadsNameWhatIsThere C.code }
+    ensures { ThreadsNameObjects C.code }
 {}

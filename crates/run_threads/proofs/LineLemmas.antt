@@ -27,7 +27,7 @@ use Rattle.section_laws.proofs.ClaimLemmas.{none_some, found_is}
 use Rattle.section_laws.proofs.FactLemmas.{Threads, each}
 use Rattle.section_laws.proofs.RunLemmas.{along, facts_at}
 use Rattle.run_threads.specs.Numbers.{AreNumbered}
-use Rattle.run_threads.specs.Lines.{HasTicket, ArePlaced, TicketsAreLines}
+use Rattle.run_threads.specs.Lines.{HasTicket, StandAtTickets, TicketsAreLines}
 use Rattle.run_threads.proofs.SeenLemmas.{IsQuiet, stays, prints_line, ends_thread, seen_steps}
 use Rattle.run_threads.proofs.NumberLemmas.{threads_are_new}
 
@@ -42,13 +42,13 @@ get_last : (lines : List Line) (x : Line) → slice_get (lines ++ x ∷ []) (len
 get_last [] x = refl
 get_last (z ∷ lines) x = get_last lines x
 
-placed_more : (m n : ℕ) (lines : List Line) (x : Line) (printed : List Printed) → m ≤ n → ArePlaced m lines printed → ArePlaced n (lines ++ x ∷ []) printed
+placed_more : (m n : ℕ) (lines : List Line) (x : Line) (printed : List Printed) → m ≤ n → StandAtTickets m lines printed → StandAtTickets n (lines ++ x ∷ []) printed
 placed_more m n lines x [] up placed = tt
 placed_more m n lines x (p ∷ printed) up placed =
     let low = placed.0 in
     (omega (arith, low, up), get_more lines x p.ticket p.line placed.1, placed_more p.ticket p.ticket lines x printed (omega arith) placed.2)
 
-placed_low : (n i : ℕ) (lines : List Line) (printed : List Printed) → ArePlaced n lines printed → HasTicket i printed → i < n
+placed_low : (n i : ℕ) (lines : List Line) (printed : List Printed) → StandAtTickets n lines printed → HasTicket i printed → i < n
 placed_low n i lines [] placed has = absurd has
 placed_low n i lines (p ∷ printed) placed (inl is) = let low = placed.0 in omega (arith, low, is)
 placed_low n i lines (p ∷ printed) placed (inr later) =
@@ -85,7 +85,7 @@ beside_prints_none step is = cc
 -- the same of parts of a core
 record Have {S : Type 0} (w : Words) (threads : Threads S) (lines : List Line) : Type 0 where
   count : w (Control 3) ≡ length lines
-  placed : (t : ℕ) (th : ThreadState S) → threads t ≡ Some th → ArePlaced (length lines) lines th.lines
+  placed : (t : ℕ) (th : ThreadState S) → threads t ≡ Some th → StandAtTickets (length lines) lines th.lines
   all : (i : ℕ) → i < length lines → (t : ℕ) × (th : ThreadState S) × (threads t ≡ Some th) × HasTicket i th.lines
   one : (i t u : ℕ) (th uh : ThreadState S) → threads t ≡ Some th → threads u ≡ Some uh → HasTicket i th.lines → HasTicket i uh.lines → t ≡ u
 
@@ -105,7 +105,7 @@ module _ {S : Type 0} (w : Words) (threads : Threads S) (lines : List Line) (hav
   same_have : y.lines ≡ th.lines → (v : Words) → v (Control 3) ≡ w (Control 3) → Have v now lines
   same_have same v count = record {
     count = count ∙ have.count;
-    placed = λ u. each (λ (uh : ThreadState S). ArePlaced (length lines) lines uh.lines) threads t y u (λ own. subst (ArePlaced (length lines) lines) (sym same) (have.placed t th stands))
+    placed = λ u. each (λ (uh : ThreadState S). StandAtTickets (length lines) lines uh.lines) threads t y u (λ own. subst (StandAtTickets (length lines) lines) (sym same) (have.placed t th stands))
         (λ uh other there. have.placed u uh there);
     all = λ i low. let was = have.all i low in still i (λ u uh there has own. subst (HasTicket i) (sym same) (own_has i u uh there has own)) was.0 was.1 was.2 was.3;
     one = λ i u v uh vh there at_v has also.
@@ -124,8 +124,8 @@ module _ {S : Type 0} (w : Words) (threads : Threads S) (lines : List Line) (hav
   more_have : (x : Line) → y.lines ≡ record { ticket = length lines; line = x } ∷ th.lines → (v : Words) → v (Control 3) ≡ w (Control 3) + 1 → Have v now (lines ++ x ∷ [])
   more_have x is v count = record {
     count = (let was = have.count in let size = length_push lines x in omega (arith, count, was, size));
-    placed = λ u. each (λ (uh : ThreadState S). ArePlaced (length (lines ++ x ∷ [])) (lines ++ x ∷ []) uh.lines) threads t y u
-        (λ own. subst (ArePlaced (length (lines ++ x ∷ [])) (lines ++ x ∷ [])) (sym is)
+    placed = λ u. each (λ (uh : ThreadState S). StandAtTickets (length (lines ++ x ∷ [])) (lines ++ x ∷ []) uh.lines) threads t y u
+        (λ own. subst (StandAtTickets (length (lines ++ x ∷ [])) (lines ++ x ∷ [])) (sym is)
         (up (length lines) (omega arith), get_last lines x, placed_more (length lines) (length lines) lines x th.lines (omega arith) (have.placed t th stands)))
         (λ uh other there. placed_more (length lines) (length (lines ++ x ∷ [])) lines x uh.lines (let size = length_push lines x in omega (arith, size)) (have.placed u uh there));
     all = λ i low. elim (leb_tells (length lines) i) [
@@ -172,7 +172,7 @@ begun_have : {S : Type 0} (w : Words) (threads : Threads S) (lines : List Line) 
     → Have w (set_at threads n (Some y)) lines
 begun_have {S} w threads lines n y have none new = record {
   count = have.count;
-  placed = λ u. each (λ (uh : ThreadState S). ArePlaced (length lines) lines uh.lines) threads n y u (λ own. subst (ArePlaced (length lines) lines) (sym new) tt) (λ uh other there. have.placed u uh there);
+  placed = λ u. each (λ (uh : ThreadState S). StandAtTickets (length lines) lines uh.lines) threads n y u (λ own. subst (StandAtTickets (length lines) lines) (sym new) tt) (λ uh other there. have.placed u uh there);
   all = λ i low. let was = have.all i low in (was.0, was.1, set_at-other threads n (Some y) was.0 (λ same. none_some was.1 (sym none ∙ ap threads (sym same) ∙ was.2)) ∙ was.2, was.3);
   one = λ i u v uh vh there at_v has also.
       let a = was_there i u uh there has in let b = was_there i v vh at_v also in
@@ -242,7 +242,7 @@ module _ {S : Type 0} (code : Code S) (b : Bounds) (c : ℕ → Core S) (acts : 
   first_have : (c 0).words (Control 3) ≡ 0 → (c 0).lines ≡ [] → HaveAt 0
   first_have count none = record {
     count = count ∙ ap length (sym none);
-    placed = λ t th there. subst (ArePlaced (length (c 0).lines) (c 0).lines) (sym (no_lines t th there)) tt;
+    placed = λ t th there. subst (StandAtTickets (length (c 0).lines) (c 0).lines) (sym (no_lines t th there)) tt;
     all = λ i low. absurd (too_low i (subst (λ lines. i < length lines) none low));
     one = λ i t u th uh there at_u has also. absurd (subst (HasTicket i) (no_lines t th there) has);
   }

@@ -21,7 +21,7 @@ use Rattle.section_laws.proofs.RunLemmas.{along}
 use Rattle.run_threads.proofs.NumberLemmas.{numbers_at}
 use Rattle.run_layout.specs.Layout.{IsLaidRun}
 use Rattle.run_layout.proofs.RunLemmas.{beside_object}
-use Rattle.start_words.specs.Starts.{start_of, IsStarted, StartsFit, StartsAreKnown, BeginsWithStarts, StartsStayKnown}
+use Rattle.start_words.specs.Starts.{start_word_of, IsStarted, StartsFit, StartsAreKnown, BeginsWithStarts, StartsStayKnown}
 use Rattle.start_words.proofs.AttemptLemmas.{IsStarting}
 use Rattle.start_words.proofs.StepLemmas.{step_starts}
 
@@ -43,7 +43,7 @@ module _ {S : Type 0} (code : Code S) (b : Bounds) (is_thread : ℕ → Bool) (c
     record {
       words = record {
         low = before.words.low;
-        started = λ r thread some. let was = before.words.started r thread some in (was.0, elim was.1 [ inl there ↦ inl (still (start_of (c k) r) there.0 there.1) | inr about ↦ inr about ]);
+        started = λ r thread some. let was = before.words.started r thread some in (was.0, elim was.1 [ inl there ↦ inl (still (start_word_of (c k) r) there.0 there.1) | inr about ↦ inr about ]);
         apart = before.words.apart;
       };
       drawn = before.drawn;
@@ -74,7 +74,7 @@ module _ {S : Type 0} (code : Code S) (b : Bounds) (is_thread : ℕ → Bool) (c
             started = λ r thread some.
                 let was = before.words.started r thread (subst (λ m. 0 < m) (same r) some) in
                 let low = was.0 in let word = same r in
-                (omega (arith, low, word, more), subst (IsStarted (record (c k) { words = words_after step (c k).words })) (sym (same r)) (started (start_of (c k) r) was.1));
+                (omega (arith, low, word, more), subst (IsStarted (record (c k) { words = words_after step (c k).words })) (sym (same r)) (started (start_word_of (c k) r) was.1));
             apart = λ r q thread thread_too some equal. before.words.apart r q thread thread_too (subst (λ m. 0 < m) (same r) some) (sym (same r) ∙ equal ∙ same q);
           };
           drawn = λ n l there. let low = before.drawn n l there in omega (arith, low, more);
@@ -88,7 +88,7 @@ module _ {S : Type 0} (code : Code S) (b : Bounds) (is_thread : ℕ → Bool) (c
         },
       )
     where
-      same : (r : ℕ) → start_of (record (c k) { words = words_after step (c k).words }) r ≡ start_of (c k) r
+      same : (r : ℕ) → start_word_of (record (c k) { words = words_after step (c k).words }) r ≡ start_word_of (c k) r
       same r = beside_object step is (c k).words (r + 3)
 
       started : (n : ℕ) → IsStarted (c k) n → IsStarted (record (c k) { words = words_after step (c k).words }) n

@@ -33,7 +33,7 @@ use Rattle.run_layout.specs.Layout.{IsLaidRun}
 use Rattle.run_layout.proofs.LaidLemmas.{is_such, NextFits}
 use Rattle.run_layout.proofs.FillLemmas.{loads_none}
 use Rattle.run_layout.proofs.RunLemmas.{fits_at}
-use Rattle.start_words.specs.Starts.{IsThreadObject, start_of, IsStarted, StartsFit, StartsAreKnown}
+use Rattle.start_words.specs.Starts.{IsThreadObject, start_word_of, IsStarted, StartsFit, StartsAreKnown}
 use Rattle.start_words.proofs.WordLemmas.{value_low, above_zero, is_none, within, known_here, all_fit, StartsAt, StartNow, is_kept, is_set, is_new, start_now, start_change, starting_made}
 use Rattle.start_words.proofs.AttemptLemmas.{IsStarting, starts_none, draws_number, starts_thread, finds_start, start_steps}
 
@@ -66,7 +66,7 @@ module _ {S : Type 0} (code : Code S) (b : Bounds) (is_thread : ℕ → Bool) (c
   now_at : (r : ℕ) → IsThreadObject is_thread after.objects r → NowAt r
   now_at r thread = start_now code b is_thread c acts run k t step a here at r thread
 
-  change_at : (r : ℕ) → IsThread r → (start_of after r ≡ start_of (c k) r) ⊎ SetsAt r
+  change_at : (r : ℕ) → IsThread r → (start_word_of after r ≡ start_word_of (c k) r) ⊎ SetsAt r
   change_at r thread = start_change code b is_thread c acts run k t step a here at r thread
 
   made_at : (r n : ℕ) → step ≡ StartThread r n → (n < 256) × (at.from.attempt ≡ Fixed (StartThread r n))
@@ -149,16 +149,16 @@ module _ {S : Type 0} (code : Code S) (b : Bounds) (is_thread : ℕ → Bool) (c
         no : (m : ℕ) → 0 < m → m ≡ 0 → ⊥
         no m some none = omega (arith, some, none)
 
-    words_low : (r : ℕ) → NowAt r → start_of after r < 2 ^ 8
+    words_low : (r : ℕ) → NowAt r → start_word_of after r < 2 ^ 8
     words_low r (is_kept thread same) = subst (λ m. m < 2 ^ 8) (sym same) (before.words.low r thread)
     words_low r (is_set thread sets) = subst (λ m. m < 2 ^ 8) (sym sets.is) (made_at r sets.n sets.made).0
     words_low r (is_new none) = omega (arith, none)
 
-    words_started : (r : ℕ) → NowAt r → 0 < start_of after r → (start_of after r ≤ after.words (Control 4)) × IsStarted after (start_of after r)
+    words_started : (r : ℕ) → NowAt r → 0 < start_word_of after r → (start_word_of after r ≤ after.words (Control 4)) × IsStarted after (start_word_of after r)
     words_started r (is_kept thread same) some =
         let was = before.words.started r thread (subst (λ m. 0 < m) same some) in
         let low = was.0 in let more = count_up in
-        (omega (arith, same, low, more), subst (IsStarted after) (sym same) (still_started (start_of (c k) r) was.1))
+        (omega (arith, same, low, more), subst (IsStarted after) (sym same) (still_started (start_word_of (c k) r) was.1))
     words_started r (is_set thread sets) some =
         let own = made_at r sets.n sets.made in
         let low = numbers.drawn t at.from at.stands in
@@ -169,9 +169,9 @@ module _ {S : Type 0} (code : Code S) (b : Bounds) (is_thread : ℕ → Bool) (c
         set_now : (sets : SetsAt r) → after.starting sets.n ≡ Some (code.child at.from.local r)
         set_now sets = ap (λ m. starting_by code m a at.from.local (c k).starting sets.n) sets.made
             ∙ ap (λ x. starting_by code (StartThread r sets.n) x at.from.local (c k).starting sets.n) sets.done ∙ set_at-hit (c k).starting sets.n (Some (code.child at.from.local r))
-    words_started r (is_new none) some = no_zero (start_of after r) some none
+    words_started r (is_new none) some = no_zero (start_word_of after r) some none
 
-    words_apart : (r q : ℕ) → NowAt r → NowAt q → 0 < start_of after r → start_of after r ≡ start_of after q → r ≡ q
+    words_apart : (r q : ℕ) → NowAt r → NowAt q → 0 < start_word_of after r → start_word_of after r ≡ start_word_of after q → r ≡ q
     words_apart r q (is_kept thread same) (is_kept thread_too same_too) some equal = before.words.apart r q thread thread_too (subst (λ m. 0 < m) same some) (sym same ∙ equal ∙ same_too)
     words_apart r q (is_kept thread same) (is_set thread_too sets) some equal =
         absurd ((own_fit.unused q sets.n (made_at q sets.n sets.made).1).2 r thread (sym same ∙ equal ∙ sets.is))
@@ -185,14 +185,14 @@ module _ {S : Type 0} (code : Code S) (b : Bounds) (is_thread : ℕ → Bool) (c
 
         same_object : {m n : ℕ} → StartThread r m ≡ StartThread q n → r ≡ q
         same_object same = ap object_in same
-    words_apart r q (is_new none) now some equal = no_zero (start_of after r) some none
-    words_apart r q now (is_new none) some equal = no_zero (start_of after r) some (equal ∙ none)
+    words_apart r q (is_new none) now some equal = no_zero (start_word_of after r) some none
+    words_apart r q now (is_new none) some equal = no_zero (start_word_of after r) some (equal ∙ none)
 
     -- ---- threads
 
     -- a number above the count is none that is about to begin, and no start word
     new_number : (n : ℕ) → n ≡ w (Control 4) + 1 → ((r m : ℕ) → step ≡ StartThread r m → ⊥)
-        → (2 ≤ n) × (after.starting n ≡ None) × ((q : ℕ) → IsThreadObject is_thread after.objects q → start_of after q ≢ n)
+        → (2 ≤ n) × (after.starting n ≡ None) × ((q : ℕ) → IsThreadObject is_thread after.objects q → start_word_of after q ≢ n)
     new_number n next starts = (
       omega (arith, next, one_drawn),
       stays_starting n (λ r sets. starts r n sets) ∙ is_none ((c k).starting n) (λ l there. let low = before.drawn n l there in above n (w (Control 4)) next low),
@@ -202,7 +202,7 @@ module _ {S : Type 0} (code : Code S) (b : Bounds) (is_thread : ℕ → Bool) (c
         above : (n m : ℕ) → n ≡ m + 1 → n ≤ m → ⊥
         above n m next low = omega (arith, next, low)
 
-        by_now : (q : ℕ) → NowAt q → start_of after q ≡ n → ⊥
+        by_now : (q : ℕ) → NowAt q → start_word_of after q ≡ n → ⊥
         by_now q (is_kept thread same) is =
             let low = (before.words.started q thread (subst (λ m. 0 < m) (sym (sym same ∙ is)) (omega (arith, next)))).0 in
             above n (w (Control 4)) next (subst (λ m. m ≤ w (Control 4)) (sym same ∙ is) low)
@@ -231,7 +231,7 @@ module _ {S : Type 0} (code : Code S) (b : Bounds) (is_thread : ℕ → Bool) (c
               (so.0, kept_word n r so.0 so.1 (is_such ((c k).objects r) (fits_at code b is_thread c acts run k u uh inside there (Join r) wants).2));
         }
       where
-        by_now : (r n : ℕ) → uh.attempt ≡ Fixed (StartThread r n) → ((q : ℕ) → IsThread q → start_of (c k) q ≢ n) → 0 < n → (q : ℕ) → NowAt q → start_of after q ≡ n → ⊥
+        by_now : (r n : ℕ) → uh.attempt ≡ Fixed (StartThread r n) → ((q : ℕ) → IsThread q → start_word_of (c k) q ≢ n) → 0 < n → (q : ℕ) → NowAt q → start_word_of after q ≡ n → ⊥
         by_now r n is unused some q (is_kept thread same) equal = unused q thread (sym same ∙ equal)
         by_now r n is unused some q (is_set thread sets) equal = others_number u uh other there q sets.n n sets.made (ap number_at is) some (sym equal ∙ sets.is)
         by_now r n is unused some q (is_new none) equal = no_zero n some (sym equal ∙ none)
@@ -244,7 +244,7 @@ module _ {S : Type 0} (code : Code S) (b : Bounds) (is_thread : ℕ → Bool) (c
             by_next (Want (Start q o)) fits = fits.3
             by_next next fits = absurd fits
 
-        kept_word : (n r : ℕ) → 0 < n → start_of (c k) r ≡ n → (o : Object) × ((c k).objects r ≡ Some o) × ((is_thread o.class ≡ true) × (1 < o.words)) → start_of after r ≡ n
+        kept_word : (n r : ℕ) → 0 < n → start_word_of (c k) r ≡ n → (o : Object) × ((c k).objects r ≡ Some o) × ((is_thread o.class ≡ true) × (1 < o.words)) → start_word_of after r ≡ n
         kept_word n r some is so = elim (change_at r (so.0, so.1, so.2.0, so.2.1)) [
           | inl same ↦ same ∙ is
           | inr sets ↦ no_zero n some (sym is ∙ sets.was)
@@ -275,10 +275,10 @@ module _ {S : Type 0} (code : Code S) (b : Bounds) (is_thread : ℕ → Bool) (c
         awaited = λ m q is other. absurd (subst IsSplit (sym stands ∙ is) tt);
       }
       | finds_start r v loads found some wants stands local ↦
-          let word : v ≡ start_of (c k) r = found_is v (start_of (c k) r) (sym found ∙ at.answered ∙ ap (answer_of w) loads) in
+          let word : v ≡ start_word_of (c k) r = found_is v (start_word_of (c k) r) (sym found ∙ at.answered ∙ ap (answer_of w) loads) in
           let thread = is_such ((c k).objects r) (all (Join r) wants).2 in
           let low = before.words.low r (thread.0, thread.1, thread.2.0, thread.2.1) in
-          let value : value_of v ≡ start_of (c k) r = ap value_of word ∙ value_low (start_of (c k) r) low in
+          let value : value_of v ≡ start_word_of (c k) r = ap value_of word ∙ value_low (start_word_of (c k) r) low in
           record {
             unused = λ q m is. absurd (subst IsWait (sym stands ∙ is) tt);
             begins = λ m q o is. absurd (subst IsWait (sym stands ∙ is) tt);
@@ -286,7 +286,7 @@ module _ {S : Type 0} (code : Code S) (b : Bounds) (is_thread : ℕ → Bool) (c
                 let number : value_of v ≡ m = same_wait (value_of v) m (sym stands ∙ is) in
                 let object : r ≡ q = same_join r q (sym wants ∙ ap code.next (sym local) ∙ other) in
                 let above = above_zero v some in
-                (omega (arith, number, value, word, above), ap (λ x. start_of after x) (sym object) ∙ loads_none step w (r + 3) (ap effect_of loads) ∙ sym value ∙ number);
+                (omega (arith, number, value, word, above), ap (λ x. start_word_of after x) (sym object) ∙ loads_none step w (r + 3) (ap effect_of loads) ∙ sym value ∙ number);
           }
     ]
       where

@@ -25,14 +25,14 @@ use Rattle.core_runs.specs.Acts.{Act, did, DidAt}
 use Rattle.section_laws.proofs.WordLemmas.{stays_at}
 use Rattle.section_laws.proofs.RunLemmas.{Known}
 use Rattle.run_layout.specs.Layout.{IsLaidRun}
-use Rattle.run_layout.specs.Places.{FitsWord}
+use Rattle.run_layout.specs.Places.{FitsNumber}
 use Rattle.run_layout.proofs.NameLemmas.{Names, step_names}
 use Rattle.run_layout.proofs.OwnedLemmas.{new_place}
 use Rattle.run_layout.proofs.LaidLemmas.{NextFits, size_of, new_object, with_objects}
 use Rattle.run_layout.proofs.PlaceLemmas.{object_other, put_object, stays_or_made, Place, in_object, in_block, step_place}
 use Rattle.run_layout.proofs.FillLemmas.{loads_none, same_word, apart_new}
 use Rattle.run_layout.proofs.RunLemmas.{fits_at, known_at, laid_at}
-use Rattle.start_words.specs.Starts.{IsThreadObject, start_of}
+use Rattle.start_words.specs.Starts.{IsThreadObject, start_word_of}
 
 pub packed : (n : ℕ) → pack n 0 ≡ n
 unfolding pack
@@ -83,38 +83,38 @@ module _ {S : Type 0} (code : Code S) (b : Bounds) (is_thread : ℕ → Bool) (c
     pub n : ℕ
     pub made : step ≡ StartThread r n
     pub done : a ≡ Done
-    pub was : start_of (c k) r ≡ 0
-    pub is : start_of after r ≡ n
+    pub was : start_word_of (c k) r ≡ 0
+    pub is : start_word_of after r ≡ n
 
-  starts_at : (r n : ℕ) → step ≡ StartThread r n → (start_of after r ≡ start_of (c k) r) ⊎ StartsAt r
-  starts_at r n sets = by_test (nat_eq (start_of (c k) r) 0) refl
+  starts_at : (r n : ℕ) → step ≡ StartThread r n → (start_word_of after r ≡ start_word_of (c k) r) ⊎ StartsAt r
+  starts_at r n sets = by_test (nat_eq (start_word_of (c k) r) 0) refl
     where
       zero_of : (m : ℕ) → nat_eq m 0 ≡ true → m ≡ 0
       zero_of m is = grind (arith, common_steps, nat_tests)
 
-      by_test : (x : Bool) → nat_eq (start_of (c k) r) 0 ≡ x → (start_of after r ≡ start_of (c k) r) ⊎ StartsAt r
+      by_test : (x : Bool) → nat_eq (start_word_of (c k) r) 0 ≡ x → (start_word_of after r ≡ start_word_of (c k) r) ⊎ StartsAt r
       by_test true is = inr (record {
         n = n;
         made = sets;
-        done = at.answered ∙ ap (answer_of w) sets ∙ ap (λ x. if x then Done else StepAnswer.Lost (start_of (c k) r)) is;
-        was = zero_of (start_of (c k) r) is;
+        done = at.answered ∙ ap (answer_of w) sets ∙ ap (λ x. if x then Done else StepAnswer.Lost (start_word_of (c k) r)) is;
+        was = zero_of (start_word_of (c k) r) is;
         is = ap (λ m. words_after m w (Area.Object (r + 3))) sets ∙ ap (λ x. (if x then put_at w (Area.Object (r + 3)) (pack n 0) else w) (Area.Object (r + 3))) is
             ∙ put_object w (r + 3) (pack n 0) ∙ packed n;
       })
       by_test false is = inl (ap (λ m. words_after m w (Area.Object (r + 3))) sets ∙ ap (λ x. (if x then put_at w (Area.Object (r + 3)) (pack n 0) else w) (Area.Object (r + 3))) is)
 
   -- a start word stays, or is set by the start of a thread
-  pub start_change : (r : ℕ) → IsThread r → (start_of after r ≡ start_of (c k) r) ⊎ StartsAt r
+  pub start_change : (r : ℕ) → IsThread r → (start_word_of after r ≡ start_word_of (c k) r) ⊎ StartsAt r
   start_change r (o, there, thread, some) = elim (stays_or_made step w (r + 3)) [
     | inl stays ↦ inl stays
     | inr made ↦ by_place made (step_place code b is_thread (c 0).objects w (c k).objects (c k).threads (laid_at code b is_thread c acts run k up).0 t at.from at.stands step
         (known_here.fit t at.from at.stands).attempt at.move all_fit (r + 3) made)
   ]
     where
-      abbrev_loads : effect_of step ≡ Load → (start_of after r ≡ start_of (c k) r) ⊎ StartsAt r
+      abbrev_loads : effect_of step ≡ Load → (start_word_of after r ≡ start_word_of (c k) r) ⊎ StartsAt r
       abbrev_loads load = inl (loads_none step w (r + 3) load)
 
-      start_place : (m : Step) → step ≡ m → place_of m ≡ Area.Object (r + 3) → (thread : Bool) → thread ≡ true → FitsWord thread 3 m → (start_of after r ≡ start_of (c k) r) ⊎ StartsAt r
+      start_place : (m : Step) → step ≡ m → place_of m ≡ Area.Object (r + 3) → (thread : Bool) → thread ≡ true → FitsNumber thread 3 m → (start_word_of after r ≡ start_word_of (c k) r) ⊎ StartsAt r
       start_place (LoadWord p) is on thread so fits = abbrev_loads (ap effect_of is)
       start_place (SwapWord p old new) is on thread so fits = absurd (not_word thread 3 refl so fits.1)
       start_place (RestoreWord p old) is on thread so fits = absurd (not_word thread 3 refl so fits.1)
@@ -146,21 +146,21 @@ module _ {S : Type 0} (code : Code S) (b : Bounds) (is_thread : ℕ → Bool) (c
           no_zero d none three = omega (arith, none, three)
       start_place m is on thread so fits = absurd fits
 
-      by_place : place_of step ≡ Area.Object (r + 3) → Place is_thread (c k).objects at.from (code.next at.from.local) step (r + 3) → (start_of after r ≡ start_of (c k) r) ⊎ StartsAt r
+      by_place : place_of step ≡ Area.Object (r + 3) → Place is_thread (c k).objects at.from (code.next at.from.local) step (r + 3) → (start_word_of after r ≡ start_word_of (c k) r) ⊎ StartsAt r
       by_place made (in_object none so) =
           let same = same_word code b is_thread (c 0).objects w (c k).objects (c k).threads (laid_at code b is_thread c acts run k up).0 t at.from at.stands step a
           (known_here.fit t at.from at.stands).attempt at.move at.answered all_fit so.r r so.o o so.there there so.number 3 so.below (omega (arith, some)) (sym so.place) in
           let object : so.o ≡ o = same_Some so.o o (sym so.there ∙ ap (c k).objects same.0 ∙ there) in
           start_place step refl made (is_thread so.o.class) (ap (λ (x : Object). is_thread x.class) object ∙ thread)
-          (subst (λ d. FitsWord (is_thread so.o.class) d step) same.1 so.fits)
+          (subst (λ d. FitsNumber (is_thread so.o.class) d step) same.1 so.fits)
       by_place made (in_block v sets new new_names) = absurd (apart_new code b is_thread (c 0).objects w (c k).objects (c k).threads (laid_at code b is_thread c acts run k up).0 t at.from
           at.stands step a (known_here.fit t at.from at.stands).attempt at.move at.answered all_fit (r + 3) r 3 o new there (omega (arith, some)) refl)
 
   -- what is so of a start word after the step
   pub data StartNow (r : ℕ) : Type 0 where
-    is_kept : IsThread r → start_of after r ≡ start_of (c k) r → StartNow r
+    is_kept : IsThread r → start_word_of after r ≡ start_word_of (c k) r → StartNow r
     is_set : IsThread r → StartsAt r → StartNow r
-    is_new : start_of after r ≡ 0 → StartNow r
+    is_new : start_word_of after r ≡ 0 → StartNow r
 
   pub start_now : (r : ℕ) → IsThreadObject is_thread after.objects r → StartNow r
   start_now r (o, there, thread, some) =
@@ -173,7 +173,7 @@ module _ {S : Type 0} (code : Code S) (b : Bounds) (is_thread : ℕ → Bool) (c
       (λ q v m n sets new wants is_one has. is_new (new_zero q v m n sets new wants has)) r o there thread some
     where
       new_zero : (q v m n : ℕ) → step ≡ SetHeader q v → new_place at.from.attempt ≡ Some q → code.next at.from.local ≡ Want (New m n)
-          → 1 < (new_object code at.from.local m n).words → start_of after q ≡ 0
+          → 1 < (new_object code at.from.local m n).words → start_word_of after q ≡ 0
       new_zero q v m n sets new wants has =
           let size = ap (λ next. size_of code at.from.local next) wants in
           ap (λ s. words_after s w (Area.Object (q + 3))) sets ∙ stays_at (effect_of (SetHeader q v)) w (Area.Object q) (Area.Object (q + 3)) (object_other (q + 3) q (λ same. no q same))

@@ -21,8 +21,8 @@ abbrev pub IsThreadObject : (ℕ → Bool) → Objects → ℕ → Type 0
 IsThreadObject is_thread objects r = (o : Object) × (objects r ≡ Some o) × (is_thread o.class ≡ true) × (1 < o.words)
 
 -- its start word
-abbrev pub start_of : {S : Type 0} → Core S → ℕ → ℕ
-start_of c r = c.words (Area.Object (r + 3))
+abbrev pub start_word_of : {S : Type 0} → Core S → ℕ → ℕ
+start_word_of c r = c.words (Area.Object (r + 3))
 
 -- thread n has begun, or is started and is about to begin
 abbrev pub IsStarted : {S : Type 0} → Core S → ℕ → Type 0
@@ -30,18 +30,18 @@ IsStarted {S} c n = ((th : ThreadState S) × (c.threads n ≡ Some th)) ⊎ ((l 
 
 -- The start word of a thread object is 0 or the number of a thread that is started, and no other one's.
 pub record StartWordsSay {S : Type 0} (is_thread : ℕ → Bool) (c : Core S) : Type 0 where
-  pub low : (r : ℕ) → IsThreadObject is_thread c.objects r → start_of c r < 2 ^ 8
-  pub started : (r : ℕ) → IsThreadObject is_thread c.objects r → 0 < start_of c r → (start_of c r ≤ c.words (Control 4)) × IsStarted c (start_of c r)
-  pub apart : (r q : ℕ) → IsThreadObject is_thread c.objects r → IsThreadObject is_thread c.objects q → 0 < start_of c r → start_of c r ≡ start_of c q → r ≡ q
+  pub low : (r : ℕ) → IsThreadObject is_thread c.objects r → start_word_of c r < 2 ^ 8
+  pub started : (r : ℕ) → IsThreadObject is_thread c.objects r → 0 < start_word_of c r → (start_word_of c r ≤ c.words (Control 4)) × IsStarted c (start_word_of c r)
+  pub apart : (r q : ℕ) → IsThreadObject is_thread c.objects r → IsThreadObject is_thread c.objects q → 0 < start_word_of c r → start_word_of c r ≡ start_word_of c q → r ≡ q
 
 -- What is so of a thread that starts another, or waits for its end.
 pub record StartsFit {S : Type 0} (code : Code S) (is_thread : ℕ → Bool) (c : Core S) (th : ThreadState S) : Type 0 where
   -- the number of a thread that is to be started is a new one,
-  pub unused : (r n : ℕ) → th.attempt ≡ Fixed (StartThread r n) → (2 ≤ n) × (c.starting n ≡ None) × ((q : ℕ) → IsThreadObject is_thread c.objects q → start_of c q ≢ n)
+  pub unused : (r n : ℕ) → th.attempt ≡ Fixed (StartThread r n) → (2 ≤ n) × (c.starting n ≡ None) × ((q : ℕ) → IsThreadObject is_thread c.objects q → start_word_of c q ≢ n)
   -- one that is handed out begins at the first local state of its object,
   pub begins : (n r p : ℕ) → th.attempt ≡ Fixed (Split n r p) → c.starting n ≡ Some (code.child th.local r)
   -- and one whose end is waited for is the one that the object has started
-  pub awaited : (n r : ℕ) → th.attempt ≡ Fixed (LoadThread (Ended n)) → code.next th.local ≡ Want (Join r) → (0 < n) × (start_of c r ≡ n)
+  pub awaited : (n r : ℕ) → th.attempt ≡ Fixed (LoadThread (Ended n)) → code.next th.local ≡ Want (Join r) → (0 < n) × (start_word_of c r ≡ n)
 
 pub record StartsAreKnown {S : Type 0} (code : Code S) (is_thread : ℕ → Bool) (c : Core S) : Type 0 where
   pub words : StartWordsSay is_thread c
