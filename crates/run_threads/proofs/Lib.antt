@@ -1,1 +1,4 @@
 pub mod NumberLemmas
+pub mod SeenLemmas
+pub mod EndLemmas
+pub mod LineLemmas

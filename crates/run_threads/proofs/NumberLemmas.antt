@@ -52,11 +52,11 @@ module _ {S : Type 0} (code : Code S) (b : Bounds) (th : ThreadState S) where
   split_low w n r p fits makes = low_in_row (answers_are_rows code b th (Split n r p) (answer_of w (Split n r p)) fits makes tt) tt
 
 -- the numbers of a core, and those of threads that are about to be started or handed out
-record Numbers {S : Type 0} (c : Core S) : Type 0 where
-  numbered : AreNumbered c
-  drawn : (t : ℕ) (th : ThreadState S) → c.threads t ≡ Some th → number_at th.attempt ≤ c.words (Control 4)
-  apart : (t u : ℕ) (th uh : ThreadState S) → c.threads t ≡ Some th → c.threads u ≡ Some uh → 0 < number_at th.attempt → number_at th.attempt ≡ number_at uh.attempt → t ≡ u
-  unused : (t : ℕ) (th : ThreadState S) → c.threads t ≡ Some th → 0 < number_at th.attempt → c.threads (number_at th.attempt) ≡ None
+pub record Numbers {S : Type 0} (c : Core S) : Type 0 where
+  pub numbered : AreNumbered c
+  pub drawn : (t : ℕ) (th : ThreadState S) → c.threads t ≡ Some th → number_at th.attempt ≤ c.words (Control 4)
+  pub apart : (t u : ℕ) (th uh : ThreadState S) → c.threads t ≡ Some th → c.threads u ≡ Some uh → 0 < number_at th.attempt → number_at th.attempt ≡ number_at uh.attempt → t ≡ u
+  pub unused : (t : ℕ) (th : ThreadState S) → c.threads t ≡ Some th → 0 < number_at th.attempt → c.threads (number_at th.attempt) ≡ None
 
 no_number : {A : Type 0} (n : ℕ) → 0 < n → n ≡ 0 → A
 no_number n some none = absurd (no n some none)
@@ -72,27 +72,36 @@ abbrev IsSplit : Step → Type 0
 IsSplit (Split n r p) = Unit {0}
 IsSplit step = ⊥
 
--- a thread keeps its number
-forgotten_number : {S : Type 0} (y : ThreadState S) → (forgotten y).number ≡ y.number
-forgotten_number y = by_if (λ z. z.number ≡ y.number) (is_open y) y (record y { log = []; saved = []; marks = [] }) (λ yes. refl) (λ no. refl)
+-- a thread keeps its number and its priority
+abbrev identity : {S : Type 0} → ThreadState S → ℕ × ℕ
+identity th = (th.number, th.priority)
 
-changed_number : {S : Type 0} (code : Code S) (th : ThreadState S) (change : Change) → (changed code th change).number ≡ th.number
-changed_number code th (sees_pinned depth g) = forgotten_number (record th { pinned = depth; attempt = g })
-changed_number code th (opens_level g) = forgotten_number (with_level (record th { attempt = g }))
-changed_number code th (closes_to n g) = forgotten_number (with_levels (record th { attempt = g }) n)
-changed_number code th closes = forgotten_number (with_levels (record (answered code th Reply.Done) { held = []; section = 0 }) 0)
-changed_number code th (goes_back n) = forgotten_number (without_level (record (stood_at th n) { section = section_at (n - 1) th.section; attempt = Begin }) n)
-changed_number code th change = refl
+forgotten_same : {S : Type 0} (y : ThreadState S) → identity (forgotten y) ≡ identity y
+forgotten_same y = by_if (λ z. identity z ≡ identity y) (is_open y) y (record y { log = []; saved = []; marks = [] }) (λ yes. refl) (λ no. refl)
 
-counted_number : {S : Type 0} (told : Told) (y : ThreadState S) → (counted_for told y).number ≡ y.number
-counted_number (advanced None) y = refl
-counted_number (advanced (Some reply)) y = refl
-counted_number born y = refl
-counted_number other y = refl
+changed_same : {S : Type 0} (code : Code S) (th : ThreadState S) (change : Change) → identity (changed code th change) ≡ identity th
+changed_same code th (sees_pinned depth g) = forgotten_same (record th { pinned = depth; attempt = g })
+changed_same code th (opens_level g) = forgotten_same (with_level (record th { attempt = g }))
+changed_same code th (closes_to n g) = forgotten_same (with_levels (record th { attempt = g }) n)
+changed_same code th closes = forgotten_same (with_levels (record (answered code th Reply.Done) { held = []; section = 0 }) 0)
+changed_same code th (goes_back n) = forgotten_same (without_level (record (stood_at th n) { section = section_at (n - 1) th.section; attempt = Begin }) n)
+changed_same code th change = refl
+
+counted_same : {S : Type 0} (told : Told) (y : ThreadState S) → identity (counted_for told y) ≡ identity y
+counted_same (advanced None) y = refl
+counted_same (advanced (Some reply)) y = refl
+counted_same born y = refl
+counted_same other y = refl
+
+same_identity : {S : Type 0} (code : Code S) (b : Bounds) (th : ThreadState S) (step : Step) (a : StepAnswer) → identity (after_answer code b th step a) ≡ identity th
+same_identity code b th step a =
+    counted_same (told code b th step a) (changed code th (change_of code b th (code.next th.local) step a)) ∙ changed_same code th (change_of code b th (code.next th.local) step a)
 
 same_number : {S : Type 0} (code : Code S) (b : Bounds) (th : ThreadState S) (step : Step) (a : StepAnswer) → (after_answer code b th step a).number ≡ th.number
-same_number code b th step a =
-    counted_number (told code b th step a) (changed code th (change_of code b th (code.next th.local) step a)) ∙ changed_number code th (change_of code b th (code.next th.local) step a)
+same_number code b th step a = ap (λ x. x.0) (same_identity code b th step a)
+
+pub same_priority : {S : Type 0} (code : Code S) (b : Bounds) (th : ThreadState S) (step : Step) (a : StepAnswer) → (after_answer code b th step a).priority ≡ th.priority
+same_priority code b th step a = ap (λ x. x.1) (same_identity code b th step a)
 
 module _ {S : Type 0} (code : Code S) (b : Bounds) (c : ℕ → Core S) (k t : ℕ) (step : Step) (a : StepAnswer) (at : DidAt code b c k t step a) (known : Known code (c k))
     (before : Numbers (c k)) where
@@ -327,7 +336,7 @@ module _ {S : Type 0} (code : Code S) (b : Bounds) (c : ℕ → Core S) (acts : 
       low m n is = omega (arith, is)
   act_numbers k (beside t step a) here at before = subst Numbers (sym at.leads) (beside_numbers (c k) step before)
 
-  numbers_at : (k : ℕ) → k ≤ length acts → Numbers (c k)
+  pub numbers_at : (k : ℕ) → k ≤ length acts → Numbers (c k)
   numbers_at k within = along code b c acts run.leads (λ n. Numbers (c n)) first_numbers (λ n act here at before. act_numbers n act here at before) k within
 
 pub threads_are_numbered : {S : Type 0} (code : Code S) → ThreadsAreNumbered code

@@ -1,0 +1,3 @@
+pub mod Monitors
+pub mod InPlace
+pub mod Grounded

@@ -1,0 +1,13 @@
+//! The saves of levels along a run: where each thread stood as a level opened. A law alone.
+//!
+//! The function does nothing: its contract is the law.
+#![tactic(auto)]
+
+ghost use Rattle.level_saves.specs.Saves.{SavesAreKnown};
+
+use op_core::ThreadCode;
+
+/// Each saved state of a thread is where it stood as one of its open levels opened.
+pub fn saves_are_known<C: ThreadCode>()
+    ensures { SavesAreKnown C.code }
+{}

@@ -1,0 +1,4 @@
+pub mod AttemptLemmas
+pub mod WordLemmas
+pub mod StepLemmas
+pub mod RunLemmas
