@@ -10,7 +10,7 @@ use Rattle.level_runs.specs.LevelRun.{LevelAct, calm, opens_one, closes_all_but,
 -- ---- lists of places, the newest first
 
 -- they fall, and the first is below k
-abbrev Falls : ℕ → List ℕ → Type 0
+abbrev pub Falls : ℕ → List ℕ → Type 0
 Falls k [] = Unit {0}
 Falls k (p ∷ levels) = (p < k) × Falls p levels
 
@@ -26,7 +26,7 @@ falls_drop (suc j) k (p ∷ levels) falls = falls_more p k (drop j levels) (low 
     low : (p k : ℕ) → p < k → p ≤ k
     low p k is = omega (arith, is)
 
-below : (k p : ℕ) (levels : List ℕ) → Falls k levels → In p levels → p < k
+pub below : (k p : ℕ) (levels : List ℕ) → Falls k levels → In p levels → p < k
 below k p [] falls is = absurd is
 below k p (q ∷ levels) falls is = elim is [
   | inl here ↦ first p q k here falls.0
