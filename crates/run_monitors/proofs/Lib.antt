@@ -6,3 +6,5 @@ pub mod ChangeLemmas
 pub mod OuterLemmas
 pub mod RowLemmas
 pub mod MarkRows
+pub mod DeedLemmas
+pub mod WordLemmas
