@@ -8,3 +8,4 @@ pub mod RowLemmas
 pub mod MarkRows
 pub mod DeedLemmas
 pub mod WordLemmas
+pub mod RunLemmas

@@ -1,13 +1,19 @@
-//! What threads hold along a run. Laws alone.
+//! What threads hold along a run: which monitors, at which of their section's levels, and what the words of monitors say
+//! of that. Laws alone.
 //!
 //! Each function does nothing: its contract is the law.
 #![tactic(auto)]
 
-ghost use Rattle.run_monitors.specs.Laws.{ThreadsHold};
+ghost use Rattle.run_monitors.specs.Laws.{ThreadsHold, MonitorsOfThreadsAreHeld};
 
 use op_core::ThreadCode;
 
-/// So it is.
+/// What a thread holds, by levels, and what it has fixed to do with monitors.
 pub fn threads_hold<C: ThreadCode>()
     ensures { ThreadsHold C.code }
+{}
+
+/// The words of monitors say which thread holds which monitor.
+pub fn monitors_are_held<C: ThreadCode>()
+    ensures { MonitorsOfThreadsAreHeld C.code }
 {}
