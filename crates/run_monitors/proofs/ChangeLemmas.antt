@@ -1,57 +1,43 @@
 -- What a thread holds, apart from its marks, as its attempt goes on and as its operation has a reply.
-use Rattle.std.proofs.Common.{◌≡◌, ◌⊎◌, inl, inr, ℕ, zero, suc, ◌+◌, ◌-◌, ◌^◌, ◌<◌, ◌≤◌, Bool, true, false, true≢false, List, [], ◌∷◌, length, nat_eq, refl, sym, ◌∙◌, ap, subst, arith}
-use Rattle.std.specs.Prelude.{nat_lt, nat_le, not, IfSome, if◌then◌else◌}
-use Rattle.std.proofs.lemmas.Grind.{common_steps}
-use Rattle.std.proofs.lemmas.Bool.Decides.{nat_tests}
-use Rattle.op_core.specs.Replies.{IsEntry, FitsNext}
-use Rattle.op_core.specs.declared.Op.{Op}
-use Rattle.op_core.specs.declared.Op.TheVariants.{Enter, Exit, Wait, Rewake, Start, Init}
+use Rattle.std.proofs.Common.{◌≡◌, ℕ, ◌^◌, ◌<◌, ◌≤◌, Bool, true, false, List, [], refl, sym, ◌∙◌, ap, subst}
+use Rattle.std.specs.Prelude.{not, IfSome}
+use Rattle.op_core.specs.Replies.{FitsNext}
+use Rattle.op_core.specs.declared.Op.TheVariants.{Rewake}
 use Rattle.op_core.specs.declared.Next.{Next}
 use Rattle.op_core.specs.declared.Next.TheVariants.{Want}
 use Rattle.op_core.specs.declared.Reply.{Reply}
 use Rattle.op_core.specs.ThreadCode.{Code}
 use Rattle.op_core.specs.Orderly.{IsRewake, IsOrderly}
-use Rattle.heap_words.specs.declared.areas.Area.{Area}
-use Rattle.heap_words.specs.declared.areas.Area.TheVariants.{Section}
 use Rattle.section_state.specs.declared.State.TheVariants.{Revoking}
-use Rattle.section_state.specs.SectionWord.{pinned_of, revoke_of, undone_of}
+use Rattle.section_state.specs.SectionWord.{pinned_of, revoke_of}
 use Rattle.monitor_core.specs.Contention.{is_in}
-use Rattle.monitor_core.specs.Monitors.{monitor_word, monitor_depth, monitor_level, is_own}
+use Rattle.monitor_core.specs.Monitors.{monitor_depth}
 use Rattle.step_port.specs.declared.answer.StepAnswer.{StepAnswer}
-use Rattle.step_port.specs.declared.answer.StepAnswer.TheVariants.{Found, Lost}
+use Rattle.step_port.specs.declared.answer.StepAnswer.TheVariants.{Found}
 use Rattle.step_port.specs.declared.step.Step.{Step}
-use Rattle.step_port.specs.declared.step.Step.TheVariants.{LoadSection, OpenSection, OpenLevel, CloseLevel, Pin, Commit, LoadMonitor, SetDepth, Release, SetWait, LoadWait}
-use Rattle.step_port.specs.Steps.{place_of, effect_of}
-use Rattle.step_port.specs.Words.{CanAnswer}
+use Rattle.step_port.specs.declared.step.Step.TheVariants.{LoadSection, LoadMonitor}
 use Rattle.thread_automaton.specs.declared.Bounds.{Bounds}
 use Rattle.thread_automaton.specs.declared.Held.{Held}
-use Rattle.thread_automaton.specs.declared.Move.{Move}
 use Rattle.thread_automaton.specs.declared.Move.TheVariants.{Make}
 use Rattle.thread_automaton.specs.declared.Attempt.{Attempt}
-use Rattle.thread_automaton.specs.declared.Attempt.TheVariants.{Begin, Look, Checked, Fixed, Undoing}
-use Rattle.thread_automaton.specs.ThreadState.{ThreadState, is_open, is_own_section, mark_of, inside, noted_since, held_as, with_depth_of, from_level, highest}
-use Rattle.thread_automaton.specs.NextMove.{held_word, deepened_since, own_pin, move_of}
-use Rattle.thread_automaton.specs.Changes.{Change, goes, has_to_wait, replies, knows, writes, prints, ends, deepens, drops, answered, forgotten, with_level, with_levels, without_level, stood_at, section_at, without, changed}
+use Rattle.thread_automaton.specs.declared.Attempt.TheVariants.{Begin, Checked, Fixed, Undoing}
+use Rattle.thread_automaton.specs.ThreadState.{ThreadState, is_open, held_as, with_depth_of}
+use Rattle.thread_automaton.specs.NextMove.{held_word, own_pin, move_of}
+use Rattle.thread_automaton.specs.Changes.{Change, goes, has_to_wait, replies, knows, writes, prints, ends, deepens, forgotten, changed}
 use Rattle.thread_automaton.specs.Checks.{behind_pin, to_pin}
-use Rattle.thread_automaton.specs.Monitors.{monitor_wanted, entry, take_for, deepened, needs_level}
-use Rattle.thread_automaton.specs.Answers.{lost_on}
-use Rattle.automaton_rows.specs.Fits.{IsKept, IsFit}
+use Rattle.automaton_rows.specs.Fits.{IsFit}
 use Rattle.automaton_rows.specs.Laws.{reply_of}
-use Rattle.automaton_rows.specs.Rows.{LooksAtOwn, Row, is_lost, own_revoked, own_stands, pins, restores, sets_monitor_back, gives_monitor_back, is_undone, tag_live, section_numbered, section_opened, free_inside, level_opened, free_more, monitor_taken, own_again, entered_again, not_owner, exits_inner, exits_last, exits_level, exits_one, left_once, section_committed, levels_closed, monitor_left, section_left, wait_begins, wait_noted, wait_made, notify_begins, waiter_found, waiter_passed, start_begins, is_unready}
 use Rattle.automaton_rows.specs.Undoing.{is_held, HeldOnce}
 use Rattle.automaton_rows.proofs.RowLemmas.{by_if}
-use Rattle.automaton_rows.proofs.FitLemmas.{last_step}
-use Rattle.automaton_rows.proofs.UndoLemmas.{eq_same, depth_is, once_with, once_without}
+use Rattle.automaton_rows.proofs.UndoLemmas.{depth_is, once_with}
 use Rattle.held_levels.specs.HeldLevels.{AreAtMost}
-use Rattle.held_levels.proofs.HeldLemmas.{highest_low, without_low}
-use Rattle.held_levels.proofs.WaitLemmas.{above, not_zero, at_most, IsLastReply}
-use Rattle.held_levels.proofs.RowLemmas.{Stands, reply_stands, usual_at, entry_goes_on, entry_fits, some_section, own_some, whole_of, needs_entry}
-use Rattle.level_marks.proofs.RowLemmas.{NoUndo, IsUndoing, lost_undoes_none, no_undoing}
-use Rattle.run_monitors.specs.Held.{has_level, LevelsDiffer, DepthsFit, top_at, AtRest, AtRelease, TopHolds, IsEnteredOnce, OpensFor, TakesFor, SetsFor, PinsFor, FixedHolds, StageHolds, WaitsHold, OpensWithin, Holds}
-use Rattle.run_monitors.proofs.ListLemmas.{or_left, or_right, true_or, less_or, not_less, has_first, has_with, has_parts, has_none_deeper, has_highest_of, has_below_highest, differ_with, differ_without, level_alone, depths_with, depths_without, depth_fits, level_fits, let_go_of}
-use Rattle.run_monitors.proofs.StageLemmas.{fixed_at, undoes_none, at_rest, pin_holds, scan_holds}
-use Rattle.run_monitors.proofs.MarkLemmas.{SetsBack, sets_back_so, gives_back_so, mark_first}
-use Rattle.run_monitors.proofs.KeptLemmas.{Kept, KeptOf, kept_of, top_all, IsCalm, calm_top, calm_holds, IsUsual, usual_rest, rest_any, waits_usual, no_wait, needs_usual, access_pins, LoadSays, SaysHeld, says_held, free_other, behind_top, behind_holds, behind_fixed, behind_opens}
+use Rattle.held_levels.proofs.WaitLemmas.{at_most, IsLastReply}
+use Rattle.held_levels.proofs.RowLemmas.{Stands, reply_stands}
+use Rattle.level_marks.proofs.RowLemmas.{NoUndo, IsUndoing}
+use Rattle.run_monitors.specs.Held.{has_level, LevelsDiffer, DepthsFit, top_at, AtRest, TopHolds, PinsFor, StageHolds, OpensWithin, Holds}
+use Rattle.run_monitors.proofs.ListLemmas.{has_with, differ_with, depths_with, level_fits}
+use Rattle.run_monitors.proofs.StageLemmas.{undoes_none, at_rest}
+use Rattle.run_monitors.proofs.KeptLemmas.{Kept, KeptOf, top_all, IsCalm, calm_top, calm_holds, IsUsual, usual_rest, rest_any, waits_usual, no_wait, LoadSays, behind_top, behind_holds, behind_fixed, behind_opens}
 
 -- what is known of the thread and of the answer beside the row
 pub record Given {S : Type 0} (th : ThreadState S) (step : Step) (a : StepAnswer) : Type 0 where

@@ -1,20 +1,18 @@
 -- What a thread holds, apart from its marks, and the parts of it that each change keeps.
-use Rattle.std.proofs.Common.{◌≡◌, ◌⊎◌, inl, inr, ℕ, zero, suc, ◌-◌, ◌^◌, ◌<◌, ◌≤◌, Bool, true, false, true≢false, List, [], ◌∷◌, length, nat_eq, refl, sym, ◌∙◌, ap, subst, arith}
-use Rattle.std.specs.Prelude.{nat_lt, nat_le, not, if◌then◌else◌}
+use Rattle.std.proofs.Common.{◌≡◌, inl, inr, ℕ, ◌^◌, ◌<◌, ◌≤◌, true, false, true≢false, List, nat_eq, refl, sym, ◌∙◌, ap, arith}
 use Rattle.std.proofs.lemmas.Grind.{common_steps}
 use Rattle.std.proofs.lemmas.Bool.Decides.{nat_tests}
-use Rattle.op_core.specs.Replies.{IsEntry}
 use Rattle.op_core.specs.declared.Op.{Op}
 use Rattle.op_core.specs.declared.Op.TheVariants.{Enter, Exit, Wait, Rewake, Start, Init}
 use Rattle.op_core.specs.declared.Next.{Next}
 use Rattle.op_core.specs.declared.Next.TheVariants.{Want}
 use Rattle.op_core.specs.Orderly.{IsRewake}
-use Rattle.monitor_core.specs.Monitors.{monitor_word, monitor_section, monitor_depth, monitor_level, is_own}
+use Rattle.monitor_core.specs.Monitors.{monitor_section, monitor_depth, monitor_level, is_own}
 use Rattle.step_port.specs.declared.step.Step.TheVariants.{Release}
 use Rattle.thread_automaton.specs.declared.Bounds.{Bounds}
 use Rattle.thread_automaton.specs.declared.Held.{Held}
 use Rattle.thread_automaton.specs.declared.Attempt.{Attempt}
-use Rattle.thread_automaton.specs.declared.Attempt.TheVariants.{Begin, Fixed, Undoing}
+use Rattle.thread_automaton.specs.declared.Attempt.TheVariants.{Fixed, Undoing}
 use Rattle.thread_automaton.specs.ThreadState.{ThreadState, held_as, highest}
 use Rattle.thread_automaton.specs.NextMove.{held_word}
 use Rattle.thread_automaton.specs.Changes.{without}
@@ -26,7 +24,7 @@ use Rattle.automaton_rows.proofs.UndoLemmas.{depth_is}
 use Rattle.held_levels.specs.HeldLevels.{AreAtMost}
 use Rattle.held_levels.proofs.HeldLemmas.{highest_low, without_low}
 use Rattle.level_marks.proofs.RowLemmas.{IsUndoing}
-use Rattle.run_monitors.specs.Held.{has_level, LevelsDiffer, DepthsFit, top_at, AtRest, TopHolds, IsEnteredOnce, OpensFor, TakesFor, PinsFor, StageHolds, WaitsHold, OpensWithin, Holds}
+use Rattle.run_monitors.specs.Held.{has_level, LevelsDiffer, DepthsFit, top_at, AtRest, TopHolds, PinsFor, StageHolds, WaitsHold, OpensWithin, Holds}
 use Rattle.run_monitors.proofs.ListLemmas.{true_or, false_or, has_parts, has_below_highest, depth_fits, level_fits}
 use Rattle.run_monitors.proofs.MarkLemmas.{section_is, level_is, word_some}
 

@@ -4,8 +4,11 @@ pub mod MarkLemmas
 pub mod KeptLemmas
 pub mod ChangeLemmas
 pub mod OuterLemmas
+pub mod EntryLemmas
 pub mod RowLemmas
 pub mod MarkRows
 pub mod DeedLemmas
 pub mod WordLemmas
+pub mod ThreadLemmas
+pub mod DidLemmas
 pub mod RunLemmas

@@ -1,6 +1,6 @@
 -- Lists of held monitors: levels, depths and sites.
-use Rattle.std.proofs.Common.{◌≡◌, ◌≢◌, ◌⊎◌, inl, inr, ℕ, zero, suc, ◌-◌, ◌^◌, ◌<◌, ◌≤◌, Bool, true, false, ◌||◌, not, List, [], ◌∷◌, length, nat_eq, refl, sym, ◌∙◌, ap, subst, arith}
-use Rattle.std.specs.Prelude.{nat_lt, filter, if◌then◌else◌}
+use Rattle.std.proofs.Common.{◌≡◌, ◌≢◌, ◌⊎◌, inl, inr, ℕ, ◌^◌, ◌<◌, ◌≤◌, Bool, true, false, ◌||◌, not, List, [], ◌∷◌, length, nat_eq, refl, sym, ◌∙◌, ap, subst, arith}
+use Rattle.std.specs.Prelude.{nat_lt, if◌then◌else◌}
 use Rattle.std.proofs.lemmas.Grind.{common_steps}
 use Rattle.std.proofs.lemmas.Bool.Decides.{nat_tests}
 use Rattle.thread_automaton.specs.declared.Held.{Held}
@@ -8,7 +8,7 @@ use Rattle.thread_automaton.specs.ThreadState.{held_as, with_depth_of, highest}
 use Rattle.thread_automaton.specs.Changes.{without}
 use Rattle.automaton_rows.specs.Fits.{InLevels}
 use Rattle.automaton_rows.specs.Undoing.{is_held, HeldOnce}
-use Rattle.automaton_rows.proofs.UndoLemmas.{yes_eq, eq_same, eq_no, both_ways, without_none}
+use Rattle.automaton_rows.proofs.UndoLemmas.{yes_eq, eq_same, eq_no, without_none}
 use Rattle.held_levels.specs.HeldLevels.{AreAtMost}
 use Rattle.held_levels.proofs.HeldLemmas.{highest_bounds}
 use Rattle.run_monitors.specs.Held.{has_level, LevelsDiffer, DepthsFit, further_out, sites}

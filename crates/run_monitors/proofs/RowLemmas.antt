@@ -1,127 +1,56 @@
 -- What a thread holds, apart from its marks, kept by each row of the automaton.
-use Rattle.std.proofs.Common.{◌≡◌, ◌⊎◌, inl, inr, ℕ, zero, suc, ◌+◌, ◌-◌, ◌^◌, ◌<◌, ◌≤◌, Bool, true, false, ◌||◌, true≢false, List, [], ◌∷◌, length, nat_eq, refl, sym, ◌∙◌, ap, subst, arith}
-use Rattle.std.specs.Prelude.{nat_lt, nat_le, not, get_or, IfSome, if◌then◌else◌}
+use Rattle.std.proofs.Common.{◌≡◌, ◌⊎◌, inl, inr, ℕ, suc, ◌+◌, ◌-◌, ◌^◌, ◌<◌, ◌≤◌, Bool, true, false, true≢false, [], ◌∷◌, length, nat_eq, refl, sym, ◌∙◌, ap, subst, arith}
+use Rattle.std.specs.Prelude.{nat_lt, get_or, IfSome, if◌then◌else◌}
 use Rattle.std.proofs.lemmas.Grind.{common_steps}
 use Rattle.std.proofs.lemmas.Bool.Decides.{nat_tests}
 use Rattle.op_core.specs.Replies.{IsEntry, FitsNext}
-use Rattle.op_core.specs.declared.Op.{Op}
-use Rattle.op_core.specs.declared.Op.TheVariants.{Enter, Exit, Wait, Rewake, Start, Init}
+use Rattle.op_core.specs.declared.Op.TheVariants.{Enter, Exit, Wait, Rewake}
 use Rattle.op_core.specs.declared.Next.{Next}
 use Rattle.op_core.specs.declared.Next.TheVariants.{Want}
 use Rattle.op_core.specs.declared.Reply.{Reply}
 use Rattle.op_core.specs.ThreadCode.{Code}
-use Rattle.op_core.specs.Orderly.{IsRewake, IsOrderly}
+use Rattle.op_core.specs.Orderly.{IsRewake}
 use Rattle.heap_words.specs.declared.areas.Area.{Area}
 use Rattle.heap_words.specs.declared.areas.Area.TheVariants.{Section}
-use Rattle.section_state.specs.declared.State.TheVariants.{Revoking}
-use Rattle.section_state.specs.SectionWord.{pinned_of, revoke_of, undone_of}
-use Rattle.monitor_core.specs.Contention.{is_in}
-use Rattle.monitor_core.specs.Monitors.{monitor_word, monitor_depth, monitor_level, is_own}
+use Rattle.section_state.specs.SectionWord.{pinned_of, revoke_of}
+use Rattle.monitor_core.specs.Monitors.{monitor_depth, monitor_level, is_own}
 use Rattle.step_port.specs.declared.answer.StepAnswer.{StepAnswer}
-use Rattle.step_port.specs.declared.answer.StepAnswer.TheVariants.{Found, Lost}
 use Rattle.step_port.specs.declared.step.Step.{Step}
-use Rattle.step_port.specs.declared.step.Step.TheVariants.{LoadSection, OpenSection, OpenLevel, CloseLevel, Pin, Commit, LoadMonitor, SetDepth, Release, SetWait, LoadWait}
+use Rattle.step_port.specs.declared.step.Step.TheVariants.{OpenSection, OpenLevel, CloseLevel, Pin, Commit, SetDepth, Release, SetWait, LoadWait}
 use Rattle.step_port.specs.Steps.{place_of, effect_of}
 use Rattle.step_port.specs.Words.{CanAnswer}
 use Rattle.thread_automaton.specs.declared.Bounds.{Bounds}
-use Rattle.thread_automaton.specs.declared.Held.{Held}
-use Rattle.thread_automaton.specs.declared.Move.{Move}
 use Rattle.thread_automaton.specs.declared.Move.TheVariants.{Make}
 use Rattle.thread_automaton.specs.declared.Attempt.{Attempt}
 use Rattle.thread_automaton.specs.declared.Attempt.TheVariants.{Begin, Look, Checked, Fixed, Undoing}
 use Rattle.thread_automaton.specs.ThreadState.{ThreadState, own_word, is_open, is_own_section, mark_of, inside, noted_since, held_as, with_depth_of, from_level, highest}
-use Rattle.thread_automaton.specs.NextMove.{held_word, deepened_since, own_pin, move_of}
-use Rattle.thread_automaton.specs.Changes.{Change, goes, has_to_wait, replies, knows, writes, prints, ends, deepens, drops, answered, forgotten, with_level, with_levels, without_level, stood_at, section_at, without, changed}
-use Rattle.thread_automaton.specs.Checks.{behind_pin, to_pin}
+use Rattle.thread_automaton.specs.NextMove.{deepened_since, move_of}
+use Rattle.thread_automaton.specs.Changes.{Change, goes, replies, deepens, answered, with_level, with_levels, without_level, stood_at, section_at, without, changed}
+use Rattle.thread_automaton.specs.Checks.{behind_pin}
 use Rattle.thread_automaton.specs.Monitors.{monitor_wanted, entry, take_for, deepened, needs_level}
 use Rattle.thread_automaton.specs.Answers.{lost_on}
-use Rattle.automaton_rows.specs.Fits.{IsKept, IsFit}
 use Rattle.automaton_rows.specs.Laws.{reply_of}
 use Rattle.automaton_rows.specs.Rows.{LooksAtOwn, Row, is_lost, own_revoked, own_stands, pins, restores, sets_monitor_back, gives_monitor_back, is_undone, tag_live, section_numbered, section_opened, free_inside, level_opened, free_more, monitor_taken, own_again, entered_again, not_owner, exits_inner, exits_last, exits_level, exits_one, left_once, section_committed, levels_closed, monitor_left, section_left, wait_begins, wait_noted, wait_made, notify_begins, waiter_found, waiter_passed, start_begins, is_unready}
-use Rattle.automaton_rows.specs.Undoing.{is_held, HeldOnce}
+use Rattle.automaton_rows.specs.Undoing.{is_held}
 use Rattle.automaton_rows.proofs.RowLemmas.{by_if}
-use Rattle.automaton_rows.proofs.FitLemmas.{last_step}
-use Rattle.automaton_rows.proofs.UndoLemmas.{eq_same, depth_is, once_with, once_without}
+use Rattle.automaton_rows.proofs.UndoLemmas.{eq_same, once_with, once_without}
 use Rattle.held_levels.specs.HeldLevels.{AreAtMost}
-use Rattle.held_levels.proofs.HeldLemmas.{highest_low, without_low}
-use Rattle.held_levels.proofs.WaitLemmas.{above, not_zero, at_most, IsLastReply}
-use Rattle.held_levels.proofs.RowLemmas.{Stands, reply_stands, usual_at, entry_goes_on, entry_fits, NoRelease, some_section, own_some, whole_of, needs_entry}
+use Rattle.held_levels.proofs.WaitLemmas.{above, not_zero, at_most}
+use Rattle.held_levels.proofs.RowLemmas.{reply_stands, usual_at, NoRelease, some_section, own_some, whole_of}
 use Rattle.level_marks.proofs.RowLemmas.{NoUndo, IsUndoing, lost_undoes_none, no_undoing}
-use Rattle.run_monitors.specs.Held.{has_level, LevelsDiffer, DepthsFit, top_at, MarksHold, AtRest, AtRelease, TopHolds, IsEnteredOnce, OpensFor, TakesFor, SetsFor, PinsFor, FixedHolds, StageHolds, WaitsHold, OpensWithin, Holds}
-use Rattle.run_monitors.proofs.ListLemmas.{or_left, or_right, true_or, less_or, not_less, has_first, has_with, has_parts, has_none_deeper, has_highest_of, has_below_highest, differ_with, differ_without, level_alone, depths_with, depths_without, depth_fits, level_fits, let_go_of}
-use Rattle.run_monitors.proofs.StageLemmas.{fixed_at, undoes_none, at_rest, pin_holds, scan_holds}
+use Rattle.run_monitors.specs.Held.{has_level, top_at, MarksHold, AtRest, TopHolds, IsEnteredOnce, OpensFor, TakesFor, SetsFor, StageHolds, OpensWithin, Holds}
+use Rattle.run_monitors.proofs.ListLemmas.{or_left, or_right, true_or, less_or, not_less, has_first, has_with, has_parts, has_none_deeper, has_highest_of, differ_with, differ_without, level_alone, depths_with, depths_without, depth_fits, let_go_of}
+use Rattle.run_monitors.proofs.StageLemmas.{fixed_at, pin_holds, scan_holds}
 use Rattle.run_monitors.proofs.MarkLemmas.{SetsBack, sets_back_so, gives_back_so, mark_first}
 use Rattle.level_marks.specs.Marks.{counting_marks}
-use Rattle.run_monitors.proofs.KeptLemmas.{Kept, KeptOf, kept_of, top_all, IsCalm, calm_top, calm_holds, IsUsual, usual_rest, rest_any, waits_usual, no_wait, needs_usual, access_pins, LoadSays, SaysHeld, says_held, free_other, behind_top, behind_holds, behind_fixed, behind_opens}
-use Rattle.run_monitors.proofs.ChangeLemmas.{Given, Ground, twice, twice_true, forgets, whole, goes_any, calm_now, rest_now, go, go_to_pin, answers, answers_set, plainly}
+use Rattle.run_monitors.proofs.KeptLemmas.{Kept, KeptOf, kept_of, rest_any, waits_usual, no_wait, needs_usual, access_pins, LoadSays, SaysHeld, says_held, free_other, behind_top, behind_holds, behind_fixed, behind_opens}
+use Rattle.run_monitors.proofs.ChangeLemmas.{Given, Ground, twice_true, forgets, whole, goes_any, calm_now, rest_now, go, go_to_pin, answers, answers_set, plainly}
 use Rattle.run_monitors.proofs.OuterLemmas.{opens_for, takes_for, sets_for, sets_less, entered_once, is_innermost, held_low, is_outer, others_below, has_left}
+use Rattle.run_monitors.proofs.EntryLemmas.{each_level, some_open, some_own, looking, own_says, unopened, takes_entry, enters_more, undoing_usual, opens_section, opens_next}
 
 module _ {S : Type 0} {code : Code S} {first : S} {classes : ℕ} (b : Bounds) {th : ThreadState S} (ground : Ground code first classes th) where
   abbrev Keeps : Change → Type 0
   Keeps change = KeptOf b (code.next (changed code th change).local) (changed code th change)
-
-  each_level : {next : Next} {step : Step} → code.next th.local ≡ next → move_of code th next th.attempt ≡ Make step → NoRelease code first classes ground.orderly b th ground.stands step → AreAtMost th.levels th.held
-  each_level is makes none = whole_of code first classes ground.orderly b th ground.stands ground.fits.kept is makes none
-
-  some_open : is_open th ≡ true → 0 < th.section
-  some_open open_so = some_section code first classes ground.orderly b th ground.stands ground.fits.kept open_so
-
-  some_own : (m : ℕ) → is_own m th.section ≡ true → 0 < th.section
-  some_own m own = own_some code first classes ground.orderly b th ground.stands ground.fits.kept m th.section own
-
-  looking : (g : Attempt) → th.attempt ≡ g → LooksAtOwn th g → 0 < th.section
-  looking Begin at looks = some_open looks
-  looking Look at looks = above th.section looks
-  looking g at looks = absurd looks
-
-  own_says : {next : Next} (h : Holds b next th) (r m : ℕ) → LoadSays th.section th.held r m → is_own m th.section ≡ true → SaysHeld th.held r m
-  own_says h r m says own = says_held th.section th.held r m ground.small h.depths ground.fits.kept.in_levels says own
-
-  -- the second half of a wait is wanted in a section, with all levels seen pinned
-  not_rewake : (IsRewake (code.next th.local) → ⊥) → {next : Next} → code.next th.local ≡ next → IsRewake next → ⊥
-  not_rewake usual is rewake = usual (subst IsRewake (sym is) rewake)
-
-  unopened : th.levels ≤ th.pinned → {P : Type 0} (n : ℕ) → th.pinned ≤ n → n < th.levels → P
-  unopened pinned n deep low = absurd (no th.levels th.pinned n pinned deep low)
-    where
-      no : (l p n : ℕ) → l ≤ p → p ≤ n → n < l → ⊥
-      no l p n pinned deep low = omega (arith, pinned, deep, low)
-
-  -- ---- a monitor is taken
-
-  takes_entry : (next : Next) → code.next th.local ≡ next → Holds b next th → (IsUndoing th.attempt → ⊥) → IsEntry next → TakesFor th.levels th.held next
-      → (0 < th.section → AtRest th.levels th.level th.held next)
-      → Kept b.limits.sections (code.next (code.reply th.local Reply.Done)) th.section th.levels th.pinned th.level 0 (entry th next th.levels ∷ th.held) Begin
-  takes_entry (Want (Enter r)) is h calm enters takes rest = answers b ground is h Reply.Done (record { object = r; level = th.levels; depth = 1 } ∷ th.held) 0 tt (λ last. last)
-      (takes.0, h.once) (takes.1, h.apart) (omega arith, omega arith, h.depths) (λ n some deep low. or_right (nat_eq th.levels n) (has_level n th.held) (whole b ground is h calm n some deep low))
-      (λ some. has_first (record { object = r; level = th.levels; depth = 1 }) th.held) refl
-  takes_entry (Want (Rewake r)) is h calm enters takes rest = answers b ground is h Reply.Done (record { object = r; level = th.level; depth = th.depth } ∷ th.held) 0 tt (λ last. last)
-      (h.waits.2, h.once) (h.waits.3, h.apart) (h.waits.0, h.waits.1, h.depths) (λ n some deep low. or_right (nat_eq th.level n) (has_level n th.held) (whole b ground is h calm n some deep low))
-      (λ some. elim (rest some) [
-        | inl has ↦ or_right (nat_eq th.level th.levels) (has_level th.levels th.held) has
-        | inr same ↦ or_left (nat_eq th.level th.levels) (has_level th.levels th.held) (subst (λ n. nat_eq th.level n ≡ true) same (eq_same th.level))
-      ]) refl
-  takes_entry next is h calm enters takes rest = absurd enters
-
-  -- one that is held is entered once more
-  enters_more : (next : Next) (new : ℕ) → code.next th.local ≡ next → Holds b next th → (IsUndoing th.attempt → ⊥) → IsEntry next → SetsFor th.section th.held next new → (0 < th.section → AtRest th.levels th.level th.held next)
-      → Keeps (deepens (monitor_wanted next) (monitor_depth new))
-  enters_more (Want (Enter r)) new is h calm enters sets rest = answers_set b ground is h r new (suc (held_as r th.held).depth) calm
-      (λ some. true_or (has_level th.levels th.held) (λ none. true≢false (sym sets.0 ∙ rest some none))) (λ rewake. rewake) tt (λ last. last) sets.0 (omega arith) (one_more (held_as r th.held).depth sets.1) sets.2
-    where
-      one_more : (d : ℕ) → d < 65535 → suc d < 2 ^ 16
-      one_more d low = omega (arith, low)
-  enters_more (Want (Rewake r)) new is h calm enters sets rest = absurd sets
-  enters_more next new is h calm enters sets rest = absurd enters
-
-  -- ---- undoing
-
-  -- no wait is under way
-  undoing_usual : {step : Step} {a : StepAnswer} (w : ℕ) → th.attempt ≡ Undoing w → Given th step a → IsRewake (code.next th.local) → ⊥
-  undoing_usual w at given rewake = open_still th.pinned (revoke_of w) th.levels (given.undoing w at).0 (given.undoing w at).1 (ground.stands.rewakes rewake).pinned
-    where
-      open_still : (p r l : ℕ) → p < r → r ≤ l → l ≤ p → ⊥
-      open_still p r l low high pinned = omega (arith, low, high, pinned)
 
   pub keeps : {next : Next} {step : Step} {a : StepAnswer} {change : Change} → Row code b th next step a change → code.next th.local ≡ next → Holds b next th
       → move_of code th next th.attempt ≡ Make step → CanAnswer (effect_of step) a → IfSome (reply_of change) (FitsNext next) → Given th step a → Keeps change
@@ -134,7 +63,7 @@ module _ {S : Type 0} {code : Code S} {first : S} {classes : ℕ} (b : Bounds) {
       by_area (Section s) = by_if (λ change. Keeps change) (is_own_section th s) (goes Look) (goes Begin) (λ own. go b ground is h step makes none Look tt tt tt) (λ other. go b ground is h step makes none Begin tt tt tt)
       by_area area = go b ground is h step makes none Begin tt tt tt
   keeps (own_revoked {w = w} at looks is_turned) is h makes can fits_next given =
-      let low = given.turned w refl refl (looking _ at looks) is_turned in
+      let low = given.turned w refl refl (looking b ground _ at looks) is_turned in
       subst (λ n. Kept b.limits.sections n th.section th.levels th.pinned th.level th.depth th.held (Undoing w)) (sym is) (record {
         once = h.once;
         apart = h.apart;
@@ -150,7 +79,7 @@ module _ {S : Type 0} {code : Code S} {first : S} {classes : ℕ} (b : Bounds) {
       less : (n r l : ℕ) → n < r → r ≤ l → n < l
       less n r l under low = omega (arith, under, low)
   keeps {next = next} (own_stands {w = w} at looks live) is h makes can fits_next given =
-      let up = given.looked w refl refl (looking _ at looks) in
+      let up = given.looked w refl refl (looking b ground _ at looks) in
       forgets b ground (record th { pinned = pinned_of w; attempt = Checked })
       (subst (λ n. Kept b.limits.sections n th.section th.levels (pinned_of w) th.level th.depth th.held Checked) (sym is) (record {
         once = h.once;
@@ -174,7 +103,7 @@ module _ {S : Type 0} {code : Code S} {first : S} {classes : ℕ} (b : Bounds) {
         apart = h.apart;
         depths = h.depths;
         levels_have = λ n some deep under. absurd (no n th.levels deep (subst (λ t. n < t) (behind_top th next th.levels) under));
-        top = λ some. behind_holds th th.section th.levels th.levels th.level th.held next (same th.levels) h.once (each_level is makes tt) pins_so (rest_now b ground is h _ makes tt some);
+        top = λ some. behind_holds th th.section th.levels th.levels th.level th.held next (same th.levels) h.once (each_level b ground is makes tt) pins_so (rest_now b ground is h _ makes tt some);
         fixed = behind_fixed th th.section th.levels th.levels th.held next (same th.levels) pins_so;
         waits = h.waits;
         within = h.within;
@@ -205,7 +134,7 @@ module _ {S : Type 0} {code : Code S} {first : S} {classes : ℕ} (b : Bounds) {
           ground.fits.kept.in_levels (mark_first (inside th (revoke_of w)) (revoke_of w) th.marks th.held (subst (λ g. MarksHold (top_at g th.levels) (counting_marks g th.levels th.marks) th.held) at h.marks)) does
 
       usual : IsRewake next → ⊥
-      usual rewake = undoing_usual w at given (subst IsRewake (sym is) rewake)
+      usual rewake = undoing_usual b ground w at given (subst IsRewake (sym is) rewake)
   keeps {next = next} (gives_monitor_back {w = w} {r = r} at undo does) is h makes can fits_next given =
       subst (λ n. Kept b.limits.sections n th.section th.levels th.pinned th.level th.depth (without r th.held) th.attempt) (sym is) (record {
         once = once_without r th.held h.once;
@@ -226,7 +155,7 @@ module _ {S : Type 0} {code : Code S} {first : S} {classes : ℕ} (b : Bounds) {
       no n r l under low same = omega (arith, under, low, same)
 
       usual : IsRewake next → ⊥
-      usual rewake = undoing_usual w at given (subst IsRewake (sym is) rewake)
+      usual rewake = undoing_usual b ground w at given (subst IsRewake (sym is) rewake)
   keeps {next = next} (is_undone {w = w} at undo does) is h makes can fits_next given =
       forgets b ground (without_level (record (stood_at th (revoke_of w)) { section = section_at (revoke_of w - 1) th.section; attempt = Begin }) (revoke_of w)) (record {
         once = h.once;
@@ -241,7 +170,7 @@ module _ {S : Type 0} {code : Code S} {first : S} {classes : ℕ} (b : Bounds) {
       })
     where
       usual : IsRewake (code.next th.local) → ⊥
-      usual = undoing_usual w at given
+      usual = undoing_usual b ground w at given
 
       there : IsRewake (code.next (get_or th.saved (inside th (revoke_of w)) th.local)) → ⊥
       there = (usual_at code first classes ground.orderly (inside th (revoke_of w)) th.saved th.local ground.stands.saved (ground.stands.can, usual)).1
@@ -273,126 +202,43 @@ module _ {S : Type 0} {code : Code S} {first : S} {classes : ℕ} (b : Bounds) {
     where
       next_number : (n l : ℕ) → n < l → n + 1 ≤ l
       next_number n l low = omega (arith, low)
-  keeps (section_opened {next = next} {s = s} enters none some) is h makes can fits_next given =
-      let at = fixed_at code th next th.attempt (OpenSection s _) tt (calm_now b ground is h _ makes tt) makes in
-      subst (λ n. Kept b.limits.sections n s 1 0 th.level th.depth th.held (Fixed (take_for th next s 1))) (sym is) (record {
-        once = h.once;
-        apart = h.apart;
-        depths = h.depths;
-        levels_have = λ n above_zero deep under. absurd (no n above_zero under);
-        top = λ open_so. opened;
-        fixed = taken next;
-        waits = h.waits;
-        within = subst (OpensWithin b.limits.sections) at h.opens;
-        opens = tt;
-      })
-    where
-      no : (n : ℕ) → 0 < n → n < 1 → ⊥
-      no n some under = omega (arith, some, under)
-
-      empty : th.held ≡ []
-      empty = ground.fits.kept.held none
-
-      -- nothing is held yet
-      not_held : (r : ℕ) → is_held r th.held ≡ false
-      not_held r = ap (is_held r) empty
-
-      no_wait_here : IsRewake (code.next th.local) → ⊥
-      no_wait_here rewake = closed th.section none (ground.stands.rewakes rewake).section
-        where
-          closed : (n : ℕ) → nat_eq n 0 ≡ true → 0 < n → ⊥
-          closed n none some = grind (arith, common_steps, nat_tests)
-
-      opened_by : (next : Next) → (IsRewake next → ⊥) → IsEntry next → AtRest 1 th.level th.held next
-      opened_by (Want (Enter r)) usual enters = λ untaken. not_held r
-      opened_by (Want (Rewake r)) usual enters = absurd (usual tt)
-      opened_by next usual enters = absurd enters
-
-      opened : AtRest 1 th.level th.held next
-      opened = opened_by next (λ rewake. no_wait_here (subst IsRewake (sym is) rewake)) enters
-
-      taken : (next : Next) → TakesFor 1 th.held next
-      taken (Want (Enter r)) = (not_held r, ap (has_level 1) empty)
-      taken next = tt
+  keeps (section_opened {next = next} {s = s} enters none some) is h makes can fits_next given = opens_section b ground s is h makes enters none
   keeps (free_inside {next = next} {m = m} enters is_free open_so needs room) is h makes can fits_next given =
       go b ground is h _ makes tt (Fixed (OpenLevel th.section (own_word th))) tt
       (opens_for th.held next (free_other th.section th.held (monitor_wanted next) m ground.small h.depths ground.fits.kept.in_levels (given.loaded (monitor_wanted next) m refl refl) (not_zero th.section open_so) is_free)) tt
   keeps (level_opened {next = next} enters some needs room) is h makes can fits_next given =
-      forgets b ground (with_level (record th { attempt = Fixed (take_for th next th.section (suc th.levels)) }))
-      (subst (λ n. Kept b.limits.sections n th.section (suc th.levels) th.pinned th.level th.depth th.held (Fixed (take_for th next th.section (suc th.levels)))) (sym is) (record {
-        once = h.once;
-        apart = h.apart;
-        depths = h.depths;
-        levels_have = λ n above_zero deep under. by_level n above_zero deep under (nat_lt n th.levels) refl;
-        top = λ open_so. opened next needs enters opens;
-        fixed = taken next opens;
-        waits = h.waits;
-        within = h.within;
-        opens = tt;
-      }))
-    where
-      calm : IsUndoing th.attempt → ⊥
-      calm = calm_now b ground is h (OpenLevel th.section (own_word th)) makes tt
-
-      opens : OpensFor th.held next
-      opens = subst (StageHolds th.section th.levels th.pinned th.held next) (fixed_at code th next th.attempt (OpenLevel th.section (own_word th)) tt calm makes) h.fixed
-
-      each : AreAtMost th.levels th.held
-      each = each_level is makes tt
-
-      has_old : (next : Next) → needs_level th next ≡ true → has_level th.levels th.held ≡ true
-      has_old (Want (Rewake r)) needs = absurd (true≢false (sym needs))
-      has_old next needs = twice_true (has_level th.levels th.held) needs
-
-      last : (n l : ℕ) → l ≤ n → n < suc l → l ≡ n
-      last n l high under = omega (arith, high, under)
-
-      by_level : (n : ℕ) → 0 < n → th.pinned ≤ n → n < suc th.levels → (t : Bool) → nat_lt n th.levels ≡ t → has_level n th.held ≡ true
-      by_level n above_zero deep under true less = whole b ground is h calm n above_zero deep (less_or n th.levels less)
-      by_level n above_zero deep under false more = subst (λ m. has_level m th.held ≡ true) (last n th.levels (not_less n th.levels more) under) (has_old next needs)
-
-      opened : (next : Next) → needs_level th next ≡ true → IsEntry next → OpensFor th.held next → AtRest (suc th.levels) th.level th.held next
-      opened (Want (Enter r)) needs enters none = λ untaken. none
-      opened (Want (Rewake r)) needs enters none = absurd (true≢false (sym needs))
-      opened next needs enters none = absurd enters
-
-      one_more : (n : ℕ) → n < suc n
-      one_more n = omega arith
-
-      taken : (next : Next) → OpensFor th.held next → TakesFor (suc th.levels) th.held next
-      taken (Want (Enter r)) none = (none, has_none_deeper th.levels (suc th.levels) th.held each (one_more th.levels))
-      taken next none = tt
+      forgets b ground (with_level (record th { attempt = Fixed (take_for th next th.section (suc th.levels)) })) (opens_next b ground is h makes enters needs)
   keeps (free_more {next = next} {m = m} enters is_free open_so needs) is h makes can fits_next given =
       go b ground is h _ makes tt (Fixed (take_for th next th.section th.levels)) tt
       (takes_for th next (free_other th.section th.held (monitor_wanted next) m ground.small h.depths ground.fits.kept.in_levels (given.loaded (monitor_wanted next) m refl refl) (not_zero th.section open_so) is_free) needs) tt
   keeps (monitor_taken {next = next} enters some) is h makes can fits_next given =
       let calm = calm_now b ground is h _ makes tt in
-      takes_entry next is h calm enters (subst (StageHolds th.section th.levels th.pinned th.held next) (fixed_at code th next th.attempt (take_for th next th.section th.levels) tt calm makes) h.fixed)
+      takes_entry b ground next is h calm enters (subst (StageHolds th.section th.levels th.pinned th.held next) (fixed_at code th next th.attempt (take_for th next th.section th.levels) tt calm makes) h.fixed)
       (rest_now b ground is h _ makes tt)
   keeps (own_again {next = next} {m = m} enters other own room) is h makes can fits_next given =
       go b ground is h _ makes tt (Fixed (deepened th (monitor_wanted next) m (monitor_depth m + 1))) tt
-      (sets_for th.section th.level th.depth m th.held next enters h.waits (own_says h (monitor_wanted next) m (given.loaded (monitor_wanted next) m refl refl) own) room) tt
+      (sets_for th.section th.level th.depth m th.held next enters h.waits (own_says b ground h (monitor_wanted next) m (given.loaded (monitor_wanted next) m refl refl) own) room) tt
   keeps (entered_again {next = next} {new = new} enters calm_row) is h makes can fits_next given =
       let at = fixed_at code th next th.attempt (SetDepth (monitor_wanted next) new) tt (no_undoing th.attempt calm_row) makes in
-      enters_more next new is h (no_undoing th.attempt calm_row) enters (subst (StageHolds th.section th.levels th.pinned th.held next) at h.fixed)
+      enters_more b ground next new is h (no_undoing th.attempt calm_row) enters (subst (StageHolds th.section th.levels th.pinned th.held next) at h.fixed)
       (λ some. subst (TopHolds th.levels th.level th.held next) at (h.top some))
   -- monitors that are left
   keeps (not_owner {next = next} {r = r} needs other) is h makes can fits_next given = plainly b ground _ (replies _) is h makes tt (needs_usual next r needs, tt, tt, λ last. last) fits_next
   keeps (exits_inner {r = r} {m = m} own more) is h makes can fits_next given =
-      go b ground is h _ makes tt (Fixed (deepened th r m (monitor_depth m - 1))) tt (sets_less th.section r m th.held (own_says h r m (given.loaded r m refl refl) own) more) tt
+      go b ground is h _ makes tt (Fixed (deepened th r m (monitor_depth m - 1))) tt (sets_less th.section r m th.held (own_says b ground h r m (given.loaded r m refl refl) own) more) tt
   keeps (exits_last {r = r} {m = m} own last alone) is h makes can fits_next given =
-      go b ground is h _ makes tt (Fixed (Commit th.section (own_word th))) tt (entered_once r m th.held (own_says h r m (given.loaded r m refl refl) own) last) tt
+      go b ground is h _ makes tt (Fixed (Commit th.section (own_word th))) tt (entered_once r m th.held (own_says b ground h r m (given.loaded r m refl refl) own) last) tt
   keeps (exits_level {r = r} {m = m} own last more inner) is h makes can fits_next given =
-      let says = own_says h r m (given.loaded r m refl refl) own in
-      let each = each_level is makes tt in
+      let says = own_says b ground h r m (given.loaded r m refl refl) own in
+      let each = each_level b ground is makes tt in
       go b ground is h _ makes tt (Fixed (CloseLevel th.section (own_word th) (highest (without r th.held)))) tt (
         entered_once r m th.held says last,
-        is_innermost th.levels r th.held h.once each (rest_now b ground is h _ makes tt (some_own m own)) (subst (λ l. highest (without r th.held) < l) says.level (less_or (highest (without r th.held)) (monitor_level m) inner))
+        is_innermost th.levels r th.held h.once each (rest_now b ground is h _ makes tt (some_own b ground m own)) (subst (λ l. highest (without r th.held) < l) says.level (less_or (highest (without r th.held)) (monitor_level m) inner))
             (held_low th.levels r th.held each says.has),
       ) tt
   keeps (exits_one {r = r} {m = m} own last more outer) is h makes can fits_next given =
-      let says = own_says h r m (given.loaded r m refl refl) own in
-      go_to_pin b ground is h _ makes tt (each_level is makes tt)
+      let says = own_says b ground h r m (given.loaded r m refl refl) own in
+      go_to_pin b ground is h _ makes tt (each_level b ground is makes tt)
       (entered_once r m th.held says last, is_outer r th.held h.once h.apart says.has more (subst (λ l. l ≤ highest (without r th.held)) says.level (not_less (highest (without r th.held)) (monitor_level m) outer)))
   keeps (left_once {r = r} {new = new} calm_row) is h makes can fits_next given =
       let at = fixed_at code th (Want (Exit r)) th.attempt (SetDepth r new) tt (no_undoing th.attempt calm_row) makes in
@@ -429,7 +275,7 @@ module _ {S : Type 0} {code : Code S} {first : S} {classes : ℕ} (b : Bounds) {
       stage = subst (StageHolds th.section th.levels th.pinned th.held (Want (Exit r))) (fixed_at code th (Want (Exit r)) th.attempt (CloseLevel th.section (own_word th) depth) tt calm makes) h.fixed
 
       below : depth < (held_as r th.held).level
-      below = subst (λ n. n < (held_as r th.held).level) (sym closes.4) (others_below th.levels r th.held h.once h.apart (each_level is makes tt) stage.0.0 closes.3 stage.1)
+      below = subst (λ n. n < (held_as r th.held).level) (sym closes.4) (others_below th.levels r th.held h.once h.apart (each_level b ground is makes tt) stage.0.0 closes.3 stage.1)
 
       less : (n d a l : ℕ) → n < d → d < a → a ≡ l → n < l
       less n d a l under low same = omega (arith, under, low, same)
@@ -456,7 +302,7 @@ module _ {S : Type 0} {code : Code S} {first : S} {classes : ℕ} (b : Bounds) {
       levels_left : (n : ℕ) → 0 < n → th.pinned ≤ n → n < th.levels → (th.levels < (held_as r th.held).level) ⊎ (th.levels ≤ th.pinned) ⊎ (without r th.held ≡ []) → has_level n (without r th.held) ≡ true
       levels_left n some deep under which = elim which [
         | inl high ↦ has_left n r th.held h.once (whole b ground is h calm n some deep under) (λ same. above_it n th.levels (held_as r th.held).level under high same)
-        | inr other ↦ elim other [ inl pinned ↦ unopened pinned n deep under | inr none ↦ cons_nil (not_empty none) ]
+        | inr other ↦ elim other [ inl pinned ↦ unopened b ground pinned n deep under | inr none ↦ cons_nil (not_empty none) ]
       ]
 
       top_left : (without r th.held ≡ []) ⊎ (th.levels ≡ highest (without r th.held)) → has_level th.levels (without r th.held) ≡ true
@@ -481,7 +327,7 @@ module _ {S : Type 0} {code : Code S} {first : S} {classes : ℕ} (b : Bounds) {
       no : (n : ℕ) → n < 0 → ⊥
       no n under = omega (arith, under)
   -- waits and notifies
-  keeps (wait_begins {r = r} {m = m} own) is h makes can fits_next given = go_to_pin b ground is h _ makes tt (each_level is makes tt) (own_says h r m (given.loaded r m refl refl) own).has
+  keeps (wait_begins {r = r} {m = m} own) is h makes can fits_next given = go_to_pin b ground is h _ makes tt (each_level b ground is makes tt) (own_says b ground h r m (given.loaded r m refl refl) own).has
   keeps (wait_noted {r = r} shut) is h makes can fits_next given =
       let calm = calm_now b ground is h _ makes tt in
       goes_any b ground is h calm (Fixed (Release r)) refl (rest_now b ground is h _ makes tt)
@@ -492,7 +338,7 @@ module _ {S : Type 0} {code : Code S} {first : S} {classes : ℕ} (b : Bounds) {
         once = once_without r th.held h.once;
         apart = differ_without r th.held h.apart;
         depths = depths_without r th.held h.depths;
-        levels_have = λ n some deep under. unopened (at_most th.pinned th.levels shut) n deep under;
+        levels_have = λ n some deep under. unopened b ground (at_most th.pinned th.levels shut) n deep under;
         top = λ some. elim (has_parts th.levels r th.held h.once (subst (TopHolds th.levels th.level th.held (Want (Wait r))) at (h.top some))) [ inl own ↦ inr own.1 | inr more ↦ inl more ];
         fixed = tt;
         waits = (fit.0, fit.1, let_go_of r th.held, level_alone r th.held h.once h.apart has);
@@ -505,11 +351,11 @@ module _ {S : Type 0} {code : Code S} {first : S} {classes : ℕ} (b : Bounds) {
 
       fit : (0 < (held_as r th.held).depth) × ((held_as r th.held).depth < 2 ^ 16)
       fit = depth_fits r th.held h.depths has
-  keeps (notify_begins {r = r} {m = m} own) is h makes can fits_next given = go_to_pin b ground is h _ makes tt (each_level is makes tt) (own_says h r m (given.loaded r m refl refl) own).has
+  keeps (notify_begins {r = r} {m = m} own) is h makes can fits_next given = go_to_pin b ground is h _ makes tt (each_level b ground is makes tt) (own_says b ground h r m (given.loaded r m refl refl) own).has
   keeps (waiter_found {r = r} {n = n} {w = w} shut some low waiting) is h makes can fits_next given =
       go b ground is h _ makes tt (Fixed (Step.Notify n w)) tt (scan_holds code th th.section th.levels th.pinned th.held r th.attempt n h.fixed (calm_now b ground is h _ makes tt) makes) tt
   keeps (waiter_passed {r = r} {n = n} shut some other more) is h makes can fits_next given =
       go b ground is h _ makes tt (Fixed (LoadWait (n + 1))) tt (scan_holds code th th.section th.levels th.pinned th.held r th.attempt n h.fixed (calm_now b ground is h _ makes tt) makes) tt
-  keeps (start_begins {r = r} {p = p} none) is h makes can fits_next given = go_to_pin b ground is h _ makes tt (each_level is makes tt) tt
-  keeps (is_unready {c = c} fresh) is h makes can fits_next given = go_to_pin b ground is h _ makes tt (each_level is makes tt) tt
+  keeps (start_begins {r = r} {p = p} none) is h makes can fits_next given = go_to_pin b ground is h _ makes tt (each_level b ground is makes tt) tt
+  keeps (is_unready {c = c} fresh) is h makes can fits_next given = go_to_pin b ground is h _ makes tt (each_level b ground is makes tt) tt
   keeps {step = step} {change = change} row is h makes can fits_next given = plainly b ground step change is h makes tt (tt, tt, tt, λ last. last) fits_next

@@ -7,14 +7,14 @@ use Rattle.op_core.specs.declared.Next.TheVariants.{Silent, Want, Ended}
 use Rattle.op_core.specs.ThreadCode.{Code, leaves_any}
 use Rattle.section_state.specs.SectionWord.{revoke_of}
 use Rattle.step_port.specs.declared.step.Step.{Step}
-use Rattle.step_port.specs.declared.step.Step.TheVariants.{LoadSection, OpenSection, OpenLevel, CloseLevel, Pin, Commit, TakeMonitor, SetDepth, Release, SetWait, LoadWait, LoadMonitor, Ticket, SettleClass, EndThread}
+use Rattle.step_port.specs.declared.step.Step.TheVariants.{LoadSection, OpenSection, OpenLevel, CloseLevel, Pin, Commit, TakeMonitor, SetDepth, Release, SetWait, LoadWait, Ticket, EndThread}
 use Rattle.thread_automaton.specs.declared.Attempt.{Attempt}
 use Rattle.thread_automaton.specs.declared.Attempt.TheVariants.{Begin, Look, Checked, Fixed, Meets, Undoing, Full}
 use Rattle.thread_automaton.specs.declared.Held.{Held}
 use Rattle.thread_automaton.specs.declared.Move.{Move}
 use Rattle.thread_automaton.specs.declared.Move.TheVariants.{Quiet, Make}
 use Rattle.thread_automaton.specs.ThreadState.{ThreadState, is_open, mark_of, noted_since, from_level}
-use Rattle.thread_automaton.specs.NextMove.{own_pin, pinned_then, first_step, deepened_since, silent_move, move_of}
+use Rattle.thread_automaton.specs.NextMove.{own_pin, first_step, deepened_since, move_of}
 use Rattle.automaton_rows.proofs.RowLemmas.{by_if}
 use Rattle.level_marks.proofs.RowLemmas.{NoUndo, NoUndoIn, IsUndoing, undo_is}
 use Rattle.run_monitors.specs.Held.{AtRest, TopHolds, PinsFor, GoesFor, StageHolds}

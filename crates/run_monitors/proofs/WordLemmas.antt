@@ -1,8 +1,7 @@
 -- What the step of a thread makes of the words of monitors.
-use Rattle.std.proofs.Common.{◌≡◌, ◌≢◌, ◌⊎◌, inl, inr, ℕ, ◌+◌, ◌^◌, ◌<◌, Bool, true, false, true≢false, Option, Some, List, [], ◌∷◌, nat_eq, refl, sym, ◌∙◌, ap, subst, arith}
+use Rattle.std.proofs.Common.{◌≡◌, ◌≢◌, ◌⊎◌, inl, inr, ℕ, ◌+◌, Bool, true, false, true≢false, Some, List, [], ◌∷◌, nat_eq, refl, sym, ◌∙◌, ap, subst, arith}
 use Rattle.std.specs.Prelude.{if◌then◌else◌}
 use Rattle.op_core.proofs.PointwiseLemmas.{same_or_other}
-use Rattle.heap_words.specs.declared.areas.Area.{Area}
 use Rattle.heap_words.specs.declared.areas.Area.TheVariants as area
 use Rattle.step_port.specs.declared.answer.StepAnswer.{StepAnswer}
 use Rattle.step_port.specs.declared.answer.StepAnswer.TheVariants.{Lost}
@@ -171,14 +170,20 @@ module _ (s t : ℕ) (held behind : List Held) (step : Step) (a : StepAnswer) (d
         where
           by_whether : r ≢ h.object → Whether (is_held r held) → (is_held r behind ≡ true) ⊎ ((is_held r held ≡ false) × (w (area.Object (r + 1)) ≢ 0))
           by_whether other (yes_so has) = inl (ap (is_held r) after ∙ or_right (nat_eq h.object r) (is_held r held) has)
-          by_whether other (not_so none) = inr (none, λ zero_word. some (ap (λ (v : Words). v (area.Object (r + 1))) (exchanged w (area.Object (q + 1)) 0 (held_word s h) answer).leaves
-              ∙ set_elsewhere w (q + 1) (r + 1) (held_word s h) (apart_next q r (λ same. other (same ∙ object))) ∙ zero_word))
+          by_whether other (not_so none) = inr (
+            none,
+            λ zero_word. some (ap (λ (v : Words). v (area.Object (r + 1))) (exchanged w (area.Object (q + 1)) 0 (held_word s h) answer).leaves
+                ∙ set_elsewhere w (q + 1) (r + 1) (held_word s h) (apart_next q r (λ same. other (same ∙ object))) ∙ zero_word),
+          )
       by_deed (sets_one {r = q} {new = new} d has word after section) answer quiet some = by_whether (whether (is_held r held))
         where
           by_whether : Whether (is_held r held) → (is_held r behind ≡ true) ⊎ ((is_held r held ≡ false) × (w (area.Object (r + 1)) ≢ 0))
           by_whether (yes_so held_so) = inl (ap (is_held r) after ∙ same_held q r d held ∙ held_so)
-          by_whether (not_so none) = inr (none, λ zero_word. some (set_elsewhere w (q + 1) (r + 1) new
-              (apart_next q r (λ same. contrary (sym (subst (λ n. is_held n held ≡ true) (sym same) has) ∙ none))) ∙ zero_word))
+          by_whether (not_so none) = inr (
+            none,
+            λ zero_word. some (set_elsewhere w (q + 1) (r + 1) new
+                (apart_next q r (λ same. contrary (sym (subst (λ n. is_held n held ≡ true) (sym same) has) ∙ none))) ∙ zero_word),
+          )
       by_deed (leaves_one {r = q} has after section) answer quiet some = elim (same_or_other r q) [
         | inl here ↦ absurd (some (ap (λ n. put_at w (area.Object (q + 1)) 0 (area.Object (n + 1))) here ∙ set_here w (q + 1) 0))
         | inr other ↦ by_whether other (whether (is_held r held))

@@ -5,7 +5,6 @@ use Rattle.op_core.specs.declared.Op.{Op}
 use Rattle.op_core.specs.declared.Op.TheVariants.{Enter, Exit, Wait, Rewake}
 use Rattle.op_core.specs.declared.Next.{Next}
 use Rattle.op_core.specs.declared.Next.TheVariants.{Want}
-use Rattle.op_core.specs.ThreadCode.{Code}
 use Rattle.section_state.specs.SectionWord.{revoke_of}
 use Rattle.step_port.specs.declared.step.Step.{Step}
 use Rattle.step_port.specs.declared.step.Step.TheVariants.{DrawSection, OpenSection, OpenLevel, CloseLevel, Pin, Revoke, Commit, TakeMonitor, SetDepth, Release}
