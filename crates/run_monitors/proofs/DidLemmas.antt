@@ -1,18 +1,14 @@
 -- What a step of a thread makes of monitors, and of what threads hold.
-use Rattle.std.proofs.Common.{◌≡◌, ◌≢◌, ◌⊎◌, inl, inr, ℕ, suc, ◌+◌, ◌^◌, ◌<◌, ◌≤◌, ◌&&◌, Bool, true, false, true≢false, Option, None, Some, List, [], length, nat_eq, refl, sym, ◌∙◌, ap, subst, arith}
-use Rattle.std.specs.Prelude.{nat_lt, nat_le, slice_get, if◌then◌else◌}
+use Rattle.std.proofs.Common.{◌≡◌, ◌≢◌, ◌⊎◌, inl, inr, ℕ, suc, ◌+◌, ◌^◌, ◌<◌, ◌≤◌, Bool, true, false, true≢false, None, Some, List, [], length, nat_eq, refl, sym, ◌∙◌, ap, subst, arith}
+use Rattle.std.specs.Prelude.{nat_le, slice_get}
 use Rattle.std.proofs.lemmas.Grind.{common_steps}
 use Rattle.std.proofs.lemmas.Bool.Decides.{nat_tests}
-use Rattle.std.proofs.lemmas.Option.{same_Some, slice_get_within}
-use Rattle.op_core.specs.declared.Limit.TheVariants.{Turns}
-use Rattle.op_core.specs.declared.Op.TheVariants.{New, Start}
-use Rattle.op_core.specs.declared.Next.{Next}
-use Rattle.op_core.specs.declared.Next.TheVariants.{Silent, Want}
+use Rattle.std.proofs.lemmas.Option.{same_Some}
+use Rattle.op_core.specs.declared.Op.TheVariants.{Start}
+use Rattle.op_core.specs.declared.Next.TheVariants.{Want}
 use Rattle.op_core.specs.ThreadCode.{Code}
-use Rattle.op_core.specs.Orderly.{IsRewake}
-use Rattle.op_core.specs.OrdinaryState.{set_at, Object}
+use Rattle.op_core.specs.OrdinaryState.{set_at}
 use Rattle.op_core.proofs.PointwiseLemmas.{same_or_other, set_at-hit, set_at-other}
-use Rattle.op_core.proofs.QuietLemmas.{quiet_step-silent}
 use Rattle.heap_words.specs.declared.areas.Area.TheVariants as area
 use Rattle.section_state.specs.declared.State.TheVariants.{Revoking}
 use Rattle.section_state.specs.SectionWord.{state_of, revoke_of}
@@ -20,53 +16,47 @@ use Rattle.monitor_core.specs.Monitors.{monitor_section, is_own}
 use Rattle.step_port.specs.declared.answer.StepAnswer.{StepAnswer}
 use Rattle.step_port.specs.declared.answer.StepAnswer.TheVariants.{Found}
 use Rattle.step_port.specs.declared.step.Step.{Step}
-use Rattle.step_port.specs.declared.step.Step.TheVariants.{LoadMonitor, TakeMonitor, SetHeader, Split}
+use Rattle.step_port.specs.declared.step.Step.TheVariants.{LoadMonitor, TakeMonitor, Split}
 use Rattle.step_port.specs.Steps.{effect_of}
 use Rattle.step_port.specs.Words.{CanAnswer, answer_of, words_after}
 use Rattle.thread_automaton.specs.declared.Bounds.{Bounds}
-use Rattle.thread_automaton.specs.declared.Held.{Held}
-use Rattle.thread_automaton.specs.declared.Move.{Move}
-use Rattle.thread_automaton.specs.declared.Move.TheVariants.{Over, Quiet, Stop, Make}
-use Rattle.thread_automaton.specs.declared.Attempt.{Attempt}
-use Rattle.thread_automaton.specs.declared.Attempt.TheVariants.{Fixed, Undoing}
+use Rattle.thread_automaton.specs.declared.Move.TheVariants.{Make}
 use Rattle.thread_automaton.specs.ThreadState.{ThreadState, first_state, held_as}
-use Rattle.thread_automaton.specs.NextMove.{held_word, move_of, next_move}
+use Rattle.thread_automaton.specs.NextMove.{held_word, move_of}
 use Rattle.thread_automaton.specs.Changes.{changed}
 use Rattle.thread_automaton.specs.Answers.{change_of}
-use Rattle.thread_automaton.specs.Told.{Told, advanced, born, told, counted_for, after_answer, after_quiet}
+use Rattle.thread_automaton.specs.Told.{told, after_answer}
 use Rattle.automaton_rows.specs.Fits.{IsFit}
 use Rattle.automaton_rows.specs.Rows.{Row}
 use Rattle.automaton_rows.specs.Undoing.{is_held}
 use Rattle.automaton_rows.proofs.RowLemmas.{answers_are_rows, words_can_answer}
 use Rattle.automaton_rows.proofs.ReplyLemmas.{replies_fit}
-use Rattle.core_runs.specs.Cores.{Core, threads_by, objects_by, core_after}
-use Rattle.core_runs.specs.Acts.{Act, quiet, did, beside, QuietAt, DidAt, BesideAt, ActAt}
+use Rattle.core_runs.specs.Cores.{Core, threads_by, core_after}
+use Rattle.core_runs.specs.Acts.{Act, did, DidAt}
 use Rattle.section_laws.specs.Runs.{IsRun}
 use Rattle.section_laws.proofs.WordLemmas.{state_is}
 use Rattle.section_laws.proofs.ClaimLemmas.{none_some, found_is}
 use Rattle.section_laws.proofs.DeedLemmas.{makes_it}
 use Rattle.section_laws.proofs.SectionLemmas.{sections_apart}
-use Rattle.section_laws.proofs.RunLemmas.{along, Known, facts_at}
+use Rattle.section_laws.proofs.RunLemmas.{Known, facts_at}
 use Rattle.own_sections.proofs.ViewLemmas.{view}
 use Rattle.own_sections.proofs.OwnLemmas.{Own}
 use Rattle.own_sections.proofs.SeenLemmas.{undoing_seen, looked_pin}
 use Rattle.own_sections.proofs.MoveLemmas.{own_at}
 use Rattle.run_threads.proofs.NumberLemmas.{threads_are_new}
-use Rattle.held_levels.proofs.StandLemmas.{Wants, stands_at, split_wants, quiet_next}
-use Rattle.level_marks.specs.Marks.{counting_marks}
-use Rattle.level_marks.proofs.RowLemmas.{IsUndoing, all_count}
-use Rattle.run_monitors.specs.Held.{top_at, AtRest, TopHolds, WaitsHold, MarksHold, Holds}
+use Rattle.held_levels.proofs.StandLemmas.{Wants, stands_at, split_wants}
+use Rattle.run_monitors.specs.Held.{Holds}
 use Rattle.run_monitors.specs.Monitors.{written_place, monitor_met, IsObject, IsMonitorRun}
-use Rattle.run_monitors.specs.Laws.{MonitorsAreHeld, ThreadsHold, MonitorsOfThreadsAreHeld}
+use Rattle.run_monitors.specs.Laws.{MonitorsAreHeld}
 use Rattle.run_monitors.proofs.ListLemmas.{false_or, depth_fits, level_fits}
 use Rattle.run_monitors.proofs.MarkLemmas.{section_is, word_some, section_of_zero}
-use Rattle.run_monitors.proofs.KeptLemmas.{KeptOf, top_all, rest_any, waits_usual, LoadSays}
+use Rattle.run_monitors.proofs.KeptLemmas.{LoadSays}
 use Rattle.run_monitors.proofs.ChangeLemmas.{Given, Ground}
 use Rattle.run_monitors.proofs.RowLemmas as rows
 use Rattle.run_monitors.proofs.MarkRows as marks
 use Rattle.run_monitors.proofs.DeedLemmas.{set_elsewhere, MonitorDeed, does}
-use Rattle.run_monitors.proofs.WordLemmas.{beside_stays, word_stays, held_before, says_after, free_after}
-use Rattle.run_monitors.proofs.ThreadLemmas.{contrary, own_parts, holds_of, counted_holds, counted_deed, begins_holding, quiet_calm, quiet_rest, object_stays, object_came}
+use Rattle.run_monitors.proofs.WordLemmas.{word_stays, held_before, says_after, free_after}
+use Rattle.run_monitors.proofs.ThreadLemmas.{contrary, own_parts, counted_holds, counted_deed, begins_holding, object_stays, object_came}
 
 -- ---- along a run
 

@@ -1,6 +1,7 @@
 pub mod ListLemmas
 pub mod StageLemmas
 pub mod MarkLemmas
+pub mod UndoLemmas
 pub mod KeptLemmas
 pub mod ChangeLemmas
 pub mod OuterLemmas

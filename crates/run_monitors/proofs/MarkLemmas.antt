@@ -1,5 +1,5 @@
 -- Marks of levels, and what undoing makes of them.
-use Rattle.std.proofs.Common.{◌≡◌, ◌⊎◌, inl, inr, ℕ, zero, suc, ◌-◌, ◌^◌, ◌<◌, ◌≤◌, Bool, true, false, List, [], ◌∷◌, ◌++◌, reverse, drop, nat_eq, refl, sym, ◌∙◌, ap, subst, arith}
+use Rattle.std.proofs.Common.{◌≡◌, ◌⊎◌, inl, inr, ℕ, zero, suc, ◌-◌, ◌^◌, ◌<◌, ◌≤◌, Bool, true, false, List, [], ◌∷◌, ◌++◌, length, reverse, drop, nat_eq, refl, sym, ◌∙◌, ap, subst, arith}
 use Rattle.std.specs.Prelude.{nat_lt, filter, if◌then◌else◌}
 use Rattle.std.proofs.lemmas.List.{reverse-append}
 use Rattle.write_log.specs.declared.Noted.{Noted}
@@ -72,6 +72,17 @@ mark_first zero n (m ∷ marks) held marked = inl marked.0
 mark_first (suc j) n [] held marked = inr refl
 mark_first (suc j) n (m ∷ marks) held marked = mark_first j n marks held marked
 
+pub mark_there : (j n : ℕ) (marks : List Mark) (held : List Held) → j < length marks → MarksHold n (drop j marks) held → MarkHolds n (nth_or no_mark j marks) held
+mark_there j n [] held within marked = absurd (no j within)
+  where
+    no : (j : ℕ) → j < 0 → ⊥
+    no j within = omega (arith, within)
+mark_there zero n (m ∷ marks) held within marked = marked.0
+mark_there (suc j) n (m ∷ marks) held within marked = mark_there j n marks held (less j (length marks) within) marked
+  where
+    less : (j l : ℕ) → suc j < suc l → j < l
+    less j l within = omega (arith, within)
+
 -- ---- what a mark names is held
 
 -- each of them is held, with its level, and was taken further out than level n
@@ -79,7 +90,7 @@ abbrev pub AreStillHeld : ℕ → List Held → List Held → Type 0
 AreStillHeld n [] held = Unit {0}
 AreStillHeld n (h ∷ then_) held = (is_held h.object held ≡ true) × ((held_as h.object held).level ≡ h.level) × (h.level < n) × (0 < h.depth) × (h.depth < 2 ^ 16) × AreStillHeld n then_ held
 
-first_site : (a c : ℕ × ℕ) (xs ys : List (ℕ × ℕ)) → a ∷ xs ≡ c ∷ ys → (a ≡ c) × (xs ≡ ys)
+pub first_site : (a c : ℕ × ℕ) (xs ys : List (ℕ × ℕ)) → a ∷ xs ≡ c ∷ ys → (a ≡ c) × (xs ≡ ys)
 first_site a c xs ys same = (ap first same, ap (drop 1) same)
   where
     first : List (ℕ × ℕ) → ℕ × ℕ

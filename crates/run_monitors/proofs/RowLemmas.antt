@@ -1,10 +1,8 @@
 -- What a thread holds, apart from its marks, kept by each row of the automaton.
-use Rattle.std.proofs.Common.{◌≡◌, ◌⊎◌, inl, inr, ℕ, suc, ◌+◌, ◌-◌, ◌^◌, ◌<◌, ◌≤◌, Bool, true, false, true≢false, [], ◌∷◌, length, nat_eq, refl, sym, ◌∙◌, ap, subst, arith}
-use Rattle.std.specs.Prelude.{nat_lt, get_or, IfSome, if◌then◌else◌}
-use Rattle.std.proofs.lemmas.Grind.{common_steps}
-use Rattle.std.proofs.lemmas.Bool.Decides.{nat_tests}
-use Rattle.op_core.specs.Replies.{IsEntry, FitsNext}
-use Rattle.op_core.specs.declared.Op.TheVariants.{Enter, Exit, Wait, Rewake}
+use Rattle.std.proofs.Common.{◌≡◌, ◌⊎◌, inl, inr, ℕ, suc, ◌+◌, ◌-◌, ◌^◌, ◌<◌, ◌≤◌, Bool, true, false, [], ◌∷◌, length, nat_eq, refl, sym, ◌∙◌, subst, arith}
+use Rattle.std.specs.Prelude.{get_or, IfSome, if◌then◌else◌}
+use Rattle.op_core.specs.Replies.{FitsNext}
+use Rattle.op_core.specs.declared.Op.TheVariants.{Exit, Wait}
 use Rattle.op_core.specs.declared.Next.{Next}
 use Rattle.op_core.specs.declared.Next.TheVariants.{Want}
 use Rattle.op_core.specs.declared.Reply.{Reply}
@@ -13,7 +11,7 @@ use Rattle.op_core.specs.Orderly.{IsRewake}
 use Rattle.heap_words.specs.declared.areas.Area.{Area}
 use Rattle.heap_words.specs.declared.areas.Area.TheVariants.{Section}
 use Rattle.section_state.specs.SectionWord.{pinned_of, revoke_of}
-use Rattle.monitor_core.specs.Monitors.{monitor_depth, monitor_level, is_own}
+use Rattle.monitor_core.specs.Monitors.{monitor_depth, monitor_level}
 use Rattle.step_port.specs.declared.answer.StepAnswer.{StepAnswer}
 use Rattle.step_port.specs.declared.step.Step.{Step}
 use Rattle.step_port.specs.declared.step.Step.TheVariants.{OpenSection, OpenLevel, CloseLevel, Pin, Commit, SetDepth, Release, SetWait, LoadWait}
@@ -21,32 +19,30 @@ use Rattle.step_port.specs.Steps.{place_of, effect_of}
 use Rattle.step_port.specs.Words.{CanAnswer}
 use Rattle.thread_automaton.specs.declared.Bounds.{Bounds}
 use Rattle.thread_automaton.specs.declared.Move.TheVariants.{Make}
-use Rattle.thread_automaton.specs.declared.Attempt.{Attempt}
 use Rattle.thread_automaton.specs.declared.Attempt.TheVariants.{Begin, Look, Checked, Fixed, Undoing}
-use Rattle.thread_automaton.specs.ThreadState.{ThreadState, own_word, is_open, is_own_section, mark_of, inside, noted_since, held_as, with_depth_of, from_level, highest}
+use Rattle.thread_automaton.specs.ThreadState.{ThreadState, own_word, is_own_section, mark_of, inside, noted_since, held_as, with_depth_of, from_level, highest}
 use Rattle.thread_automaton.specs.NextMove.{deepened_since, move_of}
 use Rattle.thread_automaton.specs.Changes.{Change, goes, replies, deepens, answered, with_level, with_levels, without_level, stood_at, section_at, without, changed}
 use Rattle.thread_automaton.specs.Checks.{behind_pin}
-use Rattle.thread_automaton.specs.Monitors.{monitor_wanted, entry, take_for, deepened, needs_level}
+use Rattle.thread_automaton.specs.Monitors.{monitor_wanted, take_for, deepened}
 use Rattle.thread_automaton.specs.Answers.{lost_on}
 use Rattle.automaton_rows.specs.Laws.{reply_of}
-use Rattle.automaton_rows.specs.Rows.{LooksAtOwn, Row, is_lost, own_revoked, own_stands, pins, restores, sets_monitor_back, gives_monitor_back, is_undone, tag_live, section_numbered, section_opened, free_inside, level_opened, free_more, monitor_taken, own_again, entered_again, not_owner, exits_inner, exits_last, exits_level, exits_one, left_once, section_committed, levels_closed, monitor_left, section_left, wait_begins, wait_noted, wait_made, notify_begins, waiter_found, waiter_passed, start_begins, is_unready}
+use Rattle.automaton_rows.specs.Rows.{Row, is_lost, own_revoked, own_stands, pins, restores, sets_monitor_back, gives_monitor_back, is_undone, tag_live, section_numbered, section_opened, free_inside, level_opened, free_more, monitor_taken, own_again, entered_again, not_owner, exits_inner, exits_last, exits_level, exits_one, left_once, section_committed, levels_closed, monitor_left, section_left, wait_begins, wait_noted, wait_made, notify_begins, waiter_found, waiter_passed, start_begins, is_unready}
 use Rattle.automaton_rows.specs.Undoing.{is_held}
 use Rattle.automaton_rows.proofs.RowLemmas.{by_if}
-use Rattle.automaton_rows.proofs.UndoLemmas.{eq_same, once_with, once_without}
-use Rattle.held_levels.specs.HeldLevels.{AreAtMost}
-use Rattle.held_levels.proofs.WaitLemmas.{above, not_zero, at_most}
-use Rattle.held_levels.proofs.RowLemmas.{reply_stands, usual_at, NoRelease, some_section, own_some, whole_of}
+use Rattle.automaton_rows.proofs.UndoLemmas.{once_with, once_without}
+use Rattle.held_levels.proofs.WaitLemmas.{not_zero, at_most}
+use Rattle.held_levels.proofs.RowLemmas.{reply_stands, usual_at}
 use Rattle.level_marks.proofs.RowLemmas.{NoUndo, IsUndoing, lost_undoes_none, no_undoing}
-use Rattle.run_monitors.specs.Held.{has_level, top_at, MarksHold, AtRest, TopHolds, IsEnteredOnce, OpensFor, TakesFor, SetsFor, StageHolds, OpensWithin, Holds}
-use Rattle.run_monitors.proofs.ListLemmas.{or_left, or_right, true_or, less_or, not_less, has_first, has_with, has_parts, has_none_deeper, has_highest_of, differ_with, differ_without, level_alone, depths_with, depths_without, depth_fits, let_go_of}
+use Rattle.run_monitors.specs.Held.{has_level, top_at, MarksHold, TopHolds, IsEnteredOnce, SetsFor, StageHolds, Holds}
+use Rattle.run_monitors.proofs.ListLemmas.{less_or, not_less, has_with, has_parts, has_highest_of, differ_with, differ_without, level_alone, depths_with, depths_without, depth_fits, let_go_of}
 use Rattle.run_monitors.proofs.StageLemmas.{fixed_at, pin_holds, scan_holds}
 use Rattle.run_monitors.proofs.MarkLemmas.{SetsBack, sets_back_so, gives_back_so, mark_first}
 use Rattle.level_marks.specs.Marks.{counting_marks}
-use Rattle.run_monitors.proofs.KeptLemmas.{Kept, KeptOf, kept_of, rest_any, waits_usual, no_wait, needs_usual, access_pins, LoadSays, SaysHeld, says_held, free_other, behind_top, behind_holds, behind_fixed, behind_opens}
-use Rattle.run_monitors.proofs.ChangeLemmas.{Given, Ground, twice_true, forgets, whole, goes_any, calm_now, rest_now, go, go_to_pin, answers, answers_set, plainly}
+use Rattle.run_monitors.proofs.KeptLemmas.{Kept, KeptOf, kept_of, rest_any, waits_usual, no_wait, needs_usual, access_pins, free_other, behind_top, behind_holds, behind_fixed, behind_opens}
+use Rattle.run_monitors.proofs.ChangeLemmas.{Given, Ground, forgets, whole, goes_any, calm_now, rest_now, go, go_to_pin, answers, answers_set, plainly}
 use Rattle.run_monitors.proofs.OuterLemmas.{opens_for, takes_for, sets_for, sets_less, entered_once, is_innermost, held_low, is_outer, others_below, has_left}
-use Rattle.run_monitors.proofs.EntryLemmas.{each_level, some_open, some_own, looking, own_says, unopened, takes_entry, enters_more, undoing_usual, opens_section, opens_next}
+use Rattle.run_monitors.proofs.EntryLemmas.{each_level, some_own, looking, own_says, unopened, takes_entry, enters_more, undoing_usual, opens_section, opens_next}
 
 module _ {S : Type 0} {code : Code S} {first : S} {classes : ℕ} (b : Bounds) {th : ThreadState S} (ground : Ground code first classes th) where
   abbrev Keeps : Change → Type 0

@@ -1,72 +1,42 @@
 -- Monitors along a run.
-use Rattle.std.proofs.Common.{◌≡◌, ◌≢◌, ◌⊎◌, inl, inr, ℕ, suc, ◌+◌, ◌^◌, ◌<◌, ◌≤◌, ◌&&◌, Bool, true, false, true≢false, Option, None, Some, List, [], length, nat_eq, refl, sym, ◌∙◌, ap, subst, arith}
-use Rattle.std.specs.Prelude.{nat_lt, nat_le, slice_get, if◌then◌else◌}
-use Rattle.std.proofs.lemmas.Grind.{common_steps}
-use Rattle.std.proofs.lemmas.Bool.Decides.{nat_tests}
+use Rattle.std.proofs.Common.{◌≡◌, ◌≢◌, ◌⊎◌, inl, inr, ℕ, suc, ◌+◌, ◌^◌, ◌<◌, ◌≤◌, true, Option, Some, List, [], length, refl, sym, ◌∙◌, ap, subst, arith}
+use Rattle.std.specs.Prelude.{nat_le, slice_get}
 use Rattle.std.proofs.lemmas.Option.{same_Some, slice_get_within}
-use Rattle.op_core.specs.declared.Limit.TheVariants.{Turns}
-use Rattle.op_core.specs.declared.Op.TheVariants.{New, Start}
-use Rattle.op_core.specs.declared.Next.{Next}
-use Rattle.op_core.specs.declared.Next.TheVariants.{Silent, Want}
+use Rattle.op_core.specs.declared.Next.TheVariants.{Silent}
 use Rattle.op_core.specs.ThreadCode.{Code}
 use Rattle.op_core.specs.Orderly.{IsRewake}
-use Rattle.op_core.specs.OrdinaryState.{set_at, Object}
+use Rattle.op_core.specs.OrdinaryState.{set_at}
 use Rattle.op_core.proofs.PointwiseLemmas.{same_or_other, set_at-hit, set_at-other}
 use Rattle.op_core.proofs.QuietLemmas.{quiet_step-silent}
-use Rattle.heap_words.specs.declared.areas.Area.TheVariants as area
-use Rattle.section_state.specs.declared.State.TheVariants.{Revoking}
-use Rattle.section_state.specs.SectionWord.{state_of, revoke_of}
-use Rattle.monitor_core.specs.Monitors.{monitor_section, is_own}
+use Rattle.section_state.specs.SectionWord.{revoke_of}
 use Rattle.step_port.specs.declared.answer.StepAnswer.{StepAnswer}
-use Rattle.step_port.specs.declared.answer.StepAnswer.TheVariants.{Found}
 use Rattle.step_port.specs.declared.step.Step.{Step}
-use Rattle.step_port.specs.declared.step.Step.TheVariants.{LoadMonitor, TakeMonitor, SetHeader, Split}
-use Rattle.step_port.specs.Steps.{effect_of}
-use Rattle.step_port.specs.Words.{CanAnswer, answer_of, words_after}
+use Rattle.step_port.specs.declared.step.Step.TheVariants.{MarkUndone}
 use Rattle.thread_automaton.specs.declared.Bounds.{Bounds}
-use Rattle.thread_automaton.specs.declared.Held.{Held}
 use Rattle.thread_automaton.specs.declared.Move.{Move}
-use Rattle.thread_automaton.specs.declared.Move.TheVariants.{Over, Quiet, Stop, Make}
-use Rattle.thread_automaton.specs.declared.Attempt.{Attempt}
-use Rattle.thread_automaton.specs.declared.Attempt.TheVariants.{Fixed, Undoing}
-use Rattle.thread_automaton.specs.ThreadState.{ThreadState, first_state, held_as}
-use Rattle.thread_automaton.specs.NextMove.{held_word, move_of, next_move}
-use Rattle.thread_automaton.specs.Changes.{changed}
-use Rattle.thread_automaton.specs.Answers.{change_of}
-use Rattle.thread_automaton.specs.Told.{Told, advanced, born, told, counted_for, after_answer, after_quiet}
-use Rattle.automaton_rows.specs.Fits.{IsFit}
-use Rattle.automaton_rows.specs.Rows.{Row}
+use Rattle.thread_automaton.specs.declared.Move.TheVariants.{Make}
+use Rattle.thread_automaton.specs.ThreadState.{ThreadState, held_as, mark_of, inside, noted_since, from_level}
+use Rattle.thread_automaton.specs.NextMove.{held_word, deepened_since, undo_next, move_of, next_move}
+use Rattle.thread_automaton.specs.Told.{after_quiet}
 use Rattle.automaton_rows.specs.Undoing.{is_held}
-use Rattle.automaton_rows.proofs.RowLemmas.{answers_are_rows, words_can_answer}
-use Rattle.automaton_rows.proofs.ReplyLemmas.{replies_fit}
-use Rattle.core_runs.specs.Cores.{Core, threads_by, objects_by, core_after}
+use Rattle.automaton_rows.proofs.FitLemmas.{last_step}
+use Rattle.core_runs.specs.Cores.{Core}
 use Rattle.core_runs.specs.Acts.{Act, quiet, did, beside, QuietAt, DidAt, BesideAt, ActAt}
 use Rattle.section_laws.specs.Runs.{IsRun}
-use Rattle.section_laws.proofs.WordLemmas.{state_is}
-use Rattle.section_laws.proofs.ClaimLemmas.{none_some, found_is}
 use Rattle.section_laws.proofs.DeedLemmas.{makes_it}
-use Rattle.section_laws.proofs.SectionLemmas.{sections_apart}
-use Rattle.section_laws.proofs.RunLemmas.{along, Known, facts_at}
-use Rattle.own_sections.proofs.ViewLemmas.{view}
-use Rattle.own_sections.proofs.OwnLemmas.{Own}
-use Rattle.own_sections.proofs.SeenLemmas.{undoing_seen, looked_pin}
-use Rattle.own_sections.proofs.MoveLemmas.{own_at}
-use Rattle.run_threads.proofs.NumberLemmas.{threads_are_new}
-use Rattle.held_levels.proofs.StandLemmas.{Wants, stands_at, split_wants, quiet_next}
+use Rattle.section_laws.proofs.RunLemmas.{along, act_at, facts_at}
+use Rattle.held_levels.proofs.StandLemmas.{stands_at, quiet_next}
 use Rattle.level_marks.specs.Marks.{counting_marks}
-use Rattle.level_marks.proofs.RowLemmas.{IsUndoing, all_count}
-use Rattle.run_monitors.specs.Held.{top_at, AtRest, TopHolds, WaitsHold, MarksHold, Holds}
-use Rattle.run_monitors.specs.Monitors.{written_place, monitor_met, IsObject, IsMonitorRun}
-use Rattle.run_monitors.specs.Laws.{MonitorsAreHeld, ThreadsHold, MonitorsOfThreadsAreHeld}
-use Rattle.run_monitors.proofs.ListLemmas.{false_or, depth_fits, level_fits}
-use Rattle.run_monitors.proofs.MarkLemmas.{section_is, word_some, section_of_zero}
-use Rattle.run_monitors.proofs.KeptLemmas.{KeptOf, top_all, rest_any, waits_usual, LoadSays}
-use Rattle.run_monitors.proofs.ChangeLemmas.{Given, Ground}
-use Rattle.run_monitors.proofs.RowLemmas as rows
-use Rattle.run_monitors.proofs.MarkRows as marks
-use Rattle.run_monitors.proofs.DeedLemmas.{set_elsewhere, MonitorDeed, does}
-use Rattle.run_monitors.proofs.WordLemmas.{beside_stays, word_stays, held_before, says_after, free_after}
-use Rattle.run_monitors.proofs.ThreadLemmas.{contrary, own_parts, holds_of, counted_holds, counted_deed, begins_holding, quiet_calm, quiet_rest, object_stays, object_came}
+use Rattle.level_marks.proofs.RowLemmas.{all_count}
+use Rattle.level_marks.proofs.RunLemmas.{undone_levels_have_marks}
+use Rattle.run_monitors.specs.Held.{top_at, AtRest, WaitsHold, MarksHold, Holds, MarkHolds}
+use Rattle.run_monitors.specs.Monitors.{IsMonitorRun}
+use Rattle.run_monitors.specs.Laws.{MonitorsAreHeld, ThreadsHold, MonitorsOfThreadsAreHeld, UndoingsFit, UndoneMonitorsAreAsBefore}
+use Rattle.run_monitors.proofs.MarkLemmas.{mark_first, mark_there}
+use Rattle.run_monitors.proofs.UndoLemmas.{held_fits, undone_held}
+use Rattle.run_monitors.proofs.KeptLemmas.{top_all, rest_any, waits_usual}
+use Rattle.run_monitors.proofs.WordLemmas.{beside_stays}
+use Rattle.run_monitors.proofs.ThreadLemmas.{contrary, begins_holding, quiet_calm, quiet_rest}
 use Rattle.run_monitors.proofs.DidLemmas.{So, did_so}
 
 module _ {S : Type 0} (code : Code S) (b : Bounds) (first : S) (classes : ℕ) (c : ℕ → Core S) (acts : List Act) (run : IsMonitorRun code b first classes c acts) where
@@ -193,3 +163,52 @@ threads_hold code b first classes c acts run k t th within at = (so_at code b fi
 
 pub monitors_are_held : {S : Type 0} (code : Code S) → MonitorsOfThreadsAreHeld code
 monitors_are_held code b first classes c acts run k within = (so_at code b first classes c acts run k within).1
+
+-- ---- undoing
+
+abbrev step_in : Step → Move → Step
+step_in step (Make other) = other
+step_in step move = step
+
+pub undoings_fit : {S : Type 0} (code : Code S) → UndoingsFit code
+undoings_fit code b first classes c acts run k t w th within at undoing =
+    let so = so_at code b first classes c acts run k within in
+    let h = so.0 t th at in
+    let kept = (facts_at code b c acts (ran code b first classes c acts run) k within).fit t th at in (
+      held_fits (revoke_of w) (mark_of th (revoke_of w)) th.held h.once kept.kept.in_levels
+          (mark_first (inside th (revoke_of w)) (revoke_of w) th.marks th.held (subst (λ g. MarksHold (top_at g th.levels) (counting_marks g th.levels th.marks) th.held) undoing h.marks)),
+      below th.section b.limits.sections h.within run.numbers,
+    )
+  where
+    below : (s l : ℕ) → s ≤ l → l < 2 ^ 32 → s < 2 ^ 32
+    below s l low high = omega (arith, low, high)
+
+pub undone_monitors_are_as_before : {S : Type 0} (code : Code S) → UndoneMonitorsAreAsBefore code
+undone_monitors_are_as_before {S} code b first classes c acts run k t s w seen th here at undoing =
+    undone_held th.section seen (revoke_of seen) (mark_of th (revoke_of seen)) th.held (noted_since (mark_of th (revoke_of seen)).noted th.log) s w h.once named none makes
+  where
+    within : k < length acts
+    within = slice_get_within acts k (did t (MarkUndone s w) StepAnswer.Done) here
+
+    low : k ≤ length acts
+    low = omega (arith, within)
+
+    h : Holds b (code.next th.local) th
+    h = (so_at code b first classes c acts run k low).0 t th at
+
+    act : DidAt code b c k t (MarkUndone s w) StepAnswer.Done
+    act = act_at code b c acts k (did t (MarkUndone s w) StepAnswer.Done) (ran code b first classes c acts run).leads here
+
+    same : act.from ≡ th
+    same = same_Some act.from th (sym act.stands ∙ at)
+
+    makes : undo_next th seen (revoke_of seen) ≡ MarkUndone s w
+    makes = ap (step_in (MarkUndone s w)) (sym (ap (λ g. move_of code th (code.next th.local) g) undoing)
+        ∙ makes_it th.over (nat_le b.limits.turns th.counted) _ (MarkUndone s w) (subst (λ x. next_move code b x ≡ Make (MarkUndone s w)) same act.move))
+
+    none : from_level (revoke_of seen) th.held ≡ []
+    none = last_step th.section seen s w (noted_since (mark_of th (revoke_of seen)).noted th.log) (deepened_since (mark_of th (revoke_of seen)) th.held) (from_level (revoke_of seen) th.held) makes
+
+    named : MarkHolds (revoke_of seen) (mark_of th (revoke_of seen)) th.held
+    named = mark_there (inside th (revoke_of seen)) (revoke_of seen) th.marks th.held (undone_levels_have_marks code b first classes c acts run.levelled.ordered k t seen th low at undoing)
+        (subst (λ g. MarksHold (top_at g th.levels) (counting_marks g th.levels th.marks) th.held) undoing h.marks)

@@ -1,13 +1,17 @@
 -- The laws of monitors along a run.
-use Rattle.std.specs.Prelude.{◌≡◌, ◌≢◌, ◌≤◌, ◌+◌, ℕ, true, Some, List, length}
+use Rattle.std.specs.Prelude.{◌≡◌, ◌≢◌, ◌<◌, ◌≤◌, ◌+◌, ◌^◌, ℕ, true, Some, List, length, slice_get}
 use Rattle.op_core.specs.ThreadCode.{Code}
 use Rattle.heap_words.specs.declared.areas.Area.TheVariants as area
+use Rattle.section_state.specs.SectionWord.{revoke_of}
+use Rattle.step_port.specs.declared.answer.StepAnswer.TheVariants.{Done}
+use Rattle.step_port.specs.declared.step.Step.TheVariants.{MarkUndone}
 use Rattle.thread_automaton.specs.declared.Bounds.{Bounds}
-use Rattle.thread_automaton.specs.ThreadState.{ThreadState, held_as}
+use Rattle.thread_automaton.specs.declared.Attempt.TheVariants.{Undoing}
+use Rattle.thread_automaton.specs.ThreadState.{ThreadState, held_as, mark_of}
 use Rattle.thread_automaton.specs.NextMove.{held_word}
-use Rattle.automaton_rows.specs.Undoing.{is_held}
 use Rattle.core_runs.specs.Cores.{Core}
-use Rattle.core_runs.specs.Acts.{Act}
+use Rattle.core_runs.specs.Acts.{Act, did}
+use Rattle.automaton_rows.specs.Undoing.{is_held, HeldFits}
 use Rattle.run_monitors.specs.Held.{Holds}
 use Rattle.run_monitors.specs.Monitors.{IsObject, IsMonitorRun}
 
@@ -29,3 +33,16 @@ pub record MonitorsAreHeld {S : Type 0} (c : Core S) : Type 0 where
 abbrev pub MonitorsOfThreadsAreHeld : {S : Type 0} → Code S → Type 0
 MonitorsOfThreadsAreHeld {S} code = (b : Bounds) (first : S) (classes : ℕ) (c : ℕ → Core S) (acts : List Act) → IsMonitorRun code b first classes c acts
     → (k : ℕ) → k ≤ length acts → MonitorsAreHeld (c k)
+
+-- A thread that undoes its section to a level holds what the level's mark names, as undoing asks for it: so undoing goes
+-- through, as it says there.
+abbrev pub UndoingsFit : {S : Type 0} → Code S → Type 0
+UndoingsFit {S} code = (b : Bounds) (first : S) (classes : ℕ) (c : ℕ → Core S) (acts : List Act) → IsMonitorRun code b first classes c acts
+    → (k t w : ℕ) (th : ThreadState S) → k ≤ length acts → (c k).threads t ≡ Some th → th.attempt ≡ Undoing w
+    → HeldFits (mark_of th (revoke_of w)) (revoke_of w) th.held × (th.section < 2 ^ 32)
+
+-- As it notes the level undone it holds exactly the monitors that the mark names, in their order, each as often as then.
+abbrev pub UndoneMonitorsAreAsBefore : {S : Type 0} → Code S → Type 0
+UndoneMonitorsAreAsBefore {S} code = (b : Bounds) (first : S) (classes : ℕ) (c : ℕ → Core S) (acts : List Act) → IsMonitorRun code b first classes c acts
+    → (k t s w seen : ℕ) (th : ThreadState S) → slice_get acts k ≡ Some (did t (MarkUndone s w) Done) → (c k).threads t ≡ Some th → th.attempt ≡ Undoing seen
+    → th.held ≡ (mark_of th (revoke_of seen)).held

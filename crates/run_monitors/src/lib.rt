@@ -4,7 +4,7 @@
 //! Each function does nothing: its contract is the law.
 #![tactic(auto)]
 
-ghost use Rattle.run_monitors.specs.Laws.{ThreadsHold, MonitorsOfThreadsAreHeld};
+ghost use Rattle.run_monitors.specs.Laws.{ThreadsHold, MonitorsOfThreadsAreHeld, UndoingsFit, UndoneMonitorsAreAsBefore};
 
 use op_core::ThreadCode;
 
@@ -16,4 +16,14 @@ pub fn threads_hold<C: ThreadCode>()
 /// The words of monitors say which thread holds which monitor.
 pub fn monitors_are_held<C: ThreadCode>()
     ensures { MonitorsOfThreadsAreHeld C.code }
+{}
+
+/// A thread that undoes its section to a level holds what the level's mark names, so that undoing goes through.
+pub fn undoings_fit<C: ThreadCode>()
+    ensures { UndoingsFit C.code }
+{}
+
+/// As a thread notes a level undone it holds exactly the monitors that it held as the level opened, each as often.
+pub fn undone_monitors_are_as_before<C: ThreadCode>()
+    ensures { UndoneMonitorsAreAsBefore C.code }
 {}
