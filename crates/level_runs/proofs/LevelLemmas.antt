@@ -96,7 +96,7 @@ nth_least (suc j) k p q (x ∷ levels) falls is first = elim first [
     low : (p q x : ℕ) → p ≡ x → q < x → q ≤ p
     low p q x is lower = omega (arith, is, lower)
 
-has_nth : (j : ℕ) (levels : List ℕ) → j < length levels → (p : ℕ) × (slice_get levels j ≡ Some p)
+pub has_nth : (j : ℕ) (levels : List ℕ) → j < length levels → (p : ℕ) × (slice_get levels j ≡ Some p)
 has_nth j [] low = absurd (no j low)
   where
     no : (j : ℕ) → j < 0 → ⊥
@@ -181,7 +181,7 @@ module _ (levels : ℕ → List ℕ) (revoked : ℕ → Option ℕ) (act : ℕ �
     pub stays : levels k ≡ levels place
     pub level : (0 < n) × (n ≤ length (levels place))
 
-  revoked_before : (k n : ℕ) → revoked k ≡ Some n → RevokedBefore k n
+  pub revoked_before : (k n : ℕ) → revoked k ≡ Some n → RevokedBefore k n
   revoked_before zero n is = cc_none (sym is_run.1 ∙ is)
     where
       cc_none : None ≡ Some n → RevokedBefore 0 n

@@ -19,7 +19,7 @@ use Rattle.run_monitors.proofs.MarkLemmas.{AreStillHeld, first_site, still_held_
 -- ---- none is held twice
 
 -- lists with the same sites hold the same monitors
-held_sites : (r : ℕ) (xs ys : List Held) → sites xs ≡ sites ys → is_held r xs ≡ is_held r ys
+pub held_sites : (r : ℕ) (xs ys : List Held) → sites xs ≡ sites ys → is_held r xs ≡ is_held r ys
 held_sites r [] [] same = refl
 held_sites r [] (y ∷ ys) same = cc
 held_sites r (x ∷ xs) [] same = cc
@@ -34,7 +34,7 @@ once_sites (x ∷ xs) (y ∷ ys) same once =
     let parts = first_site (x.object, x.level) (y.object, y.level) (sites xs) (sites ys) same in
     (held_sites x.object xs ys parts.1 ∙ ap (λ n. is_held n ys) (ap (λ (p : ℕ × ℕ). p.0) parts.0) ∙ once.0, once_sites xs ys parts.1 once.1)
 
-none_further : (n r : ℕ) (held : List Held) → is_held r held ≡ false → is_held r (further_out n held) ≡ false
+pub none_further : (n r : ℕ) (held : List Held) → is_held r held ≡ false → is_held r (further_out n held) ≡ false
 none_further n r [] none = refl
 none_further n r (h ∷ held) none = by_test (nat_lt h.level n) (neither (nat_eq h.object r) (is_held r held) none) (none_further n r held)
   where

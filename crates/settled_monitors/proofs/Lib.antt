@@ -1,0 +1,5 @@
+pub mod DoomedLemmas
+pub mod TurnLemmas
+pub mod TurnRows
+pub mod SettleLemmas
+pub mod StepLemmas
