@@ -24,7 +24,7 @@ use Rattle.settled_lists.specs.Settled.{count_more, to_undo}
 use Rattle.settled_lists.specs.SettledMonitors.{is_held, depth_back, SettledMonitors}
 use Rattle.settled_lists.proofs.PartLemmas.{less_to_undo}
 use Rattle.settled_lists.proofs.MonitorLemmas.{opened_depth, closed_depth}
-use Rattle.run_monitors.proofs.ListLemmas.{as_first, as_later}
+use Rattle.run_monitors.proofs.ListLemmas.{held_first, as_first, as_later}
 use Rattle.settled_monitors.specs.SettledRuns.{monitors_by}
 use Rattle.settled_monitors.proofs.SettleLemmas.{same_is_held, stays, takes, sets, releases}
 use Rattle.settled_monitors.proofs.TurnLemmas.{Unseen, Sees, Leaves, of_level, of_pinned, of_last, of_undoing, MonitorTurn, calm, opens_one, closes_some, is_undone_to, takes_one, sets_one, leaves_one, makes_one}
@@ -190,3 +190,183 @@ module _ {S : Type 0} {doomed : ℕ → Bool} {k t : ℕ} {next : Next} {x : Thr
         where
           no : (n j : ℕ) → j < n → n - j ≡ 0 → ⊥
           no n j low none = omega (arith, low, none)
+
+  -- once exactly the levels are undone that are to be
+  back_undone : (w s v : ℕ) → x.attempt ≡ Undoing w → step ≡ MarkUndone s v → behind ≡ x.held → levels_then ≡ outermost (revoke_of w - 1) levels
+      → (marks ≡ drop (suc (x.levels - revoke_of w)) x.marks) ⊎ (open_then ≡ false) → (q : ℕ) → back' t q ≡ back t q
+  back_undone w s v undoing is same less which q = by_order (nat_lt (length levels - (revoke_of w - 1)) count) refl
+    where
+      level : (0 < revoke_of w) × (revoke_of w ≤ length levels) × (suc (length levels) ≤ revoke_of w + count)
+      level = a.undoing w undoing
+
+      one_more : (l n x : ℕ) → 0 < n → n ≤ l → l ≡ x → suc (x - n) ≡ l - (n - 1)
+      one_more l n x some low is = omega (arith, some, low, is)
+
+      same_marks_of : (marks ≡ drop (suc (x.levels - revoke_of w)) x.marks) ⊎ (open_then ≡ false) → (marks ≡ drop (length levels - (revoke_of w - 1)) x.marks) ⊎ (open_then ≡ false)
+      same_marks_of which = elim which [ inl is ↦ inl (is ∙ ap (λ n. drop n x.marks) (one_more (length levels) (revoke_of w) x.levels level.0 level.1 a.counted)) | inr shut ↦ inr shut ]
+
+      less_so : (m n : ℕ) → nat_lt m n ≡ true → m < n
+      less_so m n is = grind (arith, common_steps, nat_tests)
+
+      not_less : (m n : ℕ) → nat_lt m n ≡ false → n ≤ m
+      not_less m n is = grind (arith, common_steps, nat_tests)
+
+      exact : (l n c : ℕ) → 0 < n → n ≤ l → suc l ≤ n + c → c ≤ l - (n - 1) → c ≡ suc (l - n)
+      exact l n c some low deep few = omega (arith, some, low, deep, few)
+
+      none_left : (l n c : ℕ) → 0 < n → n ≤ l → c ≡ suc (l - n) → c - (l - (n - 1)) ≡ 0
+      none_left l n c some low is = omega (arith, some, low, is)
+
+      by_order : (test : Bool) → nat_lt (length levels - (revoke_of w - 1)) count ≡ test → back' t q ≡ back t q
+      by_order true deeper = back_closed (length levels - (revoke_of w - 1)) same less (same_marks_of which) (inr (less_so (length levels - (revoke_of w - 1)) count deeper)) q
+      by_order false all =
+          let counts = exact (length levels) (revoke_of w) count level.0 level.1 level.2 (not_less (length levels - (revoke_of w - 1)) count all) in
+          by_parts 0 x.held (ap (to_undo doomed) less ∙ less_to_undo doomed (length levels - (revoke_of w - 1)) levels ∙ none_left (length levels) (revoke_of w) count level.0 level.1 counts) same q
+          ∙ ap (λ xs. (held_as q xs).depth) (a.undone_as w s v undoing is)
+          ∙ ap (λ n. (held_as q (nth_or no_mark (n - revoke_of w) x.marks).held).depth) (sym a.counted)
+          ∙ sym (ap (λ n. depth_back n x.marks x.held q) counts) ∙ sym (a.back_before q)
+
+  -- while nothing else changes
+  back_none : count ≡ 0 → levels_then ≡ levels → (q : ℕ) → back' t q ≡ (held_as q behind).depth
+  back_none none same q = by_parts 0 behind (ap (to_undo doomed) same ∙ none) refl q
+
+  back_some : (n : ℕ) → count ≡ suc n → levels_then ≡ levels → marks ≡ x.marks → (q : ℕ) → back' t q ≡ (held_as q (nth_or no_mark n x.marks).held).depth
+  back_some n is same same_marks q = by_parts (suc n) behind (ap (to_undo doomed) same ∙ is) refl q ∙ ap (λ ms. (held_as q (nth_or no_mark n ms).held).depth) same_marks
+
+  was_none : count ≡ 0 → (q : ℕ) → back t q ≡ (held_as q x.held).depth
+  was_none none q = a.back_before q ∙ ap (λ n. depth_back n x.marks x.held q) none
+
+  was_some : (n : ℕ) → count ≡ suc n → (q : ℕ) → back t q ≡ (held_as q (nth_or no_mark n x.marks).held).depth
+  was_some n is q = a.back_before q ∙ ap (λ m. depth_back m x.marks x.held q) is
+
+  -- a section isn't undone where nothing is to be
+  no_undoing : {P : Type 0} (w : ℕ) → x.attempt ≡ Undoing w → count ≡ 0 → P
+  no_undoing w undoing none = let level = a.undoing w undoing in absurd (no (length levels) (revoke_of w) count level.1 level.2 none)
+    where
+      no : (l n c : ℕ) → n ≤ l → suc l ≤ n + c → c ≡ 0 → ⊥
+      no l n c low deep none = omega (arith, low, deep, none)
+
+  -- ---- a monitor is taken
+
+  settle_taken : (h : Held) → rows.is_held h.object x.held ≡ false → behind ≡ h ∷ x.held → levels_then ≡ levels → marks ≡ x.marks → Sees t told next x.depth h.object free (owned_by t h.depth)
+      → SettledMonitors settled' held' back'
+  settle_taken h none after same_levels same_marks sees =
+      takes settled settled' held held' back back' facts t a.others_held a.others_back h (a.held_after ∙ after ∙ ap (λ xs. h ∷ xs) (sym a.held_before)) nobody
+      (λ q other. by_settled q other whether) (λ q other. by_back q other whether) (by_now whether)
+    where
+      none_of : is_held h.object (held t) ≡ false
+      none_of = ap (is_held h.object) a.held_before ∙ sym (same_is_held h.object x.held) ∙ none
+
+      has_now : rows.is_held h.object behind ≡ true
+      has_now = ap (rows.is_held h.object) after ∙ held_first h x.held
+
+      nobody : (u : ℕ) → is_held h.object (held u) ≡ false
+      nobody u = elim (same_or_other u t) [ inl own ↦ ap (λ n. is_held h.object (held n)) own ∙ none_of | inr other ↦ a.nobody h.object has_now none u other ]
+
+      was_free : settled h.object ≡ free
+      was_free = facts.is_free h.object nobody
+
+      by_settled : (q : ℕ) → q ≢ h.object → Whether → settled' q ≡ settled q
+      by_settled q other (some_to n is) = kept_settled (above_zero n is) q
+      by_settled q other (none_to is) = seen_one is h.object free (owned_by t h.depth) sees was_free q ∙ set_at-other settled h.object (owned_by t h.depth) q other
+
+      by_back : (q : ℕ) → q ≢ h.object → Whether → back' t q ≡ back t q
+      by_back q other (some_to n is) = back_some n is same_levels same_marks q ∙ sym (was_some n is q)
+      by_back q other (none_to is) = back_none is same_levels q ∙ ap (λ xs. (held_as q xs).depth) after ∙ ap (λ (z : Held). z.depth) (as_later h x.held q other) ∙ sym (was_none is q)
+
+      by_now : Whether → settled' h.object ≡ owned_by t (back' t h.object)
+      by_now (some_to n is) = kept_settled (above_zero n is) h.object ∙ was_free ∙ ap (owned_by t) (sym (back_some n is same_levels same_marks h.object ∙ a.unmarked n h.object is (inl none)))
+      by_now (none_to is) = seen_one is h.object free (owned_by t h.depth) sees was_free h.object ∙ set_at-hit settled h.object (owned_by t h.depth)
+          ∙ ap (owned_by t) (sym (back_none is same_levels h.object ∙ ap (λ xs. (held_as h.object xs).depth) after ∙ ap (λ (z : Held). z.depth) (as_first h x.held)))
+
+  -- ---- it gets another depth
+
+  settle_set : (r d : ℕ) → rows.is_held r x.held ≡ true → behind ≡ with_depth_of r d x.held → levels_then ≡ levels → marks ≡ x.marks
+      → Sees t told next x.depth r (owned_by t (held_as r x.held).depth) (owned_by t d) ⊎ ((w : ℕ) × (x.attempt ≡ Undoing w) × Unseen t told next) → SettledMonitors settled' held' back'
+  settle_set r d has after same_levels same_marks how =
+      sets settled settled' held held' back back' facts t a.others_held a.others_back r d (a.held_after ∙ after ∙ ap (with_depth_of r d) (sym a.held_before)) (held_own r has)
+      (λ q other. by_settled q other whether how) (λ q other. by_back q other whether) (by_now whether how)
+    where
+      by_settled : (q : ℕ) → q ≢ r → Whether → Sees t told next x.depth r (owned_by t (held_as r x.held).depth) (owned_by t d) ⊎ ((w : ℕ) × (x.attempt ≡ Undoing w) × Unseen t told next) → settled' q ≡ settled q
+      by_settled q other (some_to n is) how = kept_settled (above_zero n is) q
+      by_settled q other (none_to is) (inl sees) = seen_one is r (owned_by t (held_as r x.held).depth) (owned_by t d) sees (owned_now is r has) q ∙ set_at-other settled r (owned_by t d) q other
+      by_settled q other (none_to is) (inr undo) = no_undoing undo.0 undo.1 is
+
+      by_back : (q : ℕ) → q ≢ r → Whether → back' t q ≡ back t q
+      by_back q other (some_to n is) = back_some n is same_levels same_marks q ∙ sym (was_some n is q)
+      by_back q other (none_to is) = back_none is same_levels q ∙ ap (λ xs. (held_as q xs).depth) after ∙ other_depth r q d x.held other ∙ sym (was_none is q)
+
+      by_now : Whether → Sees t told next x.depth r (owned_by t (held_as r x.held).depth) (owned_by t d) ⊎ ((w : ℕ) × (x.attempt ≡ Undoing w) × Unseen t told next) → settled' r ≡ owned_by t (back' t r)
+      by_now (some_to n is) how = kept_settled (above_zero n is) r ∙ owned r has ∙ ap (λ m. owned_by t (depth_back m x.marks x.held r)) is ∙ ap (owned_by t) (sym (back_some n is same_levels same_marks r))
+      by_now (none_to is) (inl sees) = seen_one is r (owned_by t (held_as r x.held).depth) (owned_by t d) sees (owned_now is r has) r ∙ set_at-hit settled r (owned_by t d)
+          ∙ ap (owned_by t) (sym (back_none is same_levels r ∙ ap (λ xs. (held_as r xs).depth) after ∙ depth_then r d x.held has))
+      by_now (none_to is) (inr undo) = no_undoing undo.0 undo.1 is
+
+  -- ---- it is left
+
+  -- others see that it is free then
+  left_free : (r : ℕ) → rows.is_held r x.held ≡ true → count ≡ 0 → Leaves t next x told r → (q : ℕ) → settled' q ≡ set_at settled r free q
+  left_free r has none (of_level high sees) q = seen_one none r (owned_by t (held_as r x.held).depth) free sees (owned_now none r has) q
+  left_free r has none (of_pinned shut sees) q = seen_one none r (owned_by t (held_as r x.held).depth) free sees (owned_now none r has) q
+  left_free r has none (of_last at exit alone sees) q = seen_one none r (owned_by t (held_as r x.held).depth) free sees (owned_now none r has) q
+  left_free r has none (of_undoing w undoing deep unseen) q = no_undoing w undoing none
+
+  -- or it is none that will be held once all is undone
+  left_deep : (n r : ℕ) → count ≡ suc n → Leaves t next x told r → suc (length levels) ≤ (held_as r x.held).level + suc n
+  left_deep n r is (of_level high sees) = deep (length levels) x.levels (held_as r x.held).level n a.counted high
+    where
+      deep : (l x h n : ℕ) → l ≡ x → x < h → suc l ≤ h + suc n
+      deep l x h n is high = omega (arith, is, high)
+  left_deep n r is (of_pinned shut sees) = contrary (sym (a.open_before (above_zero n is)) ∙ shut)
+  left_deep n r is (of_last at exit alone sees) = absurd (a.stands r (above_zero n is) at exit alone)
+  left_deep n r is (of_undoing w undoing deep unseen) = within (length levels) (revoke_of w) (held_as r x.held).level count n (a.undoing w undoing).2 is deep
+    where
+      within : (l v h c n : ℕ) → suc l ≤ v + c → c ≡ suc n → v ≤ h → suc l ≤ h + suc n
+      within l v h c n counts is deep = omega (arith, counts, is, deep)
+
+  settle_left : (r : ℕ) → rows.is_held r x.held ≡ true → behind ≡ without r x.held
+      → ((levels_then ≡ levels) × (marks ≡ x.marks)) ⊎ ((levels_then ≡ []) × (x.attempt ≡ Fixed (Release r)) × (next ≡ Want (Exit r)) × (without r x.held ≡ [])) → Leaves t next x told r
+      → SettledMonitors settled' held' back'
+  settle_left r has after which why =
+      releases settled settled' held held' back back' facts t a.others_held a.others_back r (a.held_after ∙ after ∙ ap (without r) (sym a.held_before)) (held_own r has)
+      (λ q other. by_settled q other whether) (λ q other. by_back q other whether which) (by_now whether)
+    where
+      by_settled : (q : ℕ) → q ≢ r → Whether → settled' q ≡ settled q
+      by_settled q other (some_to n is) = kept_settled (above_zero n is) q
+      by_settled q other (none_to is) = left_free r has is why q ∙ set_at-other settled r free q other
+
+      by_back : (q : ℕ) → q ≢ r → Whether → ((levels_then ≡ levels) × (marks ≡ x.marks)) ⊎ ((levels_then ≡ []) × (x.attempt ≡ Fixed (Release r)) × (next ≡ Want (Exit r)) × (without r x.held ≡ []))
+          → back' t q ≡ back t q
+      by_back q other (some_to n is) (inl same) = back_some n is same.0 same.1 q ∙ sym (was_some n is q)
+      by_back q other (none_to is) (inl same) = back_none is same.0 q ∙ ap (λ xs. (held_as q xs).depth) after ∙ ap (λ (z : Held). z.depth) (still_as r q x.held other) ∙ sym (was_none is q)
+      by_back q other (some_to n is) (inr last) = absurd (a.stands r (above_zero n is) last.1 last.2 last.3)
+      by_back q other (none_to is) (inr last) = by_parts 0 behind (ap (to_undo doomed) last.0) refl q ∙ ap (λ xs. (held_as q xs).depth) after ∙ ap (λ (z : Held). z.depth) (still_as r q x.held other) ∙ sym (was_none is q)
+
+      by_now : Whether → settled' r ≡ free
+      by_now (some_to n is) = kept_settled (above_zero n is) r ∙ owned r has ∙ ap (λ m. owned_by t (depth_back m x.marks x.held r)) is ∙ ap (owned_by t) (a.unmarked n r is (inr (has, left_deep n r is why)))
+      by_now (none_to is) = left_free r has is why r ∙ set_at-hit settled r free
+
+  -- ---- all turns
+
+  pub turns : MonitorTurn k t next x behind marks open_then told levels levels_then step → SettledMonitors settled' held' back'
+  turns (calm same same_levels which unseen) = settle_calm same same_levels which (unseen_settled unseen)
+  turns (opens_one m named same more which unseen) = keeps_held same (unseen_settled unseen) (back_opened m named same more which)
+  turns (closes_some n same less which other unseen) = keeps_held same (unseen_settled unseen) (back_closed (length levels - n) same less (by_marks which) (a.closes (length levels - n) other less))
+    where
+      by_marks : (marks ≡ drop (x.levels - n) x.marks) ⊎ (open_then ≡ false) → (marks ≡ drop (length levels - n) x.marks) ⊎ (open_then ≡ false)
+      by_marks which = elim which [ inl is ↦ inl (is ∙ ap (λ l. drop (l - n) x.marks) (sym a.counted)) | inr shut ↦ inr shut ]
+  turns (is_undone_to w s v undoing is same less which unseen) = keeps_held same (unseen_settled unseen) (back_undone w s v undoing is same less which)
+  turns (takes_one h none after same_levels same_marks sees) = settle_taken h none after same_levels same_marks sees
+  turns (sets_one r d has after same_levels same_marks how) = settle_set r d has after same_levels same_marks how
+  turns (leaves_one r has after which why) = settle_left r has after which why
+  turns (makes_one r w is same same_levels same_marks sees) = settle_calm same same_levels (inl same_marks) (λ q. by_settled q whether)
+    where
+      was_free : settled r ≡ free
+      was_free = facts.is_free r (a.made r w is)
+
+      by_settled : (q : ℕ) → Whether → settled' q ≡ settled q
+      by_settled q (some_to n some) = kept_settled (above_zero n some) q
+      by_settled q (none_to none) = seen_settled none q ∙ ap (λ (f : ℕ → Monitor). f q) (sees x.depth settled) ∙ elim (same_or_other q r) [
+        | inl here ↦ ap (set_at settled r free) here ∙ set_at-hit settled r free ∙ sym was_free ∙ ap settled (sym here)
+        | inr other ↦ set_at-other settled r free q other
+      ]
