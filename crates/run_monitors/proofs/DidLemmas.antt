@@ -97,12 +97,12 @@ module _ {S : Type 0} (code : Code S) (b : Bounds) (first : S) (classes : ℕ) (
         by_test true none = contrary (sym has ∙ ap (is_held r) ((known.fit t th at).kept.held none))
         by_test false is = some th.section is
 
-    word_of_held : MonitorsAreHeld (c k) → (t r : ℕ) (th : ThreadState S) → (c k).threads t ≡ Some th → is_held r th.held ≡ true → (c k).words (area.Object (r + 1)) ≢ 0
+    pub word_of_held : MonitorsAreHeld (c k) → (t r : ℕ) (th : ThreadState S) → (c k).threads t ≡ Some th → is_held r th.held ≡ true → (c k).words (area.Object (r + 1)) ≢ 0
     word_of_held held t r th at has none =
         word_some th.section (held_as r th.held).depth (held_as r th.held).level (some_section t r th at has) (sym (held.says t r th at has) ∙ none)
 
     module _ (t : ℕ) (step : Step) (a : StepAnswer) (here : slice_get acts k ≡ Some (did t step a)) (at : DidAt code b c k t step a) (so : So k) where
-      abbrev y : ThreadState S
+      abbrev pub y : ThreadState S
       y = after_answer code b at.from step a
 
       fits : IsFit code at.from
@@ -111,10 +111,10 @@ module _ {S : Type 0} (code : Code S) (b : Bounds) (first : S) (classes : ℕ) (
       can : CanAnswer (effect_of step) a
       can = subst (CanAnswer (effect_of step)) (sym at.answered) (words_can_answer (c k).words step)
 
-      makes : move_of code at.from (code.next at.from.local) at.from.attempt ≡ Make step
+      pub makes : move_of code at.from (code.next at.from.local) at.from.attempt ≡ Make step
       makes = makes_it at.from.over (nat_le b.limits.turns at.from.counted) _ step at.move
 
-      ground : Ground code first classes at.from
+      pub ground : Ground code first classes at.from
       ground = record {
         orderly = run.levelled.ordered.orderly;
         stands = stands_at code first classes run.levelled.ordered.orderly b c acts run.levelled.ordered k here_at t at.from at.stands;
@@ -122,7 +122,7 @@ module _ {S : Type 0} (code : Code S) (b : Bounds) (first : S) (classes : ℕ) (
         small = small_number so.0 t at.from at.stands;
       }
 
-      row : Row code b at.from (code.next at.from.local) step a (change_of code b at.from (code.next at.from.local) step a)
+      pub row : Row code b at.from (code.next at.from.local) step a (change_of code b at.from (code.next at.from.local) step a)
       row = answers_are_rows code b at.from step a fits.attempt at.move can
 
       -- what the thread finds where it loads the word of a monitor
@@ -174,14 +174,14 @@ module _ {S : Type 0} (code : Code S) (b : Bounds) (first : S) (classes : ℕ) (
       deed = counted_deed at.from.section at.from.held step a (told code b at.from step a) (changed code at.from (change_of code b at.from (code.next at.from.local) step a))
           (does b ground row refl (so.0 t at.from at.stands) makes)
 
-      abbrev behind : Core S
+      abbrev pub behind : Core S
       behind = core_after code b k (c k) t at.from step a
 
       apart_of : (r : ℕ) → IsObject (c k) r → (p : ℕ) → written_place step ≡ Some p → p ≢ r + 1
       apart_of r object p is = run.apart.apart k t p r step a here is object
 
       -- who is handed out wasn't there
-      new : (n r p : ℕ) → step ≡ Split n r p → (c k).threads n ≡ None
+      pub new : (n r p : ℕ) → step ≡ Split n r p → (c k).threads n ≡ None
       new n r p is = threads_are_new code b c acts ran run.levelled.numbered k t n r p a (here ∙ ap (λ st. Some (did t st a)) is)
 
       -- each thread that is there then
@@ -212,7 +212,7 @@ module _ {S : Type 0} (code : Code S) (b : Bounds) (first : S) (classes : ℕ) (
           by_step made is there = came_there u uh there
 
       -- those that were there are there still
-      kept_there : (u : ℕ) (uh : ThreadState S) → u ≢ t → (c k).threads u ≡ Some uh → behind.threads u ≡ Some uh
+      pub kept_there : (u : ℕ) (uh : ThreadState S) → u ≢ t → (c k).threads u ≡ Some uh → behind.threads u ≡ Some uh
       kept_there u uh other there = by_step step refl
         where
           by_step : (made : Step) → step ≡ made → threads_by code made at.from.local (set_at (c k).threads t (Some y)) u ≡ Some uh
@@ -220,7 +220,7 @@ module _ {S : Type 0} (code : Code S) (b : Bounds) (first : S) (classes : ℕ) (
               (λ same. none_some uh (sym (new n r p is) ∙ ap (c k).threads (sym same) ∙ there)) ∙ set_at-other (c k).threads t (Some y) u other ∙ there
           by_step made is = set_at-other (c k).threads t (Some y) u other ∙ there
 
-      own_there : behind.threads t ≡ Some y
+      pub own_there : behind.threads t ≡ Some y
       own_there = by_step step refl
         where
           by_step : (made : Step) → step ≡ made → threads_by code made at.from.local (set_at (c k).threads t (Some y)) t ≡ Some y

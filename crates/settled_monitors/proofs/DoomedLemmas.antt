@@ -1,5 +1,5 @@
 -- Levels that are to be undone, at one place of a run.
-use Rattle.std.proofs.Common.{◌≡◌, ◌≢◌, ◌⊎◌, inl, inr, ℕ, zero, suc, ◌+◌, ◌-◌, ◌<◌, ◌≤◌, Bool, true, false, Option, None, Some, List, [], ◌∷◌, length, take, drop, nat_eq, refl, sym, ◌∙◌, ap, subst, arith}
+use Rattle.std.proofs.Common.{◌≡◌, ◌⊎◌, inl, inr, ℕ, zero, suc, ◌+◌, ◌-◌, ◌<◌, ◌≤◌, Bool, true, false, None, Some, List, [], ◌∷◌, length, take, drop, nat_eq, refl, sym, ◌∙◌, ap, subst, arith}
 use Rattle.std.specs.Prelude.{Contains, nat_lt, slice_get, if◌then◌else◌}
 use Rattle.std.proofs.lemmas.Grind.{common_steps}
 use Rattle.std.proofs.lemmas.Bool.Decides.{nat_tests}
@@ -17,18 +17,18 @@ use Rattle.automaton_rows.specs.Fits.{AttemptFits}
 use Rattle.core_runs.specs.Cores.{Core}
 use Rattle.core_runs.specs.Acts.{Act, did}
 use Rattle.core_runs.specs.Revoked.{IsDoomed, levels_from}
-use Rattle.level_runs.specs.LevelRun.{is_undone, In, IsLevel, GoesBackAt}
+use Rattle.level_runs.specs.LevelRun.{is_undone, In, IsLevel}
 use Rattle.level_runs.proofs.LevelLemmas.{has_nth, doomed_are_undone, RevokedBefore, revoked_before}
 use Rattle.settled_lists.specs.Settled.{count_more, to_undo}
 use Rattle.settled_lists.proofs.PartLemmas.{less_to_undo}
 use Rattle.section_laws.proofs.CoreRunLemmas.{behind_front}
 use Rattle.section_laws.proofs.DeedLemmas.{above}
 use Rattle.section_laws.proofs.RunLemmas.{facts_at}
-use Rattle.own_sections.proofs.ViewLemmas.{view, undone_word}
+use Rattle.own_sections.proofs.ViewLemmas.{undone_word}
 use Rattle.own_sections.proofs.MoveLemmas.{own_at}
 use Rattle.section_levels.specs.Levels.{IsLevelledRun, word_in, revoked_by, core_at, levels_in, revoked_in, RunsInLevels}
 use Rattle.section_levels.proofs.TurnLemmas.{turned}
-use Rattle.section_levels.proofs.RunLemmas.{is_run, counted_at}
+use Rattle.section_levels.proofs.RunLemmas.{counted_at}
 use Rattle.section_levels.proofs.LevelLemmas.{at_place, level_in, runs_in_levels, has_section, doomed_at, doomed_levels_are_unpinned}
 use Rattle.open_sections.specs.OpenSections.{IsLiveOrRevoking}
 use Rattle.open_sections.proofs.RunLemmas.{doomed_sections_stand}
@@ -187,6 +187,11 @@ module _ {S : Type 0} (code : Code S) (b : Bounds) (first : S) (classes : ℕ) (
 
         lower : (p w d n l v : ℕ) → p ≤ w → w < d → d + n ≡ suc l → 0 < n → l ≡ v → p < v
         lower p w d n l v seen deep count some same = omega (arith, seen, deep, count, some, same)
+
+    pub doomed_section : 0 < undone k t → 0 < th.section
+    doomed_section some =
+        let out = outermost_of doomed ((c k).levels t) some in
+        has_section code b first classes c acts run k t out.place th within at (level_in out.place out.level ((c k).levels t) out.is)
 
     -- and its section isn't committed
     pub doomed_stands : 0 < undone k t → IsLiveOrRevoking ((c k).words (Section th.section))

@@ -3,3 +3,5 @@ pub mod TurnLemmas
 pub mod TurnRows
 pub mod SettleLemmas
 pub mod StepLemmas
+pub mod MarkLemmas
+pub mod RunLemmas

@@ -1,5 +1,5 @@
 -- `SettledMonitors` with a step of one thread, while the others stay as they are.
-use Rattle.std.proofs.Common.{◌≡◌, ◌≢◌, inl, inr, ℕ, Bool, true, false, ◌||◌, List, [], ◌∷◌, nat_eq, refl, sym, ◌∙◌, ap, subst}
+use Rattle.std.proofs.Common.{◌≡◌, ◌≢◌, inl, inr, ℕ, true, false, ◌||◌, List, [], ◌∷◌, nat_eq, refl, sym, ◌∙◌, ap}
 use Rattle.op_core.specs.OrdinaryState.{set_at, Monitor, free}
 use Rattle.op_core.specs.InPlaceList.{owned_by}
 use Rattle.op_core.proofs.PointwiseLemmas.{same_or_other, set_at-hit, set_at-other}

@@ -1,10 +1,7 @@
 -- What each row makes of the monitors that a thread holds and of its levels.
-use Rattle.std.proofs.Common.{◌≡◌, ◌≢◌, ◌⊎◌, Some, inl, inr, ℕ, zero, suc, ◌+◌, ◌-◌, ◌^◌, ◌<◌, ◌≤◌, Bool, true, false, true≢false, length, drop, List, [], ◌∷◌, nat_eq, refl, sym, ◌∙◌, ap, subst, arith}
-use Rattle.std.specs.Prelude.{nat_le, if◌then◌else◌}
-use Rattle.std.proofs.lemmas.Grind.{common_steps}
-use Rattle.std.proofs.lemmas.Bool.Decides.{nat_tests}
+use Rattle.std.proofs.Common.{◌≡◌, Some, inl, inr, ℕ, suc, ◌-◌, ◌^◌, ◌<◌, length, List, [], refl, sym, ◌∙◌, ap, subst, arith}
 use Rattle.op_core.specs.Replies.{IsEntry}
-use Rattle.op_core.specs.declared.Op.TheVariants.{Enter, Exit, Wait, Rewake, New, Start, Init}
+use Rattle.op_core.specs.declared.Op.TheVariants.{Enter, Exit, Wait, Rewake, Start, Init}
 use Rattle.op_core.specs.declared.Op.{Op}
 use Rattle.op_core.specs.declared.Next.{Next}
 use Rattle.op_core.specs.declared.Next.TheVariants.{Want}
@@ -13,7 +10,7 @@ use Rattle.op_core.specs.ThreadCode.{Code}
 use Rattle.heap_words.specs.declared.areas.Area.{Area}
 use Rattle.heap_words.specs.declared.areas.Area.TheVariants.{Section}
 use Rattle.op_core.specs.declared.Reply.TheVariants.{NotOwner}
-use Rattle.op_core.specs.OrdinaryState.{set_at, Monitor, free, held, entered, exited}
+use Rattle.op_core.specs.OrdinaryState.{set_at, Monitor, free, entered, exited}
 use Rattle.op_core.specs.InPlaceList.{owned_by}
 use Rattle.section_state.specs.SectionWord.{pinned_of, revoke_of, undone_of}
 use Rattle.monitor_core.specs.Monitors.{monitor_depth}
@@ -21,37 +18,30 @@ use Rattle.step_port.specs.declared.answer.StepAnswer.{StepAnswer}
 use Rattle.step_port.specs.declared.answer.StepAnswer.TheVariants.{Found, Lost}
 use Rattle.step_port.specs.declared.step.ThreadWord.{ThreadWord}
 use Rattle.step_port.specs.declared.step.Step.{Step}
-use Rattle.step_port.specs.declared.step.Step.TheVariants.{SetHeader, LoadThread, LoadClass, CloseLevel, MarkUndone, TakeMonitor, LoadMonitor, SetDepth, Release}
-use Rattle.step_port.specs.Steps.{place_of, effect_of}
-use Rattle.step_port.specs.Words.{Words}
+use Rattle.step_port.specs.declared.step.Step.TheVariants.{LoadThread, LoadClass, CloseLevel, MarkUndone, SetDepth, Release}
+use Rattle.step_port.specs.Steps.{place_of}
 use Rattle.thread_automaton.specs.declared.Bounds.{Bounds}
-use Rattle.thread_automaton.specs.declared.Held.{Held}
 use Rattle.thread_automaton.specs.declared.Move.TheVariants.{Make}
-use Rattle.thread_automaton.specs.declared.Attempt.TheVariants.{Begin, Look, Checked, Fixed, Undoing}
-use Rattle.thread_automaton.specs.ThreadState.{ThreadState, Mark, own_word, is_open, is_own_section, mark_of, inside, noted_since, held_as, with_depth_of, from_level}
-use Rattle.thread_automaton.specs.NextMove.{held_word, own_pin, deepened_since, move_of}
-use Rattle.thread_automaton.specs.Changes.{Change, goes, takes, deepens, answered, forgotten, with_level, with_levels, without_level, stood_at, section_at, without, changed}
+use Rattle.thread_automaton.specs.declared.Attempt.TheVariants.{Begin, Look, Checked, Fixed}
+use Rattle.thread_automaton.specs.ThreadState.{ThreadState, is_open, is_own_section, mark_of, inside, noted_since, held_as, from_level}
+use Rattle.thread_automaton.specs.NextMove.{own_pin, deepened_since, move_of}
+use Rattle.thread_automaton.specs.Changes.{Change, goes, takes, deepens, answered, with_level, with_levels, without_level, stood_at, section_at, changed}
 use Rattle.thread_automaton.specs.Checks.{behind_pin, to_pin}
 use Rattle.thread_automaton.specs.Monitors.{monitor_wanted, entry, take_for}
 use Rattle.thread_automaton.specs.Answers.{lost_on}
-use Rattle.automaton_rows.specs.Fits.{InLevels}
 use Rattle.automaton_rows.specs.Rows.{Row, is_lost, exits_one, wait_begins, notify_begins, start_begins, is_unready, not_owner, object_made, NeedsOwner, own_stands, pins, sets_monitor_back, gives_monitor_back, is_undone, section_opened, level_opened, monitor_taken, entered_again, left_once, levels_closed, monitor_left, section_left, wait_made}
-use Rattle.thread_automaton.specs.Told.{Told, advanced, shown, told_of}
-use Rattle.automaton_rows.specs.Undoing.{is_held}
+use Rattle.thread_automaton.specs.Told.{advanced, shown, told_of}
 use Rattle.automaton_rows.proofs.RowLemmas.{by_if}
-use Rattle.automaton_rows.proofs.FitLemmas.{last_step}
-use Rattle.automaton_rows.proofs.UndoLemmas.{eq_no, depth_is}
+use Rattle.automaton_rows.proofs.UndoLemmas.{depth_is}
 use Rattle.level_marks.proofs.RowLemmas.{no_undoing}
-use Rattle.section_laws.proofs.WordLemmas.{stays_at}
-use Rattle.core_runs.specs.Cores.{outermost, levels_by}
+use Rattle.core_runs.specs.Cores.{levels_by}
 use Rattle.run_monitors.specs.Held.{top_at, MarksHold, TakesFor, SetsFor, StageHolds, Holds}
 use Rattle.run_monitors.proofs.ListLemmas.{is_not_less, depth_fits, level_fits}
 use Rattle.run_monitors.proofs.StageLemmas.{fixed_at, undoes_none}
 use Rattle.run_monitors.proofs.MarkLemmas.{SetsBack, sets_back_so, gives_back_so, mark_first}
 use Rattle.level_marks.specs.Marks.{counting_marks}
 use Rattle.run_monitors.proofs.ChangeLemmas.{Ground}
-use Rattle.settled_monitors.specs.SettledRuns.{monitors_by}
-use Rattle.settled_monitors.proofs.TurnLemmas.{owned_some, entered_owned, Unseen, Sees, Leaves, of_level, of_pinned, of_last, of_undoing, MonitorTurn, calm, opens_one, closes_some, is_undone_to, takes_one, sets_one, leaves_one, makes_one, forgets, pin_turns}
+use Rattle.settled_monitors.proofs.TurnLemmas.{owned_some, entered_owned, Unseen, of_level, of_pinned, of_last, of_undoing, MonitorTurn, calm, opens_one, closes_some, is_undone_to, takes_one, sets_one, leaves_one, makes_one, forgets, pin_turns}
 
 module _ {S : Type 0} {code : Code S} {first : S} {classes : ℕ} (b : Bounds) {th : ThreadState S} (ground : Ground code first classes th) (k t : ℕ) (levels : List ℕ) where
   abbrev Turns : Next → Step → StepAnswer → Change → Type 0

@@ -1,12 +1,10 @@
 -- What the events that are left have made of each monitor, along a run.
-use Rattle.std.specs.Prelude.{◌≡◌, ◌<◌, ◌≤◌, ℕ, suc, Bool, true, Option, None, Some, List, [], length, slice_get, nat_lt, if◌then◌else◌}
+use Rattle.std.specs.Prelude.{◌≡◌, ◌≤◌, ℕ, suc, Bool, true, Option, None, Some, List, [], length, slice_get, nat_lt, if◌then◌else◌}
 use Rattle.op_core.specs.declared.Next.{Next}
 use Rattle.op_core.specs.declared.Next.TheVariants.{Want}
 use Rattle.op_core.specs.ThreadCode.{Code}
 use Rattle.op_core.specs.OrdinaryState.{Monitor, free, waits}
 use Rattle.op_core.specs.OrdinaryStep.{monitors_after}
-use Rattle.step_port.specs.declared.answer.StepAnswer.{StepAnswer}
-use Rattle.step_port.specs.declared.step.Step.{Step}
 use Rattle.thread_automaton.specs.declared.Bounds.{Bounds}
 use Rattle.thread_automaton.specs.declared.Held.{Held}
 use Rattle.thread_automaton.specs.ThreadState.{ThreadState}
