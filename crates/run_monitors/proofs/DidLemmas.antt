@@ -80,14 +80,14 @@ module _ {S : Type 0} (code : Code S) (b : Bounds) (first : S) (classes : ℕ) (
     own_of : (t : ℕ) (th : ThreadState S) → (c k).threads t ≡ Some th → Own (view code th) (c k).words
     own_of t th at = own_at code b c acts ran run.levelled.ordered.in_bits k here_at t th at
 
-    small_number : HoldAt k → (t : ℕ) (th : ThreadState S) → (c k).threads t ≡ Some th → th.section < 2 ^ 32
+    pub small_number : HoldAt k → (t : ℕ) (th : ThreadState S) → (c k).threads t ≡ Some th → th.section < 2 ^ 32
     small_number holds t th at = below th.section b.limits.sections (holds t th at).within run.numbers
       where
         below : (s l : ℕ) → s ≤ l → l < 2 ^ 32 → s < 2 ^ 32
         below s l low high = omega (arith, low, high)
 
     -- a thread that holds a monitor has a section open
-    some_section : (t r : ℕ) (th : ThreadState S) → (c k).threads t ≡ Some th → is_held r th.held ≡ true → 0 < th.section
+    pub some_section : (t r : ℕ) (th : ThreadState S) → (c k).threads t ≡ Some th → is_held r th.held ≡ true → 0 < th.section
     some_section t r th at has = by_test (nat_eq th.section 0) refl
       where
         some : (n : ℕ) → nat_eq n 0 ≡ false → 0 < n
@@ -105,7 +105,7 @@ module _ {S : Type 0} (code : Code S) (b : Bounds) (first : S) (classes : ℕ) (
       abbrev pub y : ThreadState S
       y = after_answer code b at.from step a
 
-      fits : IsFit code at.from
+      pub fits : IsFit code at.from
       fits = known.fit t at.from at.stands
 
       can : CanAnswer (effect_of step) a
@@ -126,7 +126,7 @@ module _ {S : Type 0} (code : Code S) (b : Bounds) (first : S) (classes : ℕ) (
       row = answers_are_rows code b at.from step a fits.attempt at.move can
 
       -- what the thread finds where it loads the word of a monitor
-      loads : (r m : ℕ) → step ≡ LoadMonitor r → a ≡ Found m → LoadSays at.from.section at.from.held r m
+      pub loads : (r m : ℕ) → step ≡ LoadMonitor r → a ≡ Found m → LoadSays at.from.section at.from.held r m
       loads r m is found = record {
         own = λ has. word ∙ so.1.says t r at.from at.stands has;
         other = λ none. false_or (is_own m at.from.section) (λ own. by_holder none own (so.1.taken r object (λ zero_word. no_zero (word ∙ zero_word) own)));

@@ -124,3 +124,9 @@ module _ {S : Type 0} (code : Code S) (th : ThreadState S) where
     scan_holds r g n stage calm makes = subst (StageHolds section levels pinned held (Want (Op.Notify r)))
         (fixed_by IsScan (Want (Op.Notify r)) g (LoadWait n) (λ s none. none) (λ op same is. subst (λ o. IsScan (first_step code th o)) (sym (want_is (Op.Notify r) op same)) is)
         (λ is same. not_silent (Op.Notify r) same) calm tt makes) stage
+
+    pub wakes_holds : (r : ℕ) (g : Attempt) (n w : ℕ) → StageHolds section levels pinned held (Want (Op.Notify r)) g → (IsUndoing g → ⊥) → move_of code th (Want (Op.Notify r)) g ≡ Make (Step.Notify n w)
+        → GoesFor held (Want (Op.Notify r))
+    wakes_holds r g n w stage calm makes = subst (StageHolds section levels pinned held (Want (Op.Notify r)))
+        (fixed_by IsScan (Want (Op.Notify r)) g (Step.Notify n w) (λ s none. none) (λ op same is. subst (λ o. IsScan (first_step code th o)) (sym (want_is (Op.Notify r) op same)) is)
+        (λ is same. not_silent (Op.Notify r) same) calm tt makes) stage
