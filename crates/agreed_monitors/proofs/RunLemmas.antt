@@ -35,7 +35,7 @@ use Rattle.run_monitors.proofs.MarkLemmas.{section_is}
 use Rattle.run_monitors.proofs.KeptLemmas.{held_own}
 use Rattle.run_monitors.proofs.DidLemmas as did_monitors
 use Rattle.run_monitors.proofs.RunLemmas.{so_at}
-use Rattle.settled_monitors.specs.SettledRuns.{TellsDoomed, AreSettled, held_in, back_in}
+use Rattle.settled_monitors.specs.SettledRuns.{IsDoomedTest, AreSettled, held_in, back_in}
 use Rattle.settled_monitors.proofs.TurnLemmas.{owned_some}
 use Rattle.settled_monitors.proofs.SettleLemmas.{same_is_held}
 use Rattle.settled_monitors.proofs.RunLemmas.{monitors_settle}
@@ -62,7 +62,7 @@ zero_or_not (suc n) = inr (λ none. no n none)
     no n none = omega (arith, none)
 
 module _ {S : Type 0} (code : Code S) (b : Bounds) (first : S) (classes : ℕ) (c : ℕ → Core S) (acts : List Act) (run : IsMonitorRun code b first classes c acts) (doomed : ℕ → Bool)
-    (tells : TellsDoomed c acts doomed) (settled : ℕ → ℕ → Monitor) (are : AreSettled code b doomed c acts settled) (is_thread : ℕ → Bool) (k : ℕ) (within : k < length acts) where
+    (tells : IsDoomedTest c acts doomed) (settled : ℕ → ℕ → Monitor) (are : AreSettled code b doomed c acts settled) (is_thread : ℕ → Bool) (k : ℕ) (within : k < length acts) where
   low : k ≤ length acts
   low = omega (arith, within)
 

@@ -17,7 +17,7 @@ use Rattle.core_runs.specs.Acts.{Act, did}
 use Rattle.core_runs.specs.Reading.{ordinary}
 use Rattle.settled_lists.specs.Settled.{to_undo}
 use Rattle.run_monitors.specs.Monitors.{IsMonitorRun}
-use Rattle.settled_monitors.specs.SettledRuns.{TellsDoomed, AreSettled}
+use Rattle.settled_monitors.specs.SettledRuns.{IsDoomedTest, AreSettled}
 
 -- What thread t's operation on the monitor of r, with this reply, asks of it: it is the same in the ordinary state and as
 -- the events that are left have made it, or isn't the thread's there. This is `Agrees` of `op_core`, of monitors alone.
@@ -35,7 +35,7 @@ AgreesOnMonitors monitors settled t op reply = Unit {0}
 -- so it is of each operation that is answered while its thread has no level open that is to be undone
 abbrev pub MonitorsAgree : {S : Type 0} → Code S → Type 0
 MonitorsAgree {S} code = (b : Bounds) (first : S) (classes : ℕ) (c : ℕ → Core S) (acts : List Act) → IsMonitorRun code b first classes c acts
-    → (doomed : ℕ → Bool) → TellsDoomed c acts doomed → (settled : ℕ → ℕ → Monitor) → AreSettled code b doomed c acts settled → (is_thread : ℕ → Bool)
+    → (doomed : ℕ → Bool) → IsDoomedTest c acts doomed → (settled : ℕ → ℕ → Monitor) → AreSettled code b doomed c acts settled → (is_thread : ℕ → Bool)
     → (k t : ℕ) (step : Step) (answer : StepAnswer) (th : ThreadState S) (op : Op) (reply : Reply) → slice_get acts k ≡ Some (did t step answer) → (c k).threads t ≡ Some th
     → code.next th.local ≡ Want op → told code b th step answer ≡ advanced (Some reply) → to_undo doomed ((c k).levels t) ≡ 0
     → AgreesOnMonitors (ordinary code is_thread (c k)).monitors (settled k) t op reply

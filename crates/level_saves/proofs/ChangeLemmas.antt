@@ -21,7 +21,7 @@ use Rattle.thread_automaton.specs.Told.{Told, advanced, born, counted_for}
 use Rattle.automaton_rows.specs.Rows.{Row, is_lost, is_undone}
 use Rattle.automaton_rows.proofs.RowLemmas.{by_if}
 use Rattle.core_runs.specs.Cores.{Core, outermost, levels_by}
-use Rattle.level_saves.specs.Saves.{StoodSo, AreAsOpened}
+use Rattle.level_saves.specs.Saves.{WasAt, AreAsOpened}
 
 -- a section is undone to the level to which it is revoked
 pub undone_level : {S : Type 0} (code : Code S) (b : Bounds) (th : ThreadState S) {next : Next} {step : Step} {a : StepAnswer} {change : Change} → Row code b th next step a change
@@ -53,7 +53,7 @@ module _ {S : Type 0} (c : ℕ → Core S) (t : ℕ) where
   forgets y places each = by_if (λ z. Opened z places) (is_open y) y (record y { log = []; saved = []; marks = [] }) (λ open_so. each) (λ shut. tt)
 
   module _ (code : Code S) (k : ℕ) (th : ThreadState S) (at : (c k).threads t ≡ Some th) (levels : List ℕ) (counted : length levels ≡ th.levels) (each : AreAsOpened c t th.saved th.marks levels) where
-    here : StoodSo c t k th.local th.silents
+    here : WasAt c t k th.local th.silents
     here = record { th = th; stands = at; was = refl; moves = refl }
 
     -- the outermost n are left

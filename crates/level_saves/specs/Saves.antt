@@ -9,7 +9,7 @@ use Rattle.section_levels.specs.Levels.{IsLevelledRun}
 
 -- As the act of this number was made, thread t was at this local state, and had made this number of silent moves since its
 -- last event that others can see.
-pub record StoodSo {S : Type 0} (c : ℕ → Core S) (t place : ℕ) (local : S) (silents : ℕ) : Type 0 where
+pub record WasAt {S : Type 0} (c : ℕ → Core S) (t place : ℕ) (local : S) (silents : ℕ) : Type 0 where
   pub th : ThreadState S
   pub stands : (c place).threads t ≡ Some th
   pub was : th.local ≡ local
@@ -19,7 +19,7 @@ pub record StoodSo {S : Type 0} (c : ℕ → Core S) (t place : ℕ) (local : S)
 -- opened the levels. In each list the innermost comes first.
 abbrev pub AreAsOpened : {S : Type 0} → (ℕ → Core S) → ℕ → List S → List Mark → List ℕ → Type 0
 AreAsOpened c t [] marks places = Unit {0}
-AreAsOpened c t (l ∷ saved) (m ∷ marks) (p ∷ places) = StoodSo c t p l m.silents × AreAsOpened c t saved marks places
+AreAsOpened c t (l ∷ saved) (m ∷ marks) (p ∷ places) = WasAt c t p l m.silents × AreAsOpened c t saved marks places
 AreAsOpened c t (l ∷ saved) marks places = ⊥
 
 abbrev pub SavesAreAsOpened : {S : Type 0} → Code S → Type 0

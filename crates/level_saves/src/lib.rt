@@ -7,7 +7,7 @@ ghost use Rattle.level_saves.specs.Saves.{SavesAreAsOpened};
 
 use op_core::ThreadCode;
 
-/// Each save is the local state at which its thread stood as the level opened.
+/// Each save is the local state in which its thread was as the level opened.
 pub fn saves_are_as_opened<C: ThreadCode>()
     ensures { SavesAreAsOpened C.code }
 {}

@@ -33,7 +33,7 @@ use Rattle.section_levels.specs.Levels.{IsLevelledRun, word_in, revoked_by, core
 use Rattle.section_levels.proofs.RunLemmas.{Counted, counted_at, own_there, kept_there}
 use Rattle.section_levels.proofs.TurnLemmas.{unrevoked}
 use Rattle.section_levels.proofs.LevelLemmas.{at_place, runs_in_levels, has_section, doomed_at}
-use Rattle.open_sections.specs.OpenSections.{IsLiveOrRevoking, IsOpenBy, OpenSectionsHaveThreads, SaysOfRevoking, WordsSayOfRevoking, DoomedSectionsStand}
+use Rattle.open_sections.specs.OpenSections.{IsLiveOrRevoking, IsOpenBy, OpenSectionsHaveThreads, SaysOfRevoking, WordsSayOfRevoking, DoomedSectionsAreOpen}
 use Rattle.open_sections.proofs.WordLemmas.{move_says}
 use Rattle.open_sections.proofs.DeedLemmas.{touch_back, SectionGoes, section_goes}
 
@@ -345,8 +345,8 @@ module _ {S : Type 0} (code : Code S) (b : Bounds) (first : S) (classes : ℕ) (
 pub open_sections_have_threads : {S : Type 0} (code : Code S) → OpenSectionsHaveThreads code
 open_sections_have_threads code b first classes c acts run k s within open_so = open_by code b first classes c acts run k within s open_so
 
-pub doomed_sections_stand : {S : Type 0} (code : Code S) → DoomedSectionsStand code
-doomed_sections_stand code b first classes c acts run p k t th within at doomed there = stands_so code b first classes c acts run p k t th within at doomed there
+pub doomed_sections_are_open : {S : Type 0} (code : Code S) → DoomedSectionsAreOpen code
+doomed_sections_are_open code b first classes c acts run p k t th within at doomed there = stands_so code b first classes c acts run p k t th within at doomed there
 
 zero_says : SaysOfRevoking 0
 zero_says = record { revoked = λ turned. absurd (no (state_of 0) state_of_zero turned); unrevoked = λ differs. revoke_of_zero }

@@ -40,7 +40,7 @@ WordsSayOfRevoking {S} code = (b : Bounds) (c : ℕ → Core S) (acts : List Act
     → (k s : ℕ) → k ≤ length acts → SaysOfRevoking ((c k).words (Section s))
 
 -- what was opened at place p is open, and is revoked, then or later: until it is undone its section isn't committed
-abbrev pub DoomedSectionsStand : {S : Type 0} → Code S → Type 0
-DoomedSectionsStand {S} code = (b : Bounds) (first : S) (classes : ℕ) (c : ℕ → Core S) (acts : List Act) → IsLevelledRun code b first classes c acts
+abbrev pub DoomedSectionsAreOpen : {S : Type 0} → Code S → Type 0
+DoomedSectionsAreOpen {S} code = (b : Bounds) (first : S) (classes : ℕ) (c : ℕ → Core S) (acts : List Act) → IsLevelledRun code b first classes c acts
     → (p k t : ℕ) (th : ThreadState S) → k ≤ length acts → (c k).threads t ≡ Some th → IsDoomed c acts p → In p ((c k).levels t)
     → IsLiveOrRevoking ((c k).words (Section th.section))

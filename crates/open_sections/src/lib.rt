@@ -3,7 +3,7 @@
 //! Each function does nothing: its contract is the law.
 #![tactic(auto)]
 
-ghost use Rattle.open_sections.specs.OpenSections.{OpenSectionsHaveThreads, WordsSayOfRevoking, DoomedSectionsStand};
+ghost use Rattle.open_sections.specs.OpenSections.{OpenSectionsHaveThreads, WordsSayOfRevoking, DoomedSectionsAreOpen};
 
 use op_core::ThreadCode;
 
@@ -19,6 +19,6 @@ pub fn words_say_of_revoking<C: ThreadCode>()
 {}
 
 /// While a level is open that is revoked, then or later, its section isn't committed.
-pub fn doomed_sections_stand<C: ThreadCode>()
-    ensures { DoomedSectionsStand C.code }
+pub fn doomed_sections_are_open<C: ThreadCode>()
+    ensures { DoomedSectionsAreOpen C.code }
 {}

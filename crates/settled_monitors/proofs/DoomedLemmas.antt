@@ -31,8 +31,8 @@ use Rattle.section_levels.proofs.TurnLemmas.{turned}
 use Rattle.section_levels.proofs.RunLemmas.{counted_at}
 use Rattle.section_levels.proofs.LevelLemmas.{at_place, level_in, runs_in_levels, has_section, doomed_at, doomed_levels_are_unpinned}
 use Rattle.open_sections.specs.OpenSections.{IsLiveOrRevoking}
-use Rattle.open_sections.proofs.RunLemmas.{doomed_sections_stand}
-use Rattle.settled_monitors.specs.SettledRuns.{TellsDoomed}
+use Rattle.open_sections.proofs.RunLemmas.{doomed_sections_are_open}
+use Rattle.settled_monitors.specs.SettledRuns.{IsDoomedTest}
 
 -- ---- lists
 
@@ -166,7 +166,7 @@ step_of step act = step
 -- ---- at one place of a run
 
 module _ {S : Type 0} (code : Code S) (b : Bounds) (first : S) (classes : ℕ) (c : ℕ → Core S) (acts : List Act) (run : IsLevelledRun code b first classes c acts) (doomed : ℕ → Bool)
-    (tells : TellsDoomed c acts doomed) where
+    (tells : IsDoomedTest c acts doomed) where
   abbrev pub undone : ℕ → ℕ → ℕ
   undone k t = to_undo doomed ((c k).levels t)
 
@@ -197,7 +197,7 @@ module _ {S : Type 0} (code : Code S) (b : Bounds) (first : S) (classes : ℕ) (
     pub doomed_stands : 0 < undone k t → IsLiveOrRevoking ((c k).words (Section th.section))
     doomed_stands some =
         let out = outermost_of doomed ((c k).levels t) some in
-        doomed_sections_stand code b first classes c acts run out.place k t th within at ((tells out.place).0 out.so) (level_in out.place out.level ((c k).levels t) out.is)
+        doomed_sections_are_open code b first classes c acts run out.place k t th within at ((tells out.place).0 out.so) (level_in out.place out.level ((c k).levels t) out.is)
 
     -- while a section is undone to level n, all from level n on are to be undone
     pub undoing_counts : (w : ℕ) → th.attempt ≡ Undoing w → suc (length ((c k).levels t)) ≤ revoke_of w + undone k t

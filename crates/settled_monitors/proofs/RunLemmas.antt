@@ -38,7 +38,7 @@ use Rattle.run_monitors.specs.Held.{Holds}
 use Rattle.run_monitors.specs.Monitors.{IsMonitorRun}
 use Rattle.run_monitors.proofs.DidLemmas as did_monitors
 use Rattle.run_monitors.proofs.RunLemmas.{so_at, undone_monitors_are_as_before}
-use Rattle.settled_monitors.specs.SettledRuns.{TellsDoomed, AreSettled, held_in, back_in, MonitorsSettle}
+use Rattle.settled_monitors.specs.SettledRuns.{IsDoomedTest, AreSettled, held_in, back_in, MonitorsSettle}
 use Rattle.settled_monitors.proofs.DoomedLemmas.{doomed_open, doomed_section, doomed_stands, undoing_counts, closes_none}
 use Rattle.settled_monitors.proofs.TurnLemmas.{MonitorTurn}
 use Rattle.settled_monitors.proofs.TurnRows.{turn_of}
@@ -66,7 +66,7 @@ is_leaving_last : (g : Attempt) (next : Next) (held : List Held) (r : ℕ) → g
 is_leaving_last g next held r at exit alone = ap (λ a. is_leaving a next held) at ∙ ap (λ n. is_leaving (Fixed (Release r)) n held) exit ∙ ap is_none alone
 
 module _ {S : Type 0} (code : Code S) (b : Bounds) (first : S) (classes : ℕ) (c : ℕ → Core S) (acts : List Act) (run : IsMonitorRun code b first classes c acts) (doomed : ℕ → Bool)
-    (tells : TellsDoomed c acts doomed) (settled : ℕ → ℕ → Monitor) (are : AreSettled code b doomed c acts settled) where
+    (tells : IsDoomedTest c acts doomed) (settled : ℕ → ℕ → Monitor) (are : AreSettled code b doomed c acts settled) where
   ran : IsRun code b c acts
   ran = run.levelled.ordered.run
 

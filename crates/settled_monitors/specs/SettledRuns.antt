@@ -17,8 +17,8 @@ use Rattle.settled_lists.specs.SettledMonitors.{depth_back, SettledMonitors}
 use Rattle.run_monitors.specs.Monitors.{IsMonitorRun}
 
 -- `doomed` is the test of the acts that opened levels which are revoked, then or later
-abbrev pub TellsDoomed : {S : Type 0} → (ℕ → Core S) → List Act → (ℕ → Bool) → Type 0
-TellsDoomed c acts doomed = (p : ℕ) → (doomed p ≡ true → IsDoomed c acts p) × (IsDoomed c acts p → doomed p ≡ true)
+abbrev pub IsDoomedTest : {S : Type 0} → (ℕ → Core S) → List Act → (ℕ → Bool) → Type 0
+IsDoomedTest c acts doomed = (p : ℕ) → (doomed p ≡ true → IsDoomed c acts p) × (IsDoomed c acts p → doomed p ≡ true)
 
 -- What a turn of thread t makes of the monitors as far as others see it: an operation that was answered does with them
 -- what it does in the ordinary machine. The thread had given up a monitor that it had entered this number of times.
@@ -53,5 +53,5 @@ back_in doomed levels (Some th) r = depth_back (to_undo doomed levels) th.marks 
 -- so the monitors are settled at each place
 abbrev pub MonitorsSettle : {S : Type 0} → Code S → Type 0
 MonitorsSettle {S} code = (b : Bounds) (first : S) (classes : ℕ) (c : ℕ → Core S) (acts : List Act) → IsMonitorRun code b first classes c acts
-    → (doomed : ℕ → Bool) → TellsDoomed c acts doomed → (settled : ℕ → ℕ → Monitor) → AreSettled code b doomed c acts settled
+    → (doomed : ℕ → Bool) → IsDoomedTest c acts doomed → (settled : ℕ → ℕ → Monitor) → AreSettled code b doomed c acts settled
     → (k : ℕ) → k ≤ length acts → SettledMonitors (settled k) (λ t. held_in ((c k).threads t)) (λ t r. back_in doomed ((c k).levels t) ((c k).threads t) r)
