@@ -21,7 +21,7 @@ use Rattle.thread_automaton.specs.Told.{Told, advanced, born, counted_for}
 use Rattle.automaton_rows.specs.Rows.{Row, is_lost, is_undone}
 use Rattle.automaton_rows.proofs.RowLemmas.{by_if}
 use Rattle.core_runs.specs.Cores.{Core, outermost, levels_by}
-use Rattle.level_saves.specs.Saves.{WasAt, AreAsOpened}
+use Rattle.opened_saves.specs.Saves.{WasAt, AreAsOpened}
 
 -- a section is undone to the level to which it is revoked
 pub undone_level : {S : Type 0} (code : Code S) (b : Bounds) (th : ThreadState S) {next : Next} {step : Step} {a : StepAnswer} {change : Change} → Row code b th next step a change

@@ -3,7 +3,7 @@
 //! The function does nothing: its contract is the law.
 #![tactic(auto)]
 
-ghost use Rattle.level_saves.specs.Saves.{SavesAreAsOpened};
+ghost use Rattle.opened_saves.specs.Saves.{SavesAreAsOpened};
 
 use op_core::ThreadCode;
 

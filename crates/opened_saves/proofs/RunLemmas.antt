@@ -25,8 +25,8 @@ use Rattle.own_sections.proofs.SeenLemmas.{undoing_seen}
 use Rattle.own_sections.proofs.MoveLemmas.{own_at}
 use Rattle.section_levels.specs.Levels.{IsLevelledRun}
 use Rattle.section_levels.proofs.RunLemmas.{counted_at}
-use Rattle.level_saves.specs.Saves.{AreAsOpened, SavesAreAsOpened}
-use Rattle.level_saves.proofs.ChangeLemmas.{undone_level, changes, counted_opened}
+use Rattle.opened_saves.specs.Saves.{AreAsOpened, SavesAreAsOpened}
+use Rattle.opened_saves.proofs.ChangeLemmas.{undone_level, changes, counted_opened}
 
 module _ {S : Type 0} (code : Code S) (b : Bounds) (first : S) (classes : ℕ) (c : ℕ → Core S) (acts : List Act) (run : IsLevelledRun code b first classes c acts) where
   abbrev OpenedAt : ℕ → Type 0
