@@ -27,23 +27,23 @@ use Rattle.automaton_rows.specs.Undoing.{undo_steps, undoing_of, MakesAll, is_he
 
 -- ---- tests
 
-yes_eq : (m n : ℕ) → nat_eq m n ≡ true → m ≡ n
+pub yes_eq : (m n : ℕ) → nat_eq m n ≡ true → m ≡ n
 yes_eq m n is = grind (arith, common_steps, nat_tests)
 
-eq_same : (n : ℕ) → nat_eq n n ≡ true
+pub eq_same : (n : ℕ) → nat_eq n n ≡ true
 eq_same n = grind (arith, common_steps, nat_tests)
 
-eq_no : (m n : ℕ) → m ≢ n → nat_eq m n ≡ false
+pub eq_no : (m n : ℕ) → m ≢ n → nat_eq m n ≡ false
 eq_no m n other = by_test (nat_eq m n) refl
   where
     by_test : (t : Bool) → nat_eq m n ≡ t → nat_eq m n ≡ false
     by_test true is = absurd (other (yes_eq m n is))
     by_test false is = is
 
-both_ways : {A : Type 0} (t : Bool) → t ≡ true → t ≡ false → A
+pub both_ways : {A : Type 0} (t : Bool) → t ≡ true → t ≡ false → A
 both_ways t is none = cc
 
-depth_is : (s d l : ℕ) → s < 2 ^ 32 → d < 2 ^ 16 → l < 2 ^ 8 → monitor_depth (monitor_word s d l) ≡ d
+pub depth_is : (s d l : ℕ) → s < 2 ^ 32 → d < 2 ^ 16 → l < 2 ^ 8 → monitor_depth (monitor_word s d l) ≡ d
 unfolding monitor_depth monitor_word
 depth_is s d l low small few = omega (arith, low, small, few)
 
@@ -56,7 +56,7 @@ differs held h = not (nat_eq (held_as h.object held).depth h.depth)
 abbrev deepened : List Held → List Held → List Held
 deepened then_ held = filter (λ h. differs held h) then_
 
-depth_then : (r d : ℕ) (held : List Held) → is_held r held ≡ true → (held_as r (with_depth_of r d held)).depth ≡ d
+pub depth_then : (r d : ℕ) (held : List Held) → is_held r held ≡ true → (held_as r (with_depth_of r d held)).depth ≡ d
 depth_then r d [] is = cc
 depth_then r d (h ∷ held) is = by_test (nat_eq h.object r) refl is (depth_then r d held)
   where
@@ -66,7 +66,7 @@ depth_then r d (h ∷ held) is = by_test (nat_eq h.object r) refl is (depth_then
     by_test true eq is rest = ap (λ t. (if t then record h { depth = d } else held_as r (with_depth_of r d held)).depth) eq
     by_test false eq is rest = ap (λ t. (if t then h else held_as r (with_depth_of r d held)).depth) eq ∙ rest is
 
-other_depth : (r q d : ℕ) (held : List Held) → q ≢ r → (held_as q (with_depth_of r d held)).depth ≡ (held_as q held).depth
+pub other_depth : (r q d : ℕ) (held : List Held) → q ≢ r → (held_as q (with_depth_of r d held)).depth ≡ (held_as q held).depth
 other_depth r q d [] other = refl
 other_depth r q d (h ∷ held) other = by_test (nat_eq h.object r) refl (other_depth r q d held other)
   where
@@ -81,7 +81,7 @@ other_depth r q d (h ∷ held) other = by_test (nat_eq h.object r) refl (other_d
         by_q true rest = refl
         by_q false rest = rest
 
-same_level : (r q d : ℕ) (held : List Held) → (held_as q (with_depth_of r d held)).level ≡ (held_as q held).level
+pub same_level : (r q d : ℕ) (held : List Held) → (held_as q (with_depth_of r d held)).level ≡ (held_as q held).level
 same_level r q d [] = refl
 same_level r q d (h ∷ held) = by_test (nat_eq h.object r) (same_level r q d held)
   where
@@ -95,7 +95,7 @@ same_level r q d (h ∷ held) = by_test (nat_eq h.object r) (same_level r q d he
     by_test true rest = by_q (nat_eq h.object q) (record h { depth = d }) refl rest
     by_test false rest = by_q (nat_eq h.object q) h refl rest
 
-same_held : (r q d : ℕ) (held : List Held) → is_held q (with_depth_of r d held) ≡ is_held q held
+pub same_held : (r q d : ℕ) (held : List Held) → is_held q (with_depth_of r d held) ≡ is_held q held
 same_held r q d [] = refl
 same_held r q d (h ∷ held) = by_test (nat_eq h.object r) (same_held r q d held)
   where
@@ -103,7 +103,7 @@ same_held r q d (h ∷ held) = by_test (nat_eq h.object r) (same_held r q d held
     by_test true rest = ap (λ t. nat_eq h.object q || t) rest
     by_test false rest = ap (λ t. nat_eq h.object q || t) rest
 
-once_with : (r d : ℕ) (held : List Held) → HeldOnce held → HeldOnce (with_depth_of r d held)
+pub once_with : (r d : ℕ) (held : List Held) → HeldOnce held → HeldOnce (with_depth_of r d held)
 once_with r d [] once = tt
 once_with r d (h ∷ held) once = by_test (nat_eq h.object r) (same_held r h.object d held ∙ once.0) (once_with r d held once.1)
   where
@@ -130,7 +130,7 @@ deepened_other r d (z ∷ then_) held none = by_test (nat_eq z.object r) refl no
         (other_depth r z.object d held (λ e. both_ways (nat_eq z.object r) (subst (λ x. nat_eq z.object x ≡ true) e (eq_same z.object)) eq))
         ∙ ap (λ xs. if not (nat_eq (held_as z.object held).depth z.depth) then z ∷ xs else xs) (rest none)
 
-head_in : (h : Held) (rest then_ held : List Held) → deepened then_ held ≡ h ∷ rest → is_held h.object then_ ≡ true
+pub head_in : (h : Held) (rest then_ held : List Held) → deepened then_ held ≡ h ∷ rest → is_held h.object then_ ≡ true
 head_in h rest [] held is = cc
 head_in h rest (z ∷ then_) held is = by_test (differs held z) is (head_in h rest then_ held)
   where
@@ -180,7 +180,7 @@ deepened_next n h rest (z ∷ then_) held once below is = by_test (differs held 
         ∙ more is
 
 -- a monitor that isn't held gets no depth and isn't taken off
-with_none : (r d : ℕ) (held : List Held) → is_held r held ≡ false → with_depth_of r d held ≡ held
+pub with_none : (r d : ℕ) (held : List Held) → is_held r held ≡ false → with_depth_of r d held ≡ held
 with_none r d [] none = refl
 with_none r d (h ∷ held) none = by_test (nat_eq h.object r) none (with_none r d held)
   where
@@ -189,7 +189,7 @@ with_none r d (h ∷ held) none = by_test (nat_eq h.object r) none (with_none r 
     by_test true none rest = cc
     by_test false none rest = ap (λ xs. h ∷ xs) (rest none)
 
-without_none : (r : ℕ) (held : List Held) → is_held r held ≡ false → without r held ≡ held
+pub without_none : (r : ℕ) (held : List Held) → is_held r held ≡ false → without r held ≡ held
 without_none r [] none = refl
 without_none r (h ∷ held) none = by_test (nat_eq h.object r) none (without_none r held)
   where
@@ -215,7 +215,7 @@ from_with n r d (h ∷ held) once low = by_test (nat_eq h.object r) refl low (fr
         ∙ sym (ap (λ t. if t then h ∷ from_level n held else from_level n held) (lower n h.level low))
     by_test false eq low rest = ap (λ xs. if nat_le n h.level then h ∷ xs else xs) (rest low)
 
-from_head : (n : ℕ) (h : Held) (rest held : List Held) → from_level n held ≡ h ∷ rest → HeldOnce held
+pub from_head : (n : ℕ) (h : Held) (rest held : List Held) → from_level n held ≡ h ∷ rest → HeldOnce held
     → (is_held h.object held ≡ true) × (held_as h.object held ≡ h) × (n ≤ h.level)
 from_head n h rest [] is once = cc
 from_head n h rest (z ∷ held) is once = by_test (nat_le n z.level) refl is (λ more. from_head n h rest held more once.1)
@@ -260,7 +260,7 @@ from_next n h rest (z ∷ held) is once = by_test (nat_le n z.level) refl is (λ
         ap (λ t. from_level n (if not t then z ∷ without h.object held else without h.object held)) apart
         ∙ ap (λ t. if t then z ∷ from_level n (without h.object held) else from_level n (without h.object held)) low ∙ more is
 
-still_held : (r q : ℕ) (held : List Held) → q ≢ r → is_held q (without r held) ≡ is_held q held
+pub still_held : (r q : ℕ) (held : List Held) → q ≢ r → is_held q (without r held) ≡ is_held q held
 still_held r q [] other = refl
 still_held r q (h ∷ held) other = by_test (nat_eq h.object r) refl (still_held r q held other)
   where
@@ -268,7 +268,7 @@ still_held r q (h ∷ held) other = by_test (nat_eq h.object r) refl (still_held
     by_test true eq rest = rest ∙ sym (ap (λ t. t || is_held q held) (eq_no h.object q (λ e. other (sym e ∙ yes_eq h.object r eq))))
     by_test false eq rest = ap (λ t. nat_eq h.object q || t) rest
 
-still_as : (r q : ℕ) (held : List Held) → q ≢ r → held_as q (without r held) ≡ held_as q held
+pub still_as : (r q : ℕ) (held : List Held) → q ≢ r → held_as q (without r held) ≡ held_as q held
 still_as r q [] other = refl
 still_as r q (h ∷ held) other = by_test (nat_eq h.object r) refl (still_as r q held other)
   where
@@ -277,7 +277,7 @@ still_as r q (h ∷ held) other = by_test (nat_eq h.object r) refl (still_as r q
     by_test true eq rest = rest ∙ sym (ap (λ t. if t then h else held_as q held) (eq_no h.object q (λ e. other (sym e ∙ yes_eq h.object r eq))))
     by_test false eq rest = ap (λ (x : Held). if nat_eq h.object q then h else x) rest
 
-none_without : (r q : ℕ) (held : List Held) → is_held q held ≡ false → is_held q (without r held) ≡ false
+pub none_without : (r q : ℕ) (held : List Held) → is_held q held ≡ false → is_held q (without r held) ≡ false
 none_without r q [] none = refl
 none_without r q (h ∷ held) none = by_q (nat_eq h.object q) refl none (none_without r q held)
   where
@@ -290,7 +290,7 @@ none_without r q (h ∷ held) none = by_q (nat_eq h.object q) refl none (none_wi
         by_r true = rest none
         by_r false = ap (λ t. t || is_held q (without r held)) eq ∙ rest none
 
-once_without : (r : ℕ) (held : List Held) → HeldOnce held → HeldOnce (without r held)
+pub once_without : (r : ℕ) (held : List Held) → HeldOnce held → HeldOnce (without r held)
 once_without r [] once = tt
 once_without r (h ∷ held) once = by_test (nat_eq h.object r) (once_without r held once.1)
   where
@@ -306,7 +306,7 @@ below_at n r (h ∷ then_) held below is = by_test (nat_eq h.object r) refl is (
     by_test true eq is rest = subst (λ x. (held_as x held).level < n) (yes_eq h.object r eq) below.1
     by_test false eq is rest = rest is
 
-not_among : (r : ℕ) (h : Held) (then_ : List Held) → is_held r (h ∷ then_) ≡ false → (h.object ≢ r) × (is_held r then_ ≡ false)
+pub not_among : (r : ℕ) (h : Held) (then_ : List Held) → is_held r (h ∷ then_) ≡ false → (h.object ≢ r) × (is_held r then_ ≡ false)
 not_among r h then_ none = by_test (nat_eq h.object r) refl none
   where
     by_test : (t : Bool) → nat_eq h.object r ≡ t → (t || is_held r then_) ≡ false → (h.object ≢ r) × (is_held r then_ ≡ false)

@@ -57,12 +57,12 @@ module _ {S : Type 0} (code : Code S) (first : S) (classes : ℕ) (orderly : IsO
     pub rewakes : IsRewake (code.next th.local) → RewakesInLevels th
     pub waiting : IsWaitStep th.attempt (code.next th.local) → 0 < th.section
 
-  usual_drop : (n : ℕ) (saved : List S) → AreUsual saved → AreUsual (drop n saved)
+  pub usual_drop : (n : ℕ) (saved : List S) → AreUsual saved → AreUsual (drop n saved)
   usual_drop zero saved each = each
   usual_drop (suc n) [] each = tt
   usual_drop (suc n) (l ∷ saved) each = usual_drop n saved each.1
 
-  usual_at : (n : ℕ) (saved : List S) (l : S) → AreUsual saved → IsUsual l → IsUsual (get_or saved n l)
+  pub usual_at : (n : ℕ) (saved : List S) (l : S) → AreUsual saved → IsUsual l → IsUsual (get_or saved n l)
   usual_at n [] l each usual = usual
   usual_at zero (m ∷ saved) l each usual = each.0
   usual_at (suc n) (m ∷ saved) l each usual = usual_at n saved l each.1 usual
@@ -87,12 +87,12 @@ module _ {S : Type 0} (code : Code S) (first : S) (classes : ℕ) (orderly : IsO
   reply_stands Silent l reply is can fits last = absurd fits
   reply_stands Ended l reply is can fits last = absurd fits
 
-  entry_goes_on : (next : Next) → IsEntry next → IsLastReply Reply.Done next → ⊥
+  pub entry_goes_on : (next : Next) → IsEntry next → IsLastReply Reply.Done next → ⊥
   entry_goes_on (Want (Enter r)) enters last = last
   entry_goes_on (Want (Rewake r)) enters last = last
   entry_goes_on next enters last = absurd enters
 
-  entry_fits : (next : Next) → IsEntry next → FitsNext next Reply.Done
+  pub entry_fits : (next : Next) → IsEntry next → FitsNext next Reply.Done
   entry_fits (Want (Enter r)) enters = tt
   entry_fits (Want (Rewake r)) enters = tt
   entry_fits next enters = absurd enters
@@ -100,7 +100,7 @@ module _ {S : Type 0} (code : Code S) (first : S) (classes : ℕ) (orderly : IsO
   -- ---- one thread
 
   module _ (b : Bounds) (th : ThreadState S) (stands : Stands th) where
-    abbrev NoRelease : Step → Type 0
+    abbrev pub NoRelease : Step → Type 0
     NoRelease (Release r) = ⊥
     NoRelease step = Unit {0}
 
@@ -176,7 +176,7 @@ module _ {S : Type 0} (code : Code S) (first : S) (classes : ℕ) (orderly : IsO
     abbrev Keeps : Change → Type 0
     Keeps change = Stands (changed code th change)
 
-    some_section : is_open th ≡ true → 0 < th.section
+    pub some_section : is_open th ≡ true → 0 < th.section
     some_section unpinned = by_test (nat_eq th.section 0) refl
       where
         not_open : (m n : ℕ) → nat_lt m n ≡ true → nat_eq n 0 ≡ true → ⊥
@@ -196,14 +196,14 @@ module _ {S : Type 0} (code : Code S) (first : S) (classes : ℕ) (orderly : IsO
         by_test true is = absurd (no th.section some (kept.levels ∙ is))
         by_test false is = not_zero th.levels is
 
-    own_some : (m own : ℕ) → is_own m own ≡ true → 0 < own
+    pub own_some : (m own : ℕ) → is_own m own ≡ true → 0 < own
     own_some m own is = above own (left (nat_lt 0 own) (nat_eq (monitor_section m) own) is)
       where
         left : (a c : Bool) → (a && c) ≡ true → a ≡ true
         left true c is = refl
         left false c is = cc
 
-    whole_of : {next : Next} {step : Step} → code.next th.local ≡ next → move_of code th next th.attempt ≡ Make step → NoRelease b th stands step → AreAtMost th.levels th.held
+    pub whole_of : {next : Next} {step : Step} → code.next th.local ≡ next → move_of code th next th.attempt ≡ Make step → NoRelease b th stands step → AreAtMost th.levels th.held
     whole_of is makes none = whole b th stands is makes none
 
     -- after the load that may be followed by a pin
@@ -212,7 +212,7 @@ module _ {S : Type 0} (code : Code S) (first : S) (classes : ℕ) (orderly : IsO
         (λ yes. goes_to b th stands (Fixed (own_pin th)) each (λ step. absurd step))
         (λ no. goes_to b th stands (behind_pin th next) each (λ step. some (subst (IsWaitStep (behind_pin th next)) is step)))
 
-    needs_entry : (next : Next) → needs_level th next ≡ true → IsRewake next → ⊥
+    pub needs_entry : (next : Next) → needs_level th next ≡ true → IsRewake next → ⊥
     needs_entry (Want (Rewake r)) needs is = true≢false (sym needs)
     needs_entry next needs is = absurd is
 

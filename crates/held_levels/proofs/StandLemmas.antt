@@ -45,7 +45,7 @@ use Rattle.held_levels.proofs.HeldLemmas.{highest_low, kept_exit}
 use Rattle.held_levels.proofs.RowLemmas.{Stands, keeps}
 
 -- a thread is handed out as the start of one is wanted
-abbrev Wants : Step → Next → Type 0
+abbrev pub Wants : Step → Next → Type 0
 Wants (Split n r p) next = next ≡ Want (Start r p)
 Wants step next = Unit {0}
 
@@ -53,14 +53,14 @@ wants_lost : (step : Step) (v : ℕ) (next : Next) → CanAnswer (effect_of step
 wants_lost (Split n r p) v next can = absurd can
 wants_lost step v next can = tt
 
-split_wants : {S : Type 0} (code : Code S) (b : Bounds) (th : ThreadState S) {next : Next} {step : Step} {a : StepAnswer} {change : Change}
+pub split_wants : {S : Type 0} (code : Code S) (b : Bounds) (th : ThreadState S) {next : Next} {step : Step} {a : StepAnswer} {change : Change}
     → Row code b th next step a change → CanAnswer (effect_of step) a → Wants step next
 split_wants code b th {next} (is_lost {step = step} {v = v}) can = wants_lost step v next can
 split_wants code b th (handed_out shut some below) can = refl
 split_wants code b th row can = tt
 
 -- a silent step is made where it comes next
-quiet_next : {S : Type 0} (code : Code S) (l m : S) → quiet_step code l ≡ Some m → code.next l ≡ Silent
+pub quiet_next : {S : Type 0} (code : Code S) (l m : S) → quiet_step code l ≡ Some m → code.next l ≡ Silent
 quiet_next {S} code l m is = by_next (code.next l) is
   where
     by_next : (next : Next) → quiet_to code (code.silent l) next ≡ Some m → next ≡ Silent

@@ -64,7 +64,7 @@ falls_less zero n (m ∷ marks) low falls = (less m.noted n low, falls.1, falls.
 falls_less (suc j) n [] low falls = tt
 falls_less (suc j) n (m ∷ marks) low falls = falls_less j n marks low falls
 
-length_drop : (j : ℕ) (marks : List Mark) → length (drop j marks) ≡ length marks - j
+pub length_drop : (j : ℕ) (marks : List Mark) → length (drop j marks) ≡ length marks - j
 length_drop zero marks = whole (length marks)
   where
     whole : (n : ℕ) → n ≡ n - 0
@@ -108,40 +108,40 @@ length_less (x ∷ log) = one (length log)
 
 -- ---- steps of undoing
 
-abbrev NoUndo : Step → Type 0
+abbrev pub NoUndo : Step → Type 0
 NoUndo (RestoreWord at old) = ⊥
 NoUndo (SetDepth r new) = ⊥
 NoUndo (Release r) = ⊥
 NoUndo (MarkUndone s w) = ⊥
 NoUndo step = Unit {0}
 
-abbrev NoUndoIn : Move → Type 0
+abbrev pub NoUndoIn : Move → Type 0
 NoUndoIn (Make step) = NoUndo step
 NoUndoIn move = Unit {0}
 
-undo_is : (s w : ℕ) (log : List Noted) (deepened taken : List Held) → NoUndo (undo_step s w log deepened taken) → ⊥
+pub undo_is : (s w : ℕ) (log : List Noted) (deepened taken : List Held) → NoUndo (undo_step s w log deepened taken) → ⊥
 undo_is s w (x ∷ log) deepened taken none = none
 undo_is s w [] (h ∷ deepened) taken none = none
 undo_is s w [] [] (h ∷ taken) none = none
 undo_is s w [] [] [] none = none
 
-lost_undoes_none : (step : Step) (v : ℕ) → CanAnswer (effect_of step) (Lost v) → NoUndo step
+pub lost_undoes_none : (step : Step) (v : ℕ) → CanAnswer (effect_of step) (Lost v) → NoUndo step
 lost_undoes_none (RestoreWord at old) v can = absurd can
 lost_undoes_none (SetDepth r new) v can = absurd can
 lost_undoes_none (Release r) v can = absurd can
 lost_undoes_none (MarkUndone s w) v can = absurd can
 lost_undoes_none step v can = tt
 
-abbrev IsUndoing : Attempt → Type 0
+abbrev pub IsUndoing : Attempt → Type 0
 IsUndoing (Undoing w) = Unit {0}
 IsUndoing attempt = ⊥
 
 -- where nothing is being undone, all marks count
-all_count : (g : Attempt) (levels : ℕ) (marks : List Mark) → (IsUndoing g → ⊥) → counting_marks g levels marks ≡ marks
+pub all_count : (g : Attempt) (levels : ℕ) (marks : List Mark) → (IsUndoing g → ⊥) → counting_marks g levels marks ≡ marks
 all_count (Undoing w) levels marks other = absurd (other tt)
 all_count g levels marks other = refl
 
-no_undoing : (g : Attempt) → IsNoUndoing g → IsUndoing g → ⊥
+pub no_undoing : (g : Attempt) → IsNoUndoing g → IsUndoing g → ⊥
 no_undoing (Undoing w) none is = none
 no_undoing g none is = is
 

@@ -10,7 +10,7 @@ use Rattle.level_runs.specs.LevelRun.{LevelAct, calm, opens_one, closes_all_but,
 -- ---- lists of places, the newest first
 
 -- they fall, and the first is below k
-abbrev Falls : ℕ → List ℕ → Type 0
+abbrev pub Falls : ℕ → List ℕ → Type 0
 Falls k [] = Unit {0}
 Falls k (p ∷ levels) = (p < k) × Falls p levels
 
@@ -26,7 +26,7 @@ falls_drop (suc j) k (p ∷ levels) falls = falls_more p k (drop j levels) (low 
     low : (p k : ℕ) → p < k → p ≤ k
     low p k is = omega (arith, is)
 
-below : (k p : ℕ) (levels : List ℕ) → Falls k levels → In p levels → p < k
+pub below : (k p : ℕ) (levels : List ℕ) → Falls k levels → In p levels → p < k
 below k p [] falls is = absurd is
 below k p (q ∷ levels) falls is = elim is [
   | inl here ↦ first p q k here falls.0
@@ -96,7 +96,7 @@ nth_least (suc j) k p q (x ∷ levels) falls is first = elim first [
     low : (p q x : ℕ) → p ≡ x → q < x → q ≤ p
     low p q x is lower = omega (arith, is, lower)
 
-has_nth : (j : ℕ) (levels : List ℕ) → j < length levels → (p : ℕ) × (slice_get levels j ≡ Some p)
+pub has_nth : (j : ℕ) (levels : List ℕ) → j < length levels → (p : ℕ) × (slice_get levels j ≡ Some p)
 has_nth j [] low = absurd (no j low)
   where
     no : (j : ℕ) → j < 0 → ⊥
@@ -181,7 +181,7 @@ module _ (levels : ℕ → List ℕ) (revoked : ℕ → Option ℕ) (act : ℕ �
     pub stays : levels k ≡ levels place
     pub level : (0 < n) × (n ≤ length (levels place))
 
-  revoked_before : (k n : ℕ) → revoked k ≡ Some n → RevokedBefore k n
+  pub revoked_before : (k n : ℕ) → revoked k ≡ Some n → RevokedBefore k n
   revoked_before zero n is = cc_none (sym is_run.1 ∙ is)
     where
       cc_none : None ≡ Some n → RevokedBefore 0 n

@@ -47,7 +47,7 @@ not_below m n is = grind (arith, common_steps, nat_tests)
 same_size : (n : ℕ) → n ≤ n
 same_size n = omega arith
 
-in_drop : (j p : ℕ) (levels : List ℕ) → In p (drop j levels) → In p levels
+pub in_drop : (j p : ℕ) (levels : List ℕ) → In p (drop j levels) → In p levels
 in_drop zero p levels is = is
 in_drop (suc j) p [] is = absurd is
 in_drop (suc j) p (q ∷ levels) is = inr (in_drop j p levels is)
@@ -61,11 +61,11 @@ in_take zero p levels is = absurd is
 in_take (suc j) p [] is = absurd is
 in_take (suc j) p (q ∷ levels) is = elim is [ inl here ↦ inl here | inr more ↦ inr (in_take j p levels more) ]
 
-level_in : (p d : ℕ) (levels : List ℕ) → IsLevel p d levels → In p levels
+pub level_in : (p d : ℕ) (levels : List ℕ) → IsLevel p d levels → In p levels
 level_in p d [] is = absurd is
 level_in p d (q ∷ levels) is = elim is [ inl here ↦ inl here.0 | inr more ↦ inr (level_in p d levels more) ]
 
-full : (p : ℕ) (levels : List ℕ) → In p levels → 0 < length levels
+pub full : (p : ℕ) (levels : List ℕ) → In p levels → 0 < length levels
 full p [] is = absurd is
 full p (q ∷ levels) is = omega arith
 
@@ -99,7 +99,7 @@ module _ {S : Type 0} (code : Code S) (b : Bounds) (first : S) (classes : ℕ) (
   at_end : (n : ℕ) → nat_lt n count ≡ false → core_at c acts n ≡ c count
   at_end n is = ap (λ t. c (if t then n else count)) is
 
-  at_place : (n : ℕ) → n ≤ count → core_at c acts n ≡ c n
+  pub at_place : (n : ℕ) → n ≤ count → core_at c acts n ≡ c n
   at_place n low = by_test (nat_lt n count) refl
     where
       last : (n d : ℕ) → n ≤ d → d ≤ n → d ≡ n
@@ -187,7 +187,7 @@ module _ {S : Type 0} (code : Code S) (b : Bounds) (first : S) (classes : ℕ) (
       fewer : (l r n p : ℕ) → p < r → r ≤ n → l ≡ n → r - 1 ≡ l → ⊥
       fewer l r n p deep low is same = omega (arith, deep, low, is, same)
 
-  runs_in_levels : (z : ℕ) → RunsInLevels c acts z
+  pub runs_in_levels : (z : ℕ) → RunsInLevels c acts z
   runs_in_levels z = record {
     act = λ n. (total_turn n z).act;
     is_run = (
@@ -245,7 +245,7 @@ module _ {S : Type 0} (code : Code S) (b : Bounds) (first : S) (classes : ℕ) (
       along code b c acts (is_run code b first classes c acts run).leads AreOwn first_own (λ n act here at before. act_own n (slice_get_within acts n act here) act here at before) k within
 
   -- the section of a thread that has a level open
-  has_section : (k t p : ℕ) (th : ThreadState S) → k ≤ length acts → (c k).threads t ≡ Some th → In p ((c k).levels t) → 0 < th.section
+  pub has_section : (k t p : ℕ) (th : ThreadState S) → k ≤ length acts → (c k).threads t ≡ Some th → In p ((c k).levels t) → 0 < th.section
   has_section k t p th within at there = by_test (nat_eq th.section 0) refl
     where
       is_zero : (n : ℕ) → nat_eq n 0 ≡ true → n ≡ 0
@@ -313,7 +313,7 @@ module _ {S : Type 0} (code : Code S) (b : Bounds) (first : S) (classes : ℕ) (
   not_zero n some = grind (arith, common_steps, nat_tests)
 
   -- what is revoked then or later is so in the run of levels of its thread
-  doomed_at : (t p k : ℕ) → k ≤ length acts → In p ((c k).levels t) → IsDoomed c acts p → IsDoomedAt (levels_in c acts t) (runs_in_levels code b first classes c acts run t).act p
+  pub doomed_at : (t p k : ℕ) → k ≤ length acts → In p ((c k).levels t) → IsDoomed c acts p → IsDoomedAt (levels_in c acts t) (runs_in_levels code b first classes c acts run t).act p
   doomed_at t p k within there doomed =
       let r = runs_in_levels code b first classes c acts run t in
       let place = doomed.place in

@@ -170,7 +170,7 @@ module _ {S : Type 0} (code : Code S) (b : Bounds) (first : S) (classes : ℕ) (
           by_step made is there = came_there u uh there
 
       -- the thread itself is there
-      own_there : after t ≡ Some y
+      pub own_there : after t ≡ Some y
       own_there = by_step step refl
         where
           by_step : (made : Step) → step ≡ made → threads_by code made at.from.local (set_at (c k).threads t (Some y)) t ≡ Some y

@@ -1,0 +1,15 @@
+pub mod ListLemmas
+pub mod StageLemmas
+pub mod MarkLemmas
+pub mod UndoLemmas
+pub mod KeptLemmas
+pub mod ChangeLemmas
+pub mod OuterLemmas
+pub mod EntryLemmas
+pub mod RowLemmas
+pub mod MarkRows
+pub mod DeedLemmas
+pub mod WordLemmas
+pub mod ThreadLemmas
+pub mod DidLemmas
+pub mod RunLemmas
