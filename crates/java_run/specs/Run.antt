@@ -11,7 +11,7 @@ use Rattle.schedules.specs.declared.order.Schedule.{Schedule}
 use Rattle.ordinary_machine.specs.Advance.{HasHalted}
 use Rattle.ordinary_machine.specs.Machine.{Machine}
 use Rattle.ordinary_machine.specs.Start.{start_of}
-use Rattle.ordinary_runs.specs.ScheduledRun.{IsOutcome}
+use Rattle.ordinary_runs.specs.ScheduledRun.{all_steps, IsOutcome}
 use Rattle.ordinary_runs.specs.Laws.{IsExecuted}
 use Rattle.program_answers.specs.declared.status.Status.{Status}
 use Rattle.program_answers.specs.declared.status.Status.TheVariants as statuses
@@ -58,7 +58,7 @@ IsStuckRun start outcome last = outcome.how ≡ how.Stuck → ((t : ℕ) → Has
 -- prints the lines and leaves the threads ended as the answer says.
 pub record IsRunOf (us : List ClassUnit) (main : MethodId) (schedule : Schedule) (limits : Limits) (answer : Answer) : Type 0 where
   pub outcome : Outcome
-  pub ran : IsOutcome java_code (machine_at_start us main) schedule limits true outcome
-  pub executed : IsExecuted java_code (machine_at_start us main) true outcome
+  pub ran : IsOutcome java_code (machine_at_start us main) schedule limits all_steps outcome
+  pub executed : IsExecuted java_code (machine_at_start us main) all_steps outcome
   pub stuck : IsStuckRun (machine_at_start us main) outcome ran.last.state.machine
   pub answered : answer ≡ answer_of us outcome

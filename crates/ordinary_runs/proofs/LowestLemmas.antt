@@ -15,7 +15,7 @@ use Rattle.ordinary_machine.specs.declared.ordinary.Ordinary.{Ordinary}
 use Rattle.ordinary_machine.specs.Machine.{Machine, machine_of, with_thread_at}
 use Rattle.ordinary_machine.specs.Advance.{MayAdvance}
 use Rattle.ordinary_runs.specs.declared.turns.CountedMachine.{CountedMachine}
-use Rattle.ordinary_runs.specs.Turns.{Progress, progress_of, machine_turns, IsSilentFor, GivesIfEnabled}
+use Rattle.ordinary_runs.specs.Turns.{traced, Progress, progress_of, machine_turns, IsSilentFor, GivesIfEnabled}
 use Rattle.ordinary_runs.specs.ScheduledRun.{how_at, GoesOn, GoesOnOrEnds}
 use Rattle.ordinary_runs.proofs.SilentLemmas.{others_same, silent_enabled}
 use Rattle.ordinary_runs.proofs.EnabledLemmas.{lowest_picked}
@@ -54,30 +54,30 @@ module _ {C S : Type 0} (code : Code S) (state : C → S) (limits : Limits) wher
   abbrev now : CountedMachine C → Machine S
   now x = machine_of state x.machine
 
-  turn_on : (x z : CountedMachine C) (t : ℕ) (end : TurnEnd) → t < 256 → NoneBelow code (now x) t → MayAdvance code (now x) t → (machine_turns code limits).gives (progress_of state x) t end (progress_of state z)
+  turn_on : (x z : CountedMachine C) (t : ℕ) (end : TurnEnd) → traced x.events ≡ None → t < 256 → NoneBelow code (now x) t → MayAdvance code (now x) t → (machine_turns code limits).gives (progress_of state x) t end (progress_of state z)
       → ((limit : Limit) → end ≡ Spent limit → ⊥) → GoesOn code limits (at x) (at z)
-  turn_on x z t end number none may given unspent =
-      picked_turn code limits (progress_of state x) (progress_of state z) none_left none_left None t end refl refl (lowest_picked code state x.machine t may none) number given unspent refl
+  turn_on x z t end untraced number none may given unspent =
+      picked_turn code limits (progress_of state x) (progress_of state z) none_left none_left None t end untraced refl refl (lowest_picked code state x.machine t may none) number given unspent refl
 
   -- After some silent turns of the lowest enabled thread, it isn't enabled any more, or its turn is spent or made.
-  goes_behind : (x y z : CountedMachine C) (t : ℕ) (end : Option TurnEnd) → t < 256 → NoneBelow code (now y) t → GoesOn code limits (at x) (at y) → GivesIfEnabled code limits (progress_of state y) t end (progress_of state z)
+  goes_behind : (x y z : CountedMachine C) (t : ℕ) (end : Option TurnEnd) → traced y.events ≡ None → t < 256 → NoneBelow code (now y) t → GoesOn code limits (at x) (at y) → GivesIfEnabled code limits (progress_of state y) t end (progress_of state z)
       → GoesOn code limits (at x) (at z)
-  goes_behind x y z t None number none goes (never, same) = subst (λ (r : Progress S). GoesOn code limits (at x) (record { state = r; rest = none_left })) (sym same) goes
-  goes_behind x y z t (Some (Spent limit)) number none goes (may, given) =
+  goes_behind x y z t None untraced number none goes (never, same) = subst (λ (r : Progress S). GoesOn code limits (at x) (record { state = r; rest = none_left })) (sym same) goes
+  goes_behind x y z t (Some (Spent limit)) untraced number none goes (may, given) =
       subst (λ (r : Progress S). GoesOn code limits (at x) (record { state = r; rest = none_left })) (sym (spent_same code limits (progress_of state y) (progress_of state z) t limit given)) goes
-  goes_behind x y z t (Some (Made kind)) number none goes (may, given) = goes_join code limits (at x) (at y) (at z) goes (turn_on y z t (Made kind) number none may given (λ limit is. cc))
-  goes_behind x y z t (Some Other) number none goes (may, given) = goes_join code limits (at x) (at y) (at z) goes (turn_on y z t Other number none may given (λ limit is. cc))
-  goes_behind x y z t (Some Blocked) number none goes (may, given) = goes_join code limits (at x) (at y) (at z) goes (turn_on y z t Blocked number none may given (λ limit is. cc))
+  goes_behind x y z t (Some (Made kind)) untraced number none goes (may, given) = goes_join code limits (at x) (at y) (at z) goes (turn_on y z t (Made kind) untraced number none may given (λ limit is. cc))
+  goes_behind x y z t (Some Other) untraced number none goes (may, given) = goes_join code limits (at x) (at y) (at z) goes (turn_on y z t Other untraced number none may given (λ limit is. cc))
+  goes_behind x y z t (Some Blocked) untraced number none goes (may, given) = goes_join code limits (at x) (at y) (at z) goes (turn_on y z t Blocked untraced number none may given (λ limit is. cc))
 
   -- silent turns and what comes after them
-  pub lowest_made : (x y z : CountedMachine C) (t n : ℕ) (end : Option TurnEnd) → t < 256 → NoneBelow code (now x) t → 0 < n → IsSilentFor code limits (progress_of state x) t n (progress_of state y)
+  pub lowest_made : (x y z : CountedMachine C) (t n : ℕ) (end : Option TurnEnd) → traced x.events ≡ None → t < 256 → NoneBelow code (now x) t → 0 < n → IsSilentFor code limits (progress_of state x) t n (progress_of state y)
       → GivesIfEnabled code limits (progress_of state y) t end (progress_of state z) → GoesOn code limits (at x) (at z)
-  lowest_made x y z t zero end number none some ran gives = absurd (omega (arith, some))
-  lowest_made x y z t (suc n) end number none some ran gives =
+  lowest_made x y z t zero end untraced number none some ran gives = absurd (omega (arith, some))
+  lowest_made x y z t (suc n) end untraced number none some ran gives =
       let runs = ran.runs in
       let may = silent_enabled code (now x) t n runs.from runs.behind runs.begun runs.quiet in
-      let goes = silent_on code limits (progress_of state x) (progress_of state y) t (suc n) (lowest_picked code state x.machine t may none) number some ran in
-      goes_behind x y z t end number (still_none code (now x) (now y) t ((now x).silents t + suc n) runs.from runs.behind runs.begun runs.leads none) goes gives
+      let goes = silent_on code limits (progress_of state x) (progress_of state y) t (suc n) untraced (lowest_picked code state x.machine t may none) number some ran in
+      goes_behind x y z t end (ap traced ran.kept ∙ untraced) number (still_none code (now x) (now y) t ((now x).silents t + suc n) runs.from runs.behind runs.begun runs.leads none) goes gives
 
   -- Without silent turns, the thread is none that is enabled, or its turn is the next one.
   module _ (x y z : CountedMachine C) (t n : ℕ) (none_made : n ≤ 0) (ran : IsSilentFor code limits (progress_of state x) t n (progress_of state y)) where
@@ -92,11 +92,11 @@ module _ {C S : Type 0} (code : Code S) (state : C → S) (limits : Limits) wher
         let (never, same) = given_there end None gives is in
         (same, subst (λ (r : Progress S). NoneBelow code r.machine (t + 1)) (sym same) (below_more (λ u. MayAdvance code (now x) u → ⊥) t none never))
 
-    pub lowest_came : (end : Option TurnEnd) (came : TurnEnd) → t < 256 → NoneBelow code (now x) t → GivesIfEnabled code limits (progress_of state y) t end (progress_of state z) → end ≡ Some came
+    pub lowest_came : (end : Option TurnEnd) (came : TurnEnd) → traced x.events ≡ None → t < 256 → NoneBelow code (now x) t → GivesIfEnabled code limits (progress_of state y) t end (progress_of state z) → end ≡ Some came
         → GoesOnOrEnds code limits (at x) (how_at t came) (at z)
-    lowest_came end came number none gives is =
+    lowest_came end came untraced number none gives is =
         let (may, given) = given_there end (Some came) gives is in
-        picked_came code limits (progress_of state x) (progress_of state z) none_left none_left None t came refl refl (lowest_picked code state x.machine t may none) number given refl
+        picked_came code limits (progress_of state x) (progress_of state z) none_left none_left None t came untraced refl refl (lowest_picked code state x.machine t may none) number given refl
 
 -- The same holds for a run in this state, under the same limits.
 pub stands_so : {S : Type 0} (code : Code S) (limits same : Limits) (run : Run (Progress S)) (r new : Progress S) (rest : Rest) (end : Option How) → limits ≡ same → record { state = r; rest = rest } ≡ run → run.rest ≡ none_left

@@ -19,7 +19,7 @@ use Rattle.ordinary_machine.specs.declared.advance.Advance.TheVariants as advanc
 use Rattle.ordinary_machine.specs.Machine.{with_thread_at}
 use Rattle.ordinary_machine.specs.Advance.{Advances, MayAdvance}
 use Rattle.ordinary_machine.proofs.SilentLemmas.{put_twice, put_back, and_then_some}
-use Rattle.ordinary_runs.specs.Turns.{Progress, is_live, end_of, counted_after, IsSilentFor, machine_turns}
+use Rattle.ordinary_runs.specs.Turns.{traced, Progress, is_live, end_of, counted_after, IsSilentFor, machine_turns}
 use Rattle.ordinary_runs.specs.ScheduledRun.{CanGive, order_behind, GoesOn}
 use Rattle.ordinary_runs.proofs.CountLemmas.{counted_left, left_less}
 use Rattle.ordinary_runs.proofs.OrderLemmas.{due_first, due_stays, order_turns, due_no_more, other_no_more, blocked_less, item_behind, all_behind, behind_turns, behind_thread}
@@ -86,6 +86,7 @@ pub record KeepsTurn {S : Type 0} (code : Code S) (limits : Limits) (r : Progres
   gets : (k : ℕ) (l behind : S) → k < n → quiet_step code l ≡ Some behind → IsNext (machine_turns code limits) (run_later r rests t l k) t
   leaves : (k : ℕ) (l : S) → k < n → rests (suc k) ≡ rest_after (due_of (machine_turns code limits) (run_later r rests t l k)) Other
   left : r.counted t + n ≤ limits.turns
+  untraced : traced r.events ≡ None
 
 silent_turns : {S : Type 0} (code : Code S) (limits : Limits) (r : Progress S) (rests : ℕ → Rest) (t : ℕ) (from : S) (n : ℕ) → KeepsTurn code limits r rests t from n
     → (k : ℕ) (l : S) → k ≤ n → quiet_steps code k from ≡ Some l → Follows (machine_turns code limits) (run_later r rests t from 0) (turns_of t k) (run_later r rests t l k)
@@ -96,7 +97,7 @@ silent_turns {S} code limits r rests t from n keeps (suc k) l within quiet =
     let more : k < n = omega (arith, within) in
     let room : r.counted t + k < limits.turns = let left = keeps.left in omega (arith, left, more) in
     let turn : IsTurn (machine_turns code limits) (run_later r rests t middle k) t Other (run_later r rests t l (suc k)) = record {
-      goes_on = refl;
+      goes_on = keeps.untraced;
       gets = keeps.gets k middle l more step;
       given = silent_turn code limits r t middle l k step room;
       unspent = λ limit is. absurd (cc);
@@ -127,9 +128,9 @@ goes_silently {S} code limits r new rests t n ran below keeps =
 
 -- The thread of a due item keeps its turn while the item has turns to give.
 pub ordered_keeps : {S : Type 0} (code : Code S) (limits : Limits) (r : Progress S) (rest : Rest) (t : ℕ) (from : S) (n : ℕ) (item : OrderItem) (others : List OrderItem)
-    → rest.order ≡ item ∷ others → t ≡ thread_of item → CanGive n item → r.counted t + n ≤ limits.turns
+    → traced r.events ≡ None → rest.order ≡ item ∷ others → t ≡ thread_of item → CanGive n item → r.counted t + n ≤ limits.turns
     → KeepsTurn code limits r (λ k. record rest { order = order_behind k rest.order }) t from n
-ordered_keeps {S} code limits r rest t from n item others is mine gives left =
+ordered_keeps {S} code limits r rest t from n item others untraced is mine gives left =
     let rests : ℕ → Rest = λ k. record rest { order = order_behind k rest.order } in
     let lives : (k : ℕ) (l : S) → is_live ((later r t l k).machine.now.threads t) ≡ true = λ k l. ap is_live (set_at-hit r.machine.now.threads t (live l)) in
     let shown : (k : ℕ) → order_behind k rest.order ≡ item_behind k item ∷ others = λ k. ap (order_behind k) is ∙ all_behind k item others in
@@ -147,13 +148,14 @@ ordered_keeps {S} code limits r rest t from n item others is mine gives left =
           let number = kept (due_of (machine_turns code limits) (run_later r rests t l k)).order (dues k l below) in
           λ i. record { order = order i; number = number i };
       left = left;
+      untraced = untraced;
     }
 
 -- The lowest enabled thread keeps its turn while it is silent.
 pub lowest_keeps : {S : Type 0} (code : Code S) (limits : Limits) (r : Progress S) (t : ℕ) (from : S) (n : ℕ) (picked : IsPicked (MayAdvance code r.machine) None t)
-    → r.machine.now.threads t ≡ live from → MayAdvance code r.machine t → r.counted t + n ≤ limits.turns
+    → traced r.events ≡ None → r.machine.now.threads t ≡ live from → MayAdvance code r.machine t → r.counted t + n ≤ limits.turns
     → KeepsTurn code limits r (λ k. record { order = []; number = None }) t from n
-lowest_keeps {S} code limits r t from n picked begun may left = record {
+lowest_keeps {S} code limits r t from n picked untraced begun may left = record {
   gets = λ k l behind below step.
       let same = enabled_same code r.machine t from l (r.machine.silents t + k) begun may (step_silent code l behind step) in
       record {
@@ -166,6 +168,7 @@ lowest_keeps {S} code limits r t from n picked begun may left = record {
       };
   leaves = λ k l below. refl;
   left = left;
+  untraced = untraced;
 }
 
 -- who is picked is enabled

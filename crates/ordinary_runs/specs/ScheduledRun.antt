@@ -1,5 +1,5 @@
 -- A run of the ordinary machine that follows a schedule, and its outcome.
-use Rattle.std.specs.Prelude.{◌≡◌, ℕ, zero, suc, ◌<◌, ◌≤◌, Bool, None, Some, Option, List, [], map, length, All, if◌then◌else◌}
+use Rattle.std.specs.Prelude.{◌≡◌, ℕ, zero, suc, ◌<◌, ◌≤◌, Bool, true, false, None, Some, Option, List, [], map, length, All, if◌then◌else◌}
 use Rattle.std.specs.Option.{option_map}
 use Rattle.op_core.specs.declared.Limits.{Limits}
 use Rattle.op_core.specs.declared.How.{How}
@@ -15,15 +15,36 @@ use Rattle.schedules.specs.declared.order.TurnEnd.{TurnEnd}
 use Rattle.schedules.specs.declared.order.TurnEnd.TheVariants.{Other, Spent}
 use Rattle.schedules.specs.declared.order.Schedule.{Schedule}
 use Rattle.schedules.specs.Schedule.{order_after}
-use Rattle.schedules.specs.Run.{AreThose, Run, Follows, EndsBy, Goes}
+use Rattle.schedules.specs.Run.{AreThose, TurnSystem, Run, Follows, EndsBy, Goes}
 use Rattle.ordinary_machine.specs.Machine.{Machine}
 use Rattle.ordinary_runs.specs.declared.run.ScheduledRun.{ScheduledRun}
-use Rattle.ordinary_runs.specs.Turns.{Progress, machine_turns, progress_of}
+use Rattle.ordinary_runs.specs.Turns.{Progress, machine_turns, untraced_turns, progress_of}
 
--- at the beginning of a schedule no turn has counted, and no step was made; `keeps` says whether steps are kept
-abbrev pub begun_with : {S : Type 0} → Machine S → Schedule → Bool → Run (Progress S)
-begun_with m schedule keeps = record {
-  state = record { machine = m; counted = λ _. 0; events = if keeps then Some [] else None };
+-- what a run keeps of its steps: none of them; each, however many; or as many as a journal has room for, and then it ends
+pub data Keeping : Type 0 where
+  no_steps : Keeping
+  all_steps : Keeping
+  a_journal : Keeping
+
+abbrev pub keeps_steps : Keeping → Bool
+keeps_steps no_steps = false
+keeps_steps all_steps = true
+keeps_steps a_journal = true
+
+-- what is kept where a journal is asked for, or isn't
+abbrev pub keeping_for : Bool → Keeping
+keeping_for true = a_journal
+keeping_for false = no_steps
+
+abbrev pub turns_keeping : {S : Type 0} → Code S → Limits → Keeping → TurnSystem (Progress S)
+turns_keeping code limits all_steps = untraced_turns code limits
+turns_keeping code limits no_steps = machine_turns code limits
+turns_keeping code limits a_journal = machine_turns code limits
+
+-- at the beginning of a schedule no turn has counted, and no step was made
+abbrev pub begun_with : {S : Type 0} → Machine S → Schedule → Keeping → Run (Progress S)
+begun_with m schedule keeping = record {
+  state = record { machine = m; counted = λ _. 0; events = if keeps_steps keeping then Some [] else None };
   rest = record { order = schedule.order; number = schedule.seed };
 }
 
@@ -34,10 +55,10 @@ pub record AreEnds {S : Type 0} (s : OrdinaryState S) (ends : List ThreadEnd) : 
 
 -- What comes of a machine that follows a schedule under limits: the turns of some threads lead to the run's last state,
 -- where it ends as the outcome says. No section is opened on this machine.
-pub record IsOutcome {S : Type 0} (code : Code S) (m : Machine S) (schedule : Schedule) (limits : Limits) (keeps : Bool) (outcome : Outcome) : Type 0 where
+pub record IsOutcome {S : Type 0} (code : Code S) (m : Machine S) (schedule : Schedule) (limits : Limits) (keeping : Keeping) (outcome : Outcome) : Type 0 where
   pub threads : List ℕ
   pub last : Run (Progress S)
-  pub goes : Goes (machine_turns code limits) (begun_with m schedule keeps) threads outcome.how last
+  pub goes : Goes (turns_keeping code limits keeping) (begun_with m schedule keeping) threads outcome.how last
   pub lines : outcome.lines ≡ last.state.machine.now.lines
   pub ends : AreEnds last.state.machine.now outcome.ends
   pub opened : outcome.opened ≡ 0

@@ -1,9 +1,10 @@
 -- What gives turns here: the ordinary machine. A turn of a thread is one call of `advance`.
-use Rattle.std.specs.Prelude.{◌≡◌, ℕ, ◌+◌, ◌-◌, ◌<◌, ◌≤◌, ◌⊎◌, Bool, true, false, Option, None, Some, List, ◌++◌, slice_index}
+use Rattle.std.specs.Prelude.{◌≡◌, ℕ, ◌+◌, ◌-◌, ◌<◌, ◌≤◌, ◌⊎◌, Bool, true, false, Option, None, Some, List, ◌++◌, slice_get, slice_index}
 use Rattle.std.specs.Option.{option_map}
 use Rattle.op_core.specs.declared.Event.{Event}
 use Rattle.op_core.specs.declared.Limits.{Limits}
-use Rattle.op_core.specs.declared.Limit.TheVariants.{Turns}
+use Rattle.op_core.specs.declared.Limit.{Limit}
+use Rattle.op_core.specs.declared.Limit.TheVariants.{Turns, Trace}
 use Rattle.op_core.specs.ThreadCode.{Code}
 use Rattle.op_core.specs.OrdinaryState.{set_at, Thread, unused, live, ended}
 use Rattle.schedules.specs.declared.order.TurnEnd.{TurnEnd}
@@ -17,6 +18,7 @@ use Rattle.ordinary_machine.specs.Advance.{Advances, MayAdvance}
 use Rattle.ordinary_machine.specs.Laws.{event_of}
 use Rattle.ordinary_runs.specs.declared.counts.TurnCounts.{TurnCounts}
 use Rattle.ordinary_runs.specs.declared.turns.CountedMachine.{CountedMachine}
+use Rattle.ordinary_runs.specs.declared.turns.TheConstants.{MOST_EVENTS}
 
 -- how far a run has come
 pub record Progress (S : Type 0) : Type 0 where
@@ -69,16 +71,26 @@ pub record MakesTurn {S : Type 0} (code : Code S) (limits : Limits) (r : Progres
   pub counts : new.counted ≡ counted_after t answer r.counted
   pub kept : new.events ≡ events_after answer r.events
 
+-- The limit Trace, with the thread that met it: that of the last event for which a journal has room. Where no steps are
+-- kept it is never met.
+abbrev pub traced : Option (List Event) → Option (ℕ × Limit)
+traced None = None
+traced (Some events) = option_map (λ e. (e.thread, Trace)) (slice_get events (MOST_EVENTS - 1))
+
 -- The turns of the machine's threads under these limits. Which threads are enabled doesn't depend on the limits: one that
--- will meet a limit is. No turn that is made meets one.
+-- will meet a limit is. A turn that is made meets the limit Trace alone.
 abbrev pub machine_turns : {S : Type 0} → Code S → Limits → TurnSystem (Progress S)
 machine_turns code limits = record {
   live = λ r t. is_live (r.machine.now.threads t);
   enabled = λ r t. MayAdvance code r.machine t;
   ended = λ r t x. r.machine.now.threads t ≡ ended x;
   gives = λ r t end new. IsOutOfTurns limits r t end new ⊎ MakesTurn code limits r t end new;
-  stopped = λ r. None;
+  stopped = λ r. traced r.events;
 }
+
+-- the same turns, of which no number of kept steps is too many
+abbrev pub untraced_turns : {S : Type 0} → Code S → Limits → TurnSystem (Progress S)
+untraced_turns code limits = record (machine_turns code limits) { stopped = λ r. None }
 
 -- a turn is given to thread t where it is enabled, and where it isn't all stays as it is
 abbrev pub GivesIfEnabled : {S : Type 0} → Code S → Limits → Progress S → ℕ → Option TurnEnd → Progress S → Type 0

@@ -1,7 +1,7 @@
 //! Laws of scheduled runs for all thread codes, each as the contract of a function with no parameters and an empty
 //! body, for the crates above to cite.
 
-ghost use Rattle.ordinary_runs.specs.Laws.{RunsHaveOneOutcome, RunsHaveEvents, RunsAreExecutions, StuckRunsAreStuck};
+ghost use Rattle.ordinary_runs.specs.Laws.{RunsHaveOneOutcome, RunsHaveEvents, RunsFitJournals, RunsAreExecutions, StuckRunsAreStuck};
 
 use op_core::ThreadCode;
 
@@ -13,6 +13,11 @@ pub fn runs_have_one_outcome<C: ThreadCode>()
 /// A run of which no events were kept is the same with the events that its turns made.
 pub fn runs_have_events<C: ThreadCode>()
     ensures { RunsHaveEvents C.code }
+{}
+
+/// A run whose events are kept for a journal has at most 4,194,304 of them.
+pub fn runs_fit_journals<C: ThreadCode>()
+    ensures { RunsFitJournals C.code }
 {}
 
 /// The outcome of a run is that of an execution.

@@ -35,7 +35,7 @@ fn named_once(alloc: Global, lines: &Rows<Line>) -> Result<Vec<u32>, AllocError>
 }
 
 /// The texts of the machine's lines that the program made, as the machine now has them.
-pub(crate) fn made_texts<C: ThreadCode + Drop>(
+pub fn made_texts<C: ThreadCode + Drop>(
     alloc: Global,
     machine: &Ordinary<C>,
 ) -> Result<Rows<MadeText>, NoMemory>

@@ -5,8 +5,8 @@ ghost use Rattle.std.specs.Option.{option_map};
 ghost use Rattle.schedules.specs.Schedule.{thread_of, drawn, Rest};
 ghost use Rattle.schedules.specs.Run.{due_of};
 ghost use Rattle.ordinary_machine.specs.Machine.{machine_of};
-ghost use Rattle.ordinary_runs.specs.Turns.{progress_of, machine_turns};
-ghost use Rattle.ordinary_runs.specs.ScheduledRun.{begun_with, IsOutcome, run_of, CanGive, order_behind, how_at, GoesOnOrEnds};
+ghost use Rattle.ordinary_runs.specs.Turns.{traced, progress_of, machine_turns};
+ghost use Rattle.ordinary_runs.specs.ScheduledRun.{keeping_for, begun_with, IsOutcome, run_of, CanGive, order_behind, how_at, GoesOnOrEnds};
 
 use crate::turns::CountedMachine;
 use op_core::{Event, How, Limits, NoMemory, Outcome, Rows, ThreadCode};
@@ -69,7 +69,7 @@ impl<'a, C: ThreadCode + Drop> ScheduledRun<'a, C> {
         events: bool,
     ) -> Self
         ensures limits { result.turns.limits ≡ limits.now }
-        ensures run { run_of C.state result ≡ begun_with (machine_of C.state machine) schedule.now events }
+        ensures run { run_of C.state result ≡ begun_with (machine_of C.state machine) schedule.now (keeping_for events) }
     {
         ScheduledRun {
             turns: CountedMachine::new(machine, limits, no_events(alloc, events)),
@@ -80,6 +80,7 @@ impl<'a, C: ThreadCode + Drop> ScheduledRun<'a, C> {
 
     // Gives the thread of the first item, which is due, its next turn, or silent ones at once.
     fn give_ordered(&mut self, thread: u8) -> Result<Option<How>, NoMemory>
+        requires untraced { traced (progress_of C.state self.old.turns).events ≡ None }
         requires due { due_of (machine_turns C.code self.old.turns.limits) (run_of C.state self.old) ≡ self.old.rest }
         requires thread { Some thread ≡ option_map thread_of (slice_get self.old.rest.order 0) }
         ensures limits { self.new.turns.limits ≡ self.old.turns.limits }
@@ -101,7 +102,8 @@ impl<'a, C: ThreadCode + Drop> ScheduledRun<'a, C> {
 
     // Gives the thread that a number picks its next turn, whatever is left of the schedule that drew the number.
     fn give_drawn(&mut self, number: u64) -> Result<Option<How>, NoMemory>
-        requires { self.old.rest ≡ record { order = []; number = Some number } }
+        requires untraced { traced (progress_of C.state self.old.turns).events ≡ None }
+        requires rest { self.old.rest ≡ record { order = []; number = Some number } }
         ensures limits { self.new.turns.limits ≡ self.old.turns.limits }
         ensures goes { IfOk result (λ how. (rest : Rest) → rest.order ≡ [] → drawn rest.number ≡ Some number
             → GoesOnOrEnds C.code self.old.turns.limits (record { state = progress_of C.state self.old.turns; rest = rest }) how (run_of C.state self.new)) }
@@ -117,7 +119,8 @@ impl<'a, C: ThreadCode + Drop> ScheduledRun<'a, C> {
     // Gives the lowest enabled thread its silent turns at once, and the turn after them. To find that thread, each one
     // from 1 on is tried, so that no threads are listed.
     fn give_lowest(&mut self) -> Result<Option<How>, NoMemory>
-        requires { self.old.rest ≡ record { order = []; number = None } }
+        requires untraced { traced (progress_of C.state self.old.turns).events ≡ None }
+        requires rest { self.old.rest ≡ record { order = []; number = None } }
         ensures limits { self.new.turns.limits ≡ self.old.turns.limits }
         ensures goes { IfOk result (λ how. GoesOnOrEnds C.code self.old.turns.limits (run_of C.state self.old) how (run_of C.state self.new)) }
     {
@@ -138,7 +141,8 @@ impl<'a, C: ThreadCode + Drop> ScheduledRun<'a, C> {
     // Where the order is through, gives the thread that is picked its next turn. Where no number is drawn for each
     // turn, gives it its silent turns and the turn after them.
     fn give_picked(&mut self) -> Result<Option<How>, NoMemory>
-        requires { self.old.rest.order ≡ [] }
+        requires untraced { traced (progress_of C.state self.old.turns).events ≡ None }
+        requires order { self.old.rest.order ≡ [] }
         ensures limits { self.new.turns.limits ≡ self.old.turns.limits }
         ensures goes { IfOk result (λ how. GoesOnOrEnds C.code self.old.turns.limits (run_of C.state self.old) how (run_of C.state self.new)) }
     {
@@ -149,10 +153,14 @@ impl<'a, C: ThreadCode + Drop> ScheduledRun<'a, C> {
     }
 
     // Goes on by one turn or more, or says how the run ends.
+    #[tactic(auto, using(crate::proofs::RunLemmas::not_traced))]
     fn go_on(&mut self) -> Result<Option<How>, NoMemory>
         ensures limits { self.new.turns.limits ≡ self.old.turns.limits }
         ensures goes { IfOk result (λ how. GoesOnOrEnds C.code self.old.turns.limits (run_of C.state self.old) how (run_of C.state self.new)) }
     {
+        if let Some(how) = self.turns.traced() {
+            return Ok(Some(how));
+        }
         match self.rest.due(&self.turns) {
             Some(thread) => self.give_ordered(thread),
             None => self.give_picked(),
@@ -162,7 +170,8 @@ impl<'a, C: ThreadCode + Drop> ScheduledRun<'a, C> {
 
 /// Gives the machine's threads turns as the schedule says, under limits, until the run ends, and says what came of it.
 /// An item `Until` gives turns until its thread has to wait or comes to its end, since no step of this machine has a
-/// kind. `limits.sections` says nothing here. The outcome has the events where they are asked for.
+/// kind. `limits.sections` says nothing here. Where the events are asked for, the outcome has them, and the run ends after
+/// the turn that makes the 4,194,304th, by the limit Trace.
 pub fn run_picks<C: ThreadCode + Drop>(
     alloc: Global,
     machine: Ordinary<C>,
@@ -170,7 +179,7 @@ pub fn run_picks<C: ThreadCode + Drop>(
     limits: &Limits,
     events: bool,
 ) -> Result<Outcome, NoMemory>
-    ensures { IfOk result (λ outcome. IsOutcome C.code (machine_of C.state machine) schedule.now limits.now events outcome) }
+    ensures { IfOk result (λ outcome. IsOutcome C.code (machine_of C.state machine) schedule.now limits.now (keeping_for events) outcome) }
 {
     let mut run = ScheduledRun::new(alloc, machine, schedule, limits, events);
     loop {

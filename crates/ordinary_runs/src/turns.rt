@@ -2,6 +2,7 @@
 
 ghost use Rattle.std.specs.Prelude.{◌≡◌, ◌+◌, ◌<◌, ◌≤◌, ◌^◌, ℕ, true, false, [], ◌∷◌, ◌++◌, IfOk, IfSome, IfNone, OnOk, Some, None};
 ghost use Rattle.op_core.specs.declared.Limit.{Limit};
+ghost use Rattle.op_core.specs.declared.How.{How};
 ghost use Rattle.std.specs.Option.{option_map};
 ghost use Rattle.op_core.specs.OrdinaryState.{unused, ended};
 ghost use Rattle.op_core.specs.MadeTexts.{AreMadeTexts};
@@ -11,7 +12,7 @@ ghost use Rattle.ordinary_machine.specs.Advance.{MayAdvance, headway_of};
 ghost use Rattle.schedules.specs.declared.order.TurnEnd.{TurnEnd};
 ghost use Rattle.schedules.specs.Schedule.{Rest};
 ghost use Rattle.schedules.specs.Run.{AreThose, EndsBy};
-ghost use Rattle.ordinary_runs.specs.Turns.{count_in, progress_of, is_live, end_of, counted_after, events_after, machine_turns, IsSilentFor, MakesTurn, GivesIfEnabled};
+ghost use Rattle.ordinary_runs.specs.Turns.{count_in, traced, progress_of, is_live, end_of, counted_after, events_after, machine_turns, IsSilentFor, MakesTurn, GivesIfEnabled};
 ghost use Rattle.ordinary_runs.specs.ScheduledRun.{AreEnds};
 
 use crate::counts::TurnCounts;
@@ -20,6 +21,9 @@ use op_core::{Event, How, Limit, Limits, NoMemory, Outcome, Rows, ThreadCode, Th
 use ordinary_machine::{Advance, Headway, Ordinary};
 use schedules::{LiveThreads, TurnEnd};
 use std::alloc::Global;
+
+/// How many steps a journal has room for: a run that keeps its steps ends where it has made as many.
+pub const MOST_EVENTS: usize = 4_194_304;
 
 /// A machine whose threads are given turns, and what counts of them. Contracts see its `progress_of`.
 #[derive(Drop)]
@@ -297,9 +301,19 @@ impl<C: ThreadCode + Drop> CountedMachine<C> {
         Ok(ends)
     }
 
+    /// How a run ends at the limit of a journal, where its steps are kept and it has made as many.
+    pub(crate) fn traced(&self) -> Option<How>
+        ensures { result ≡ option_map (λ met. How.Limit met.0 met.1) (traced (progress_of C.state self.now).events) }
+    {
+        let events = self.events.as_ref()?;
+        let last = events.as_slice().get(MOST_EVENTS - 1)?;
+        Some(How::Limit(last.thread, Limit::Trace))
+    }
+
     /// How a run ends that has come this far, with its order through and no thread enabled.
     pub(crate) fn end(&self) -> How
-        requires { (t : ℕ) → MayAdvance C.code (progress_of C.state self.now).machine t → ⊥ }
+        requires untraced { traced (progress_of C.state self.now).events ≡ None }
+        requires blocked { (t : ℕ) → MayAdvance C.code (progress_of C.state self.now).machine t → ⊥ }
         ensures { (rest : Rest) → rest.order ≡ [] → EndsBy (machine_turns C.code self.now.limits) (record { state = progress_of C.state self.now; rest = rest }) result }
     {
         if self.has_live() {

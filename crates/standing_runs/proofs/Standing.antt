@@ -21,8 +21,9 @@ use Rattle.ordinary_machine.specs.declared.advance.Advance.{Advance}
 use Rattle.ordinary_machine.specs.declared.advance.Advance.TheVariants as advance
 use Rattle.ordinary_machine.specs.Advance.{Advances}
 use Rattle.ordinary_machine.specs.Machine.{Machine}
-use Rattle.ordinary_runs.specs.Turns.{Progress, machine_turns}
-use Rattle.ordinary_runs.proofs.LawLemmas.{stuck}
+use Rattle.ordinary_runs.specs.Turns.{Progress, untraced_turns}
+use Rattle.ordinary_runs.specs.ScheduledRun.{begun_with}
+use Rattle.ordinary_runs.proofs.LawLemmas.{kept_follows, stuck}
 use Rattle.standing_runs.specs.Standing.{OrderlyRunsEndStuck, RunsStandWhereTheyCan}
 
 -- what makes a silent step is silent
@@ -70,18 +71,19 @@ module _ {S : Type 0} (code : Code S) (first : S) where
   advance_stands m t limits advance.Ended new is stand = subst (λ (x : Machine S). AllCanStand code first x.now) (sym is.1) stand
   advance_stands m t limits (advance.Spent limit) new is stand = subst (λ (x : Machine S). AllCanStand code first x.now) (sym is.1) stand
 
-  turn_stands : (limits : Limits) (r : Progress S) (t : ℕ) (end : TurnEnd) (new : Progress S) → (machine_turns code limits).gives r t end new → AllCanStand code first r.machine.now → AllCanStand code first new.machine.now
+  turn_stands : (limits : Limits) (r : Progress S) (t : ℕ) (end : TurnEnd) (new : Progress S) → (untraced_turns code limits).gives r t end new → AllCanStand code first r.machine.now → AllCanStand code first new.machine.now
   turn_stands limits r t end new (inl out) stand = subst (λ (x : Progress S). AllCanStand code first x.machine.now) (sym out.same) stand
   turn_stands limits r t end new (inr turn) stand = advance_stands r.machine t limits turn.answer new.machine turn.advances stand
 
-  turns_stand : (limits : Limits) (ts : List ℕ) (run last : Run (Progress S)) → Follows (machine_turns code limits) run ts last → AllCanStand code first run.state.machine.now → AllCanStand code first last.state.machine.now
+  turns_stand : (limits : Limits) (ts : List ℕ) (run last : Run (Progress S)) → Follows (untraced_turns code limits) run ts last → AllCanStand code first run.state.machine.now → AllCanStand code first last.state.machine.now
   turns_stand limits [] run last same stand = subst (λ (x : Run (Progress S)). AllCanStand code first x.state.machine.now) (sym same) stand
   turns_stand limits (t ∷ ts) run last (end, next, turn, later) stand = turns_stand limits ts next last later (turn_stands limits run.state t end next.state turn.given stand)
 
 pub runs_stand : {S : Type 0} (code : Code S) → RunsStandWhereTheyCan code
-runs_stand code first m schedule limits keeps outcome ran stand = turns_stand code first limits ran.threads _ ran.last ran.goes.0 stand
+runs_stand code first m schedule limits keeping outcome ran stand =
+    turns_stand code first limits ran.threads (begun_with m schedule keeping) ran.last (kept_follows code limits keeping (begun_with m schedule keeping) ran.last ran.threads ran.goes.0) stand
 
 pub orderly_stuck : {S : Type 0} (code : Code S) → OrderlyRunsEndStuck code
-orderly_stuck code first classes m schedule limits keeps outcome orderly stand silents ran is =
-    stuck code m schedule limits keeps outcome ran silents is
-    (λ t halted. orderly.ends halted.place (runs_stand code first m schedule limits keeps outcome ran stand t halted.place halted.begun) halted.over)
+orderly_stuck code first classes m schedule limits keeping outcome orderly stand silents ran is =
+    stuck code m schedule limits keeping outcome ran silents is
+    (λ t halted. orderly.ends halted.place (runs_stand code first m schedule limits keeping outcome ran stand t halted.place halted.begun) halted.over)

@@ -1,5 +1,5 @@
 -- A reader goes on over the bytes of a text.
-use Rattle.std.proofs.Common.{◌≡◌, ℕ, suc, ◌+◌, ◌<◌, ◌≤◌, ◌==◌, ◌&&◌, Bool, true, false, not, nat_lt, cond, List, [], ◌∷◌, ◌++◌, length, take, get_or, Result, Ok, Err, refl, sym, ap, ◌∙◌, subst, arith, append-nil, append_assoc, add-one, inl, inr}
+use Rattle.std.proofs.Common.{◌≡◌, ℕ, suc, ◌+◌, ◌<◌, ◌≤◌, ◌==◌, ◌&&◌, Bool, true, false, not, nat_lt, cond, List, [], ◌∷◌, ◌++◌, length, take, get_or, Result, Ok, Err, refl, sym, ap, ◌∙◌, subst, arith, append-nil, append_assoc, length-append, add-one, inl, inr}
 use Rattle.std.proofs.lemmas.Bool.{lt-ltb, le-ltb, ltb-true, ltb-false, cases_Bool, and_parts, ne_eqb}
 use Rattle.std.proofs.lemmas.List.{take_all, take_more}
 use Rattle.trace_journal.specs.declared.item.JournalFault.{JournalFault}
@@ -77,6 +77,7 @@ pub line_feeds : (old new : JournalReader) (stage : Stage) (count events : ℕ) 
 line_feeds old new stage count events before after leads inside is_stage is_count is_events is_limits is_part is_left = record {
   added = leads.added;
   items = leads.items;
+  counts = is_count ∙ leads.counts;
   reads = λ more found h.
       let left : old.left ≡ suc new.left = is_left ∙ add-one new.left in
       let now : FromStage stage (nat_lt new.left (length more)) old.limits.items count events (lines_of (take new.left more)) found
@@ -86,10 +87,11 @@ line_feeds old new stage count events before after leads inside is_stage is_coun
 }
 
 -- no item is added
-no_items : (old new : JournalReader) (piece : List ℕ) (items : List JournalItem) → ((more : List ℕ) (found : Result Read JournalFault) → ReadsOn new more found → ReadsOn old (piece ++ more) found) → Feeds old new piece items items
-no_items old new piece items reads = record {
+no_items : (old new : JournalReader) (piece : List ℕ) (items : List JournalItem) → new.count ≡ old.count → ((more : List ℕ) (found : Result Read JournalFault) → ReadsOn new more found → ReadsOn old (piece ++ more) found) → Feeds old new piece items items
+no_items old new piece items same reads = record {
   added = [];
   items = sym (append-nil items);
+  counts = omega (arith, same);
   reads = λ more found h. subst (ReadsOn old (piece ++ more)) (sym (none_added found)) (reads more found h);
 }
 
@@ -97,7 +99,7 @@ no_items old new piece items reads = record {
 pub byte_feeds : (old new : JournalReader) (b : ℕ) (items : List JournalItem)
     → new.stage ≡ old.stage → new.count ≡ old.count → new.events ≡ old.events → new.limits ≡ old.limits → new.part.items ≡ old.part.items ++ b ∷ [] → old.left ≡ new.left + 1
     → Feeds old new (b ∷ []) items items
-byte_feeds old new b items is_stage is_count is_events is_limits is_part is_left = no_items old new (b ∷ []) items (λ more found h.
+byte_feeds old new b items is_stage is_count is_events is_limits is_part is_left = no_items old new (b ∷ []) items is_count (λ more found h.
     let left : old.left ≡ suc new.left = is_left ∙ add-one new.left in
     let bytes : new.part.items ++ take new.left more ≡ old.part.items ++ (b ∷ take new.left more) = ap (λ p. p ++ take new.left more) is_part ∙ append_assoc old.part.items (b ∷ []) (take new.left more) in
     let now : FromStage old.stage (nat_lt new.left (length more)) old.limits.items old.count old.events (lines_of (old.part.items ++ (b ∷ take new.left more))) found
@@ -115,8 +117,8 @@ past_reads (Closed version) most count events part found going e = (Err (TooMany
 past_reads (Failed fault) most count events part found going e = absurd (going fault refl)
 
 pub past_feeds : (old new : JournalReader) (b : ℕ) (items : List JournalItem) → ((fault : JournalFault) → old.stage ≡ Failed fault → ⊥) → is_inside old.part.items ≡ true
-    → old.left ≡ 0 → new.stage ≡ Failed (TooMany (line_in old.stage old.count)) → Feeds old new (b ∷ []) items items
-past_feeds old new b items going inside none is_stage = no_items old new (b ∷ []) items (λ more found h.
+    → old.left ≡ 0 → new.count ≡ old.count → new.stage ≡ Failed (TooMany (line_in old.stage old.count)) → Feeds old new (b ∷ []) items items
+past_feeds old new b items going inside none is_count is_stage = no_items old new (b ∷ []) items is_count (λ more found h.
     let e : found ≡ Err (TooMany (line_in old.stage old.count)) = subst (λ s. FromStage s (nat_lt new.left (length more)) new.limits.items new.count new.events (lines_of (new.part.items ++ take new.left more)) found) is_stage h in
     let now : FromStage old.stage true old.limits.items old.count old.events (record { ended = []; rest = old.part.items }) found = past_reads old.stage old.limits.items old.count old.events old.part.items found going e in
     let lines : lines_of (old.part.items ++ take 0 (b ∷ more)) ≡ record { ended = []; rest = old.part.items } = ap lines_of (append-nil old.part.items) ∙ line_goes_on old.part.items inside in
@@ -127,23 +129,24 @@ past_feeds old new b items going inside none is_stage = no_items old new (b ∷ 
 
 -- after a fault nothing is read
 pub failed_feeds : (reader : JournalReader) (piece : List ℕ) (items : List JournalItem) (fault : JournalFault) → reader.stage ≡ Failed fault → Feeds reader reader piece items items
-failed_feeds reader piece items fault is = no_items reader reader piece items (λ more found h.
+failed_feeds reader piece items fault is = no_items reader reader piece items refl (λ more found h.
     let e : found ≡ Err fault = subst (λ s. FromStage s (nat_lt reader.left (length more)) reader.limits.items reader.count reader.events (lines_of (reader.part.items ++ take reader.left more)) found) is h in
     subst (λ s. FromStage s (nat_lt reader.left (length (piece ++ more))) reader.limits.items reader.count reader.events (lines_of (reader.part.items ++ take reader.left (piece ++ more))) found) (sym is) e)
 
 -- pieces
 
-twice : (xs ys : List JournalItem) (found : Result Read JournalFault) → with_items xs (with_items ys found) ≡ with_items (xs ++ ys) found
+pub twice : (xs ys : List JournalItem) (found : Result Read JournalFault) → with_items xs (with_items ys found) ≡ with_items (xs ++ ys) found
 twice xs ys (Ok read) = ap (λ items. Ok (record { version = read.version; items = items })) (sym (append_assoc xs ys read.items))
 twice xs ys (Err fault) = refl
 
 pub nothing_feeds : (reader : JournalReader) (items : List JournalItem) → Feeds reader reader [] items items
-nothing_feeds reader items = no_items reader reader [] items (λ more found h. h)
+nothing_feeds reader items = no_items reader reader [] items refl (λ more found h. h)
 
 pub joined_feeds : (a b c : JournalReader) (p q : List ℕ) (xs ys zs : List JournalItem) → Feeds a b p xs ys → Feeds b c q ys zs → Feeds a c (p ++ q) xs zs
 joined_feeds a b c p q xs ys zs f g = record {
   added = f.added ++ g.added;
   items = g.items ∙ ap (λ l. l ++ g.added) f.items ∙ append_assoc xs f.added g.added;
+  counts = let first = f.counts in let later = g.counts in let long = length-append f.added g.added in omega (arith, first, later, long);
   reads = λ more found h.
       subst (λ x. x) (λ i. ReadsOn a (sym (append_assoc p q more) i) (twice f.added g.added found i)) (f.reads (q ++ more) (with_items g.added found) (g.reads more found h));
 }

@@ -6,3 +6,6 @@ pub mod FeedLemmas
 pub mod LawLemmas
 pub mod JournalLemmas
 pub mod WritingLemmas
+pub mod LengthLemmas
+pub mod LinesLemmas
+pub mod NewestLemmas

@@ -36,6 +36,7 @@ no_more : {most : ℕ} {line : List ℕ} {old new : Stage} {count events : ℕ} 
 no_more {most} {line} {old} {new} {count} {events} items reads = record {
   added = [];
   items = sym (append-nil items);
+  counts = omega arith;
   reads = λ past lines found h. subst (FromStage old past most count events (record { ended = line ∷ lines.ended; rest = lines.rest })) (sym (none_added found)) (reads past lines found h);
 }
 
@@ -50,10 +51,10 @@ no_head : (most : ℕ) (line : List ℕ) (items : List JournalItem) → ((number
 no_head most line items wrong = no_more items (λ past lines found e. inr (inr (wrong, e)))
 
 -- digits alone name the versions that are read
-version_1 : decimal 1 ≡ 49 ∷ []
+pub version_1 : decimal 1 ≡ 49 ∷ []
 version_1 = decimal_digit 1 (omega arith)
 
-version_2 : decimal 2 ≡ 50 ∷ []
+pub version_2 : decimal 2 ≡ 50 ∷ []
 version_2 = decimal_digit 2 (omega arith)
 
 abbrev head_stage : Heads → Stage
@@ -164,6 +165,7 @@ pub one_more : (most : ℕ) (line : List ℕ) (version count events count' event
 one_more most line version count events count' events' item before after says few one more is = record {
   added = item ∷ [];
   items = is;
+  counts = one;
   reads = λ past lines found h.
       let fits : nat_lt count most ≡ true = lt-ltb count most few in
       let read : AreRead past version most (count + 1) (events_with events item) lines.ended lines.rest h.0 = subst (λ c. AreRead past version most c (events_with events item) lines.ended lines.rest h.0) one (subst (λ e. AreRead past version most count' e lines.ended lines.rest h.0) more h.1) in

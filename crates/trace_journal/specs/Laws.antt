@@ -2,7 +2,9 @@
 use Rattle.std.specs.Prelude.{◌≡◌, ℕ, ◌<◌, ◌≤◌, ◌^◌, List, length, Result, Ok}
 use Rattle.std.specs.List.{AllByRecursion}
 use Rattle.trace_journal.specs.declared.item.JournalFault.{JournalFault}
+use Rattle.trace_journal.specs.declared.item.JournalItem.{JournalItem}
 use Rattle.trace_journal.specs.declared.item.JournalLimits.{JournalLimits}
+use Rattle.trace_journal.specs.declared.item.TheConstants.{LARGEST}
 use Rattle.trace_journal.specs.Spelling.{IsItem}
 use Rattle.trace_journal.specs.Text.{text_of}
 use Rattle.trace_journal.specs.Reading.{Read, IsKnown, IsRead}
@@ -20,3 +22,7 @@ ReadingsAreJournals = (limits : JournalLimits) (text : List ℕ) (read : Read) �
 abbrev pub JournalsReadBack : Type 0
 JournalsReadBack = (limits : JournalLimits) (read : Read) → limits.items < 2 ^ 32 → IsKnown read.version → AllByRecursion (IsItem read.version) read.items
     → length read.items ≤ limits.items → length (text_of read.version read.items) ≤ limits.bytes → IsRead limits (text_of read.version read.items) (Ok read)
+
+-- A journal has at most as many bytes as a text may have, if it has at most as many events and undos.
+abbrev pub JournalsFit : Type 0
+JournalsFit = (version : ℕ) (items : List JournalItem) → IsKnown version → AllByRecursion (IsItem version) items → length items ≤ LARGEST.items → length (text_of version items) ≤ LARGEST.bytes

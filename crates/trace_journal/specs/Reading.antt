@@ -15,6 +15,12 @@ use Rattle.trace_journal.specs.declared.item.TheConstants.{LARGEST}
 use Rattle.trace_journal.specs.Spelling.{Says, joined, head_line, end_line}
 use Rattle.trace_journal.specs.Text.{lines_of, events_in, undos_in, places_in}
 
+-- the line that shows a fault
+abbrev pub line_of : JournalFault → ℕ
+line_of (Line n) = n
+line_of Version = 1
+line_of (TooMany n) = n
+
 -- a journal that was read
 pub record Read : Type 0 where
   pub version : ℕ

@@ -1,5 +1,8 @@
 //! What the lines of a journal say.
 
+ghost use Rattle.std.specs.Prelude.{◌≡◌};
+ghost use Rattle.trace_journal.specs.Reading.{line_of};
+
 use op_core::{Event, NoMemory, Op, Reply, Rows, Undo};
 
 /// What a line between the first and the last says.
@@ -36,6 +39,18 @@ pub enum JournalFault {
     Version,
     /// The line is one more than a journal may have, or has the byte that is one more.
     TooMany(u32),
+}
+
+impl JournalFault {
+    /// The line that shows the fault.
+    pub fn line(&self) -> u32
+        ensures { result ≡ line_of self.now }
+    {
+        match self {
+            JournalFault::Line(line) | JournalFault::TooMany(line) => *line,
+            JournalFault::Version => 1,
+        }
+    }
 }
 
 /// How large a journal may be.

@@ -42,7 +42,8 @@ impl JournalReader {
     /// Before the first byte of a text. The limit of items must be at most 4,194,304. Takes no memory.
     pub fn new(alloc: Global, limits: JournalLimits) -> Self
         requires { limits.items ≤ 4194304 }
-        ensures { (text : List ℕ) (found : Result Read JournalFault) → ReadsOn result text found → IsRead limits text found }
+        ensures reads { (text : List ℕ) (found : Result Read JournalFault) → ReadsOn result text found → IsRead limits text found }
+        ensures none { result.count ≡ 0 }
     {
         JournalReader {
             limits,
@@ -52,6 +53,13 @@ impl JournalReader {
             part: Vec::new(alloc),
             left: limits.bytes,
         }
+    }
+
+    /// How many events and undos it has read. The next one is in line `items() + 2`.
+    pub fn items(&self) -> u32
+        ensures { result ≡ self.now.count }
+    {
+        self.count
     }
 
     // Counts an item, and puts it after the others.

@@ -1,9 +1,6 @@
 //! Lines of a journal, spelled.
 
 ghost use Rattle.std.specs.Prelude.{◌≡◌, ◌++◌, OnOk, string_bytes};
-ghost use Rattle.op_core.specs.declared.Event.{Event};
-ghost use Rattle.op_core.specs.Replies.{Fits};
-ghost use Rattle.trace_journal.specs.declared.item.JournalItem.TheVariants.{Event as event_item};
 ghost use Rattle.trace_journal.specs.Spelling.{spelled, event_line, head_line, end_line};
 
 use crate::JournalItem;
@@ -11,9 +8,8 @@ use op_core::{Event, Op, Reply};
 use std::alloc::AllocError;
 use std::fmt::Write;
 
-// The line of an event whose reply fits its operation.
+// The line of an event.
 fn push_event(line: &mut String, event: &Event) -> Result<(), AllocError>
-    requires { Fits event.now.op event.now.reply }
     ensures { OnOk result (string_bytes line.new ≡ string_bytes line.old ++ event_line event.now) }
 {
     let t = event.thread;
@@ -42,14 +38,13 @@ fn push_event(line: &mut String, event: &Event) -> Result<(), AllocError>
         (Op::InitDone(c, false), Reply::Done) => write!(line, "{t} {n} done {c} bad"),
         (Op::End(None), Reply::Done) => write!(line, "{t} {n} end"),
         (Op::End(Some(c)), Reply::Done) => write!(line, "{t} {n} died {c}"),
-        _ => Ok(()),
+        _ => write!(line, "{t} {n} "),
     }
 }
 
-/// Puts what a line says at the end of a text, without the byte 10 that ends it. The reply of an event has to fit its
-/// operation. After an error part of the line may be there.
+/// Puts what a line says at the end of a text, without the byte 10 that ends it. Of an event whose reply doesn't fit its
+/// operation it puts the two numbers alone. After an error part of the line may be there.
 pub fn push_item(line: &mut String, item: &JournalItem) -> Result<(), AllocError>
-    requires { (e : Event) → item.now ≡ event_item e → Fits e.op e.reply }
     ensures { OnOk result (string_bytes line.new ≡ string_bytes line.old ++ spelled item.now) }
 {
     match item {

@@ -32,10 +32,10 @@ module _ (us : List ClassUnit) (main : MethodId) where
       by_number false is = cc
 
   pub stuck_wait : (order : List ℕ) → IsSound us order → first_free (program_names us) ≤ 2 ^ 32 → IsMainMethod us main → StuckRunsWait us main
-  stuck_wait order sound room is schedule limits keeps outcome ran how =
+  stuck_wait order sound room is schedule limits keeping outcome ran how =
       let orderly : IsOrderly java_code (first_state us main) (suc (length (classes_of us))) = go_in_order us order main (suc (length (classes_of us))) sound is (omega arith) in
       let fit : RunsFit us (start_of_program us main) = runs_fit us order main sound room is in
-      let (events, kept, (last, leads, stuck), lines) = orderly_stuck java_code (first_state us main) (suc (length (classes_of us))) (start_of (opening_of us) (first_state us main)) schedule limits keeps outcome orderly one_stands refl ran how in (
+      let (events, kept, (last, leads, stuck), lines) = orderly_stuck java_code (first_state us main) (suc (length (classes_of us))) (start_of (opening_of us) (first_state us main)) schedule limits keeping outcome orderly one_stands refl ran how in (
         events,
         kept,
         record {

@@ -1,5 +1,5 @@
 -- What a stuck run of a program is.
-use Rattle.std.specs.Prelude.{◌≡◌, ℕ, Bool, Some, None, List, if◌then◌else◌}
+use Rattle.std.specs.Prelude.{◌≡◌, ℕ, Some, None, List, if◌then◌else◌}
 use Rattle.code_decode.specs.declared.code.ClassUnit.{ClassUnit}
 use Rattle.link_types.specs.declared.operands.MethodId.{MethodId}
 use Rattle.op_core.specs.declared.Event.{Event}
@@ -10,7 +10,7 @@ use Rattle.op_core.specs.Execution.{Leads, printed}
 use Rattle.op_core.specs.OrdinaryState.{OrdinaryState, live}
 use Rattle.schedules.specs.declared.order.Schedule.{Schedule}
 use Rattle.ordinary_machine.specs.Start.{start_of}
-use Rattle.ordinary_runs.specs.ScheduledRun.{IsOutcome}
+use Rattle.ordinary_runs.specs.ScheduledRun.{Keeping, keeps_steps, IsOutcome}
 use Rattle.java_rows.specs.Start.{opening_of, start_of_program}
 use Rattle.java_rows.specs.Thread.{Local, first_state, java_code}
 use Rattle.java_sound.specs.Sound.{WaitsAt}
@@ -24,7 +24,7 @@ pub record EndsWaiting (us : List ClassUnit) (main : MethodId) (events : List Ev
 
 -- a run of the program that is stuck ends so, and prints the lines of these events: those of the outcome, where they were kept
 abbrev pub StuckRunsWait : List ClassUnit → MethodId → Type 0
-StuckRunsWait us main = (schedule : Schedule) (limits : Limits) (keeps : Bool) (outcome : Outcome)
-    → IsOutcome java_code (start_of (opening_of us) (first_state us main)) schedule limits keeps outcome → outcome.how ≡ Stuck
-    → (events : List Event) × (outcome.events ≡ (if keeps then Some events else None))
+StuckRunsWait us main = (schedule : Schedule) (limits : Limits) (keeping : Keeping) (outcome : Outcome)
+    → IsOutcome java_code (start_of (opening_of us) (first_state us main)) schedule limits keeping outcome → outcome.how ≡ Stuck
+    → (events : List Event) × (outcome.events ≡ (if keeps_steps keeping then Some events else None))
     × EndsWaiting us main events × (outcome.lines ≡ printed events)

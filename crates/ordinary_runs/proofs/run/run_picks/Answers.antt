@@ -1,7 +1,7 @@
 use Rattle.std.proofs.Common.{[], ◌∙◌, subst}
 use Rattle.op_core.specs.declared.Limits.{Limits}
 use Rattle.ordinary_machine.specs.Machine.{machine_of}
-use Rattle.ordinary_runs.specs.ScheduledRun.{begun_with, run_of, GoesOn, GoesOnOrEnds}
+use Rattle.ordinary_runs.specs.ScheduledRun.{keeping_for, begun_with, run_of, GoesOn, GoesOnOrEnds}
 use Rattle.ordinary_runs.proofs.TurnLemmas.{goes_less}
 use Rattle.ordinary_runs.proofs.RunLemmas.{outcome_of, goes_further}
 use Rattle.ordinary_runs.proofs.run.run_picks.Goals as goal
@@ -44,5 +44,5 @@ loop-run-preserved g c =
     let on : GoesOn code limits run next = subst (λ how. GoesOnOrEnds code limits run how next) c.in_default.is goes in
     record {
       limits = c.in_ok-how.ensures.limits ∙ c.loop-run.invariant.limits;
-      follows = goes_further code limits (begun_with (machine_of state c.args.machine) c.args.schedule.now c.args.events) run next c.loop-run.invariant.follows on;
+      follows = goes_further code limits (begun_with (machine_of state c.args.machine) c.args.schedule.now (keeping_for c.args.events)) run next c.loop-run.invariant.follows on;
     }

@@ -35,4 +35,4 @@ returns-clause-goes g c =
     λ rest through draws.
     subst (λ how. GoesOnOrEnds g.C.ThreadCode.code now.turns.limits (record { state = progress_of state now.turns; rest = rest }) how (run_of state (record { turns = c.turn.new.self; rest = now.rest; enabled = now.enabled }))) (sym c.how_at.ensures)
     (picked_came g.C.ThreadCode.code now.turns.limits (progress_of state now.turns) (progress_of state c.turn.new.self) rest now.rest number t c.in_ok-end.end
-    through (sym draws) picked below c.in_ok-end.ensures.gives c.requires)
+    c.requires.untraced through (sym draws) picked below c.in_ok-end.ensures.gives c.requires.rest)

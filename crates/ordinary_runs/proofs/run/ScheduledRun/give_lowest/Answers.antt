@@ -4,7 +4,7 @@ use Rattle.schedules.specs.Schedule.{Rest}
 use Rattle.schedules.specs.Run.{Run, EndsBy}
 use Rattle.ordinary_machine.specs.Machine.{Machine, machine_of}
 use Rattle.ordinary_machine.specs.Advance.{MayAdvance}
-use Rattle.ordinary_runs.specs.Turns.{Progress, progress_of, machine_turns, GivesIfEnabled}
+use Rattle.ordinary_runs.specs.Turns.{Progress, traced, progress_of, machine_turns, GivesIfEnabled}
 use Rattle.ordinary_runs.specs.ScheduledRun.{run_of, GoesOnOrEnds}
 use Rattle.ordinary_runs.proofs.RunLemmas.{begun_within}
 use Rattle.ordinary_runs.proofs.LowestLemmas.{none_below_1, lowest_made, lowest_passed, lowest_came, stands_so}
@@ -28,8 +28,9 @@ returns-then-made-gt0-clause-goes g c =
     let end = c.in_ok-end.end in
     let gives = subst (λ (l : Limits). GivesIfEnabled code l (progress_of state y) t end (progress_of state z)) c.run_silent-made.ensures.limits c.in_ok-end.ensures.gives in
     let below : t < 256 = search rules in
-    stands_so code x.limits c.args.self.now.turns.limits (run_of state c.args.self.now) (progress_of state x) (progress_of state z) c.loop-number.self.rest None c.loop-number.invariant.limits c.loop-number.invariant.same c.requires
-    (lowest_made code state x.limits x y z t c.run_silent-made.result end below c.loop-number.invariant.none c.if-made-gt0.true c.run_silent-made.ensures.silent gives)
+    let untraced = ap (λ (run : Run (Progress g.C.ThreadCode.State)). traced run.state.events) c.loop-number.invariant.same ∙ c.requires.untraced in
+    stands_so code x.limits c.args.self.now.turns.limits (run_of state c.args.self.now) (progress_of state x) (progress_of state z) c.loop-number.self.rest None c.loop-number.invariant.limits c.loop-number.invariant.same c.requires.rest
+    (lowest_made code state x.limits x y z t c.run_silent-made.result end untraced below c.loop-number.invariant.none c.if-made-gt0.true c.run_silent-made.ensures.silent gives)
 
 pub returns-in-Some-clause-goes : goal.returns-in-Some-clause-goes
 returns-in-Some-clause-goes g c =
@@ -42,9 +43,10 @@ returns-in-Some-clause-goes g c =
     let end = c.in_ok-end.end in
     let gives = subst (λ (l : Limits). GivesIfEnabled code l (progress_of state y) t end (progress_of state z)) c.run_silent-made.ensures.limits c.in_ok-end.ensures.gives in
     let below : t < 256 = search rules in
+    let untraced = ap (λ (run : Run (Progress g.C.ThreadCode.State)). traced run.state.events) c.loop-number.invariant.same ∙ c.requires.untraced in
     subst (λ how. GoesOnOrEnds code c.args.self.now.turns.limits (run_of state c.args.self.now) how (run_of state (record { turns = z; rest = c.loop-number.self.rest; enabled = c.loop-number.self.enabled }))) (sym c.how_at.ensures)
-    (stands_so code x.limits c.args.self.now.turns.limits (run_of state c.args.self.now) (progress_of state x) (progress_of state z) c.loop-number.self.rest _ c.loop-number.invariant.limits c.loop-number.invariant.same c.requires
-    (lowest_came code state x.limits x y z t c.run_silent-made.result c.if-made-gt0.false c.run_silent-made.ensures.silent end c.in-Some.end below c.loop-number.invariant.none gives c.in-Some.is))
+    (stands_so code x.limits c.args.self.now.turns.limits (run_of state c.args.self.now) (progress_of state x) (progress_of state z) c.loop-number.self.rest _ c.loop-number.invariant.limits c.loop-number.invariant.same c.requires.rest
+    (lowest_came code state x.limits x y z t c.run_silent-made.result c.if-made-gt0.false c.run_silent-made.ensures.silent end c.in-Some.end untraced below c.loop-number.invariant.none gives c.in-Some.is))
 
 pub loop-number-preserved : goal.loop-number-preserved
 loop-number-preserved g c =
@@ -63,8 +65,11 @@ loop-number-preserved g c =
       none = passed.1;
     }
 
-pub end-requires : goal.end-requires
-end-requires g c = λ t may.
+pub end-requires-clause-untraced : goal.end-requires-clause-untraced
+end-requires-clause-untraced g c = ap (λ (run : Run (Progress g.C.ThreadCode.State)). traced run.state.events) c.loop-number.invariant.same ∙ c.requires.untraced
+
+pub end-requires-clause-blocked : goal.end-requires-clause-blocked
+end-requires-clause-blocked g c = λ t may.
     let state = g.C.ThreadCode.state in
     let code = g.C.ThreadCode.code in
     let before : Machine g.C.ThreadCode.State = machine_of state c.args.self.now.turns.machine in
@@ -78,7 +83,7 @@ returns-clause-goes g c =
     let state = g.C.ThreadCode.state in
     let code = g.C.ThreadCode.code in
     let same = c.loop-number.invariant.same in
-    let through = ap (λ (run : Run (Progress g.C.ThreadCode.State)). run.rest.order) same ∙ ap (λ (rest : Rest). rest.order) c.requires in
+    let through = ap (λ (run : Run (Progress g.C.ThreadCode.State)). run.rest.order) same ∙ ap (λ (rest : Rest). rest.order) c.requires.rest in
     let ends = c.end.ensures c.loop-number.self.rest through in (
       subst (λ (limits : Limits). EndsBy (machine_turns code limits) (run_of state c.args.self.now) c.end.result) c.loop-number.invariant.limits
           (subst (λ (run : Run (Progress g.C.ThreadCode.State)). EndsBy (machine_turns code c.loop-number.self.turns.limits) run c.end.result) same ends),
