@@ -32,7 +32,7 @@ use Rattle.run_monitors.proofs.StageLemmas.{fixed_at, undoes_none, scan_holds, w
 use Rattle.run_monitors.proofs.ChangeLemmas.{Ground}
 use Rattle.agreed_monitors.specs.Agreed.{AgreesOnMonitors}
 
--- what others are told agrees
+-- what others see agrees
 abbrev pub ToldAgrees : (ℕ → Monitor) → (ℕ → Monitor) → ℕ → Told → Next → Type 0
 ToldAgrees monitors settled t (advanced (Some reply)) (Want op) = AgreesOnMonitors monitors settled t op reply
 ToldAgrees monitors settled t told next = Unit {0}

@@ -246,7 +246,7 @@ module _ {S : Type 0} (code : Code S) (b : Bounds) (is_thread : ℕ → Bool) (f
       },
     )
 
-  -- ---- a thread notes that it is about to wait
+  -- ---- a thread records that it is about to wait
 
   module _ {r : ℕ} (act : Does (Want (Wait r)) (SetWait th.number (wait_word_of (Waiting r))) StepAnswer.Done (goes (Fixed (Release r)))) where
     abbrev notes : Step

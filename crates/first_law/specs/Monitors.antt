@@ -55,7 +55,7 @@ abbrev pub WaitWordSays : Next → ℕ → Type 0
 WaitWordSays (Want (Rewake r)) w = (wait_object w ≡ r) × ((wait_state w ≡ 1) ⊎ (wait_state w ≡ 2))
 WaitWordSays next w = Unit {0}
 
--- What a fixed step has seen of wait words: that the own thread was notified, that it is noted as waiting, or that a notify
+-- What a fixed step has seen of wait words: that the own thread was notified, that it is recorded as waiting, or that a notify
 -- has passed no thread that waits, and found one that does.
 abbrev pub FixedWaits : {S : Type 0} → Core S → ℕ → Next → Step → Type 0
 FixedWaits c t (Want (Rewake r)) (TakeMonitor q new) = is_notified_for r (c.words (Area.Wait t)) ≡ true

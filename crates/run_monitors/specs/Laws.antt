@@ -41,7 +41,7 @@ UndoingsFit {S} code = (b : Bounds) (first : S) (classes : ℕ) (c : ℕ → Cor
     → (k t w : ℕ) (th : ThreadState S) → k ≤ length acts → (c k).threads t ≡ Some th → th.attempt ≡ Undoing w
     → HeldFits (mark_of th (revoke_of w)) (revoke_of w) th.held × (th.section < 2 ^ 32)
 
--- As it notes the level undone it holds exactly the monitors that the mark names, in their order, each as often as then.
+-- As it marks the level as undone it holds exactly the monitors that the mark names, in their order, each as often as then.
 abbrev pub UndoneMonitorsAreAsBefore : {S : Type 0} → Code S → Type 0
 UndoneMonitorsAreAsBefore {S} code = (b : Bounds) (first : S) (classes : ℕ) (c : ℕ → Core S) (acts : List Act) → IsMonitorRun code b first classes c acts
     → (k t s w seen : ℕ) (th : ThreadState S) → slice_get acts k ≡ Some (did t (MarkUndone s w) Done) → (c k).threads t ≡ Some th → th.attempt ≡ Undoing seen

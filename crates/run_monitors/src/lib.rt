@@ -23,7 +23,7 @@ pub fn undoings_fit<C: ThreadCode>()
     ensures { UndoingsFit C.code }
 {}
 
-/// As a thread notes a level undone it holds exactly the monitors that it held as the level opened, each as often.
+/// As a thread marks a level as undone it holds exactly the monitors that it held as the level opened, each as often.
 pub fn undone_monitors_are_as_before<C: ThreadCode>()
     ensures { UndoneMonitorsAreAsBefore C.code }
 {}

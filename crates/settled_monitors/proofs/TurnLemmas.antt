@@ -60,7 +60,7 @@ pub data Leaves {S : Type 0} (t : ℕ) (next : Next) (x : ThreadState S) (told :
   of_last : x.attempt ≡ Fixed (Release r) → next ≡ Want (Exit r) → without r x.held ≡ [] → Sees t told next x.depth r (owned_by t (held_as r x.held).depth) free → Leaves t next x told r
   of_undoing : (w : ℕ) → x.attempt ≡ Undoing w → revoke_of w ≤ (held_as r x.held).level → Unseen t told next → Leaves t next x told r
 
--- Thread t, which is x, does this next and makes the step as act number k, which tells this. Its levels go from the first
+-- Thread t, which is x, does this next and makes the step as act number k, which reports this. Its levels go from the first
 -- list to the second. Then it holds these monitors, has these marks, and has a level open or not.
 pub data MonitorTurn {S : Type 0} (k t : ℕ) (next : Next) (x : ThreadState S) (behind : List Held) (marks : List Mark) (open_then : Bool) (told : Told) (levels levels_then : List ℕ) (step : Step) : Type 0 where
   calm : behind ≡ x.held → levels_then ≡ levels → (marks ≡ x.marks) ⊎ (open_then ≡ false) → Unseen t told next → MonitorTurn k t next x behind marks open_then told levels levels_then step
