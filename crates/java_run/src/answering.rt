@@ -7,7 +7,7 @@ ghost use Rattle.java_run.specs.Run as spec;
 
 use java_machine::{MadeLines, World, died_line, limit_line, line_bytes};
 use op_core::{How, Line, MadeText, NoMemory, Outcome, ThreadEnd};
-use program_answers::{Answer, Status};
+use program_answers::{Answer, Output, Status};
 use rows::{Bytes, Rows};
 use std::alloc::Global;
 
@@ -95,7 +95,7 @@ pub fn answer_of(alloc: Global, world: &World, outcome: &Outcome) -> Result<Answ
     push_how(alloc, &mut err, outcome.how)?;
     Ok(Answer {
         status: status_of(outcome.how),
-        out,
+        out: Output::from_pieces(out),
         err,
     })
 }

@@ -6,7 +6,7 @@ ghost use Rattle.program_answers.specs.Written.{line};
 ghost use Rattle.jrev_top.specs.Answers as answers;
 
 use program_accept::{Refusal, Stage};
-use program_answers::{Answer, Status};
+use program_answers::{Answer, Output, Status};
 use rows::{Bytes, Rows};
 use std::alloc::{AllocError, Global};
 
@@ -24,7 +24,7 @@ pub(crate) fn given(alloc: Global, bytes: Bytes) -> Result<Answer, AllocError>
 {
     Ok(Answer {
         status: Status::Done,
-        out: one_piece(alloc, bytes)?,
+        out: Output::from_pieces(one_piece(alloc, bytes)?),
         err: Rows::new(alloc),
     })
 }
@@ -43,7 +43,7 @@ fn told(alloc: Global, status: Status, text: Vec<u8>) -> Result<Answer, AllocErr
     let line = line_of(text)?;
     Ok(Answer {
         status,
-        out: Rows::new(alloc),
+        out: Output::from_pieces(Rows::new(alloc)),
         err: one_piece(alloc, line)?,
     })
 }

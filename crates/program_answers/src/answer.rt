@@ -1,5 +1,6 @@
 //! What the program answers: its status, and what goes to its outputs.
 
+use crate::output::Output;
 use crate::status::Status;
 use rows::{Bytes, Rows};
 
@@ -7,8 +8,8 @@ use rows::{Bytes, Rows};
 #[derive(Drop)]
 pub struct Answer {
     pub status: Status,
-    /// What goes to the standard output, a put for each: lines with their ends, or bytes in one piece.
-    pub out: Rows<Bytes>,
+    /// What goes to the standard output.
+    pub out: Output,
     /// The lines that go to the standard error, with their ends.
     pub err: Rows<Bytes>,
 }

@@ -2,9 +2,11 @@
 #![tactic(auto)]
 
 mod answer;
+mod output;
 mod status;
 mod writing;
 
 pub use answer::Answer;
+pub use output::Output;
 pub use status::Status;
 pub use writing::{report, say, say_fault};

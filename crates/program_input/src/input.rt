@@ -7,7 +7,7 @@ use jr_ports::{Source, SourceFault};
 use std::alloc::Global;
 
 /// How many bytes are asked for at once.
-const PIECE: usize = 65_536;
+pub(crate) const PIECE: usize = 65_536;
 
 /// The bytes of a source up to its end, or the first `most` of them, asked for piece by piece and no further, also
 /// where that fails. After an error nothing is said of the bytes.
