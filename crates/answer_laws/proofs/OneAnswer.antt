@@ -1,9 +1,10 @@
 -- A request has one answer over what a folder and an input hold.
-use Rattle.std.proofs.Common.{◌≡◌, inl, inr, ℕ, true, List, take, length, Option, Some, None, IfSome, Result, Ok, Err, refl, sym, ◌∙◌, ap, subst}
+use Rattle.std.proofs.Common.{◌≡◌, inl, inr, ℕ, List, take, length, Option, Some, None, IfSome, Result, Ok, Err, refl, sym, ◌∙◌, ap, subst}
 use Rattle.std.specs.List.Sorted.{IsPermutation}
 use Rattle.op_core.specs.declared.Limits.{Limits}
 use Rattle.op_core.specs.declared.Outcome.{Outcome}
 use Rattle.schedules.specs.declared.order.Schedule.{Schedule}
+use Rattle.ordinary_runs.specs.ScheduledRun.{all_steps}
 use Rattle.ordinary_runs.proofs.LawLemmas.{one_outcome}
 use Rattle.java_rows.specs.Thread.{java_code}
 use Rattle.java_run.specs.Run.{IsRunOf, answer_of, machine_at_start}
@@ -37,7 +38,7 @@ counts_once count program answer other one two = two ∙ sym one
 
 runs_once : (schedule : Schedule) (limits : Limits) → AnswersOnce (Runs schedule limits)
 runs_once schedule limits count program answer other one two =
-    let outcomes : two.outcome ≡ one.outcome = one_outcome java_code (machine_at_start program.units program.main) schedule limits true one.outcome two.outcome one.ran two.ran in
+    let outcomes : two.outcome ≡ one.outcome = one_outcome java_code (machine_at_start program.units program.main) schedule limits all_steps one.outcome two.outcome one.ran two.ran in
     two.answered ∙ ap (answer_of program.units) outcomes ∙ sym one.answered
 
 same_refusal : (e f : Refusal) → Refused e ≡ Refused f → e ≡ f
