@@ -23,8 +23,8 @@ fn by_text<'a>(
     Ok(known)
 }
 
-/// Some types in the order of their descriptors; of those that have one descriptor one alone. It fails for want of
-/// memory alone.
+/// Some types in the order of their descriptors, and one type for each descriptor. It fails only when it is out of
+/// memory.
 pub fn in_order(alloc: Global, texts: &[BaseText]) -> Result<Vec<ElementType>, AllocError>
     ensures { IfOk result (λ bases. (descriptor : element_type → List ℕ) → AreInOrder descriptor texts.now bases.items) }
 {

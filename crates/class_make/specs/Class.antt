@@ -19,7 +19,7 @@ use Rattle.assembler_bodies.specs.Body.{MadeBody, begun, content}
 pub record MadeClass : Type 0 where
   pub flags : ℕ
   pub this_class : ℕ
-  -- set from the line after the class's own on
+  -- none until the line of the super class is read
   pub super_class : Option ℕ
   pub interfaces : List ℕ
   pub fields : List RawMember

@@ -196,7 +196,7 @@ fn outside_line(
     part_line(alloc, pool, class, line, behind)
 }
 
-/// A line of a text, given the lines after it.
+/// Reads one line of a text, given the lines after it.
 pub fn step(
     alloc: Global,
     pool: &mut PoolMaker,

@@ -149,8 +149,8 @@ impl CoveringHandlers {
         true
     }
 
-    // To how many of the active spans, from the first one on, other locals than the held ones go for sure: to all to
-    // which those go, or to none. Words are looked at where both differ, if they do so at few places.
+    // How many of the active spans, from the first one on, other locals go to for sure: as many as the held ones go to,
+    // or none. It looks at words where both differ, if they differ at few places.
     fn held_by<H: ClassHierarchy>(
         &self,
         stores: &FrameStores,

@@ -2,7 +2,7 @@
 
 use frame_snapshot::Appended;
 
-/// Of two texts that are read.
+/// Which of the two texts that a method reads.
 #[derive(Clone, Copy)]
 pub enum Part {
     First,

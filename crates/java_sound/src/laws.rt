@@ -16,7 +16,7 @@ pub fn lists_fit()
     ensures { (us : List ClassUnit) → Accepted us → HasRoom us → ClassesFollow us → ListsFit us }
 {}
 
-/// Each state that an execution reaches fits where the first one does.
+/// If the first state of an execution fits, each state that it reaches fits.
 pub fn executions_fit()
     ensures { (us : List ClassUnit) → Accepted us → HasRoom us → ClassesFollow us → ExecutionsFit us }
 {}

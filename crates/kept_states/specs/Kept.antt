@@ -18,7 +18,7 @@ Objects = ℕ → Option Object
 abbrev pub Extends : Objects → Objects → Type 0
 Extends h h' = (r : ℕ) (o : Object) → h r ≡ Some o → h' r ≡ Some o
 
--- an object of the class and length is there, and may be at its reference
+-- an object of the class and length is at the reference, and is one that may be there (O)
 pub record IsObject (O : ℕ → Object → Type 0) (h : Objects) (r c n : ℕ) : Type 0 where
   pub object : Object
   pub there : h r ≡ Some object

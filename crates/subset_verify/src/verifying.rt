@@ -41,7 +41,7 @@ fn verify_method(alloc: Global, world: &World, file: u32, method: u16) -> Result
     }
 }
 
-// The methods of the file at a place.
+// Verifies the methods of the file at a place.
 fn verify_file(
     alloc: Global,
     world: &World,

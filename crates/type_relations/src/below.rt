@@ -33,9 +33,9 @@ fn is_object_element(element: ElementType) -> bool
     matches!(element, ElementType::Class(OBJECT))
 }
 
-/// Tests whether a type of references is below another one: classes of the program by the relation, a class that isn't in
-/// the program below itself and Object alone, an array below Object, below arrays of as many dimensions by its elements,
-/// and below arrays of Object of fewer dimensions. Asks of one pair of classes at most.
+/// Tests whether a type of references is below another one. The relation says it of classes of the program; a class that
+/// isn't in the program is below itself and Object alone. An array is below Object, below arrays of as many dimensions
+/// whose elements are above its own, and below arrays of Object of fewer dimensions. It asks the relation at most once.
 pub fn is_object_below<R: ClassRelation>(relation: &R, low: ObjectType, high: ObjectType) -> bool
     ensures { result ≡ subtypes.is_object_below (R.is_below relation.now) low high }
 {

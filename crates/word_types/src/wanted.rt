@@ -110,8 +110,8 @@ fn is_array_of_kind(kind: ElementKind, t: ObjectType) -> bool
     }
 }
 
-/// Where null or an array of the numbers of a kind is wanted. No array is right for the kind of references: see
-/// [`array_of_references_verdict`].
+/// Tests a word where null or an array of numbers of a kind is wanted. No array is right for the kind of references:
+/// see [`array_of_references_verdict`].
 pub fn array_of_kind_verdict(kind: ElementKind, word: VerificationType) -> Verdict
     ensures { (env : Environment)
         → verdict_meant result ≡ wants.verdict env (wants.an_array_of (wants.element_types kind)) word }

@@ -10,7 +10,7 @@ use op_core::NoMemory;
 use std::alloc::Global;
 use std::marker::Model;
 
-/// For how many words room is made at least.
+/// The least number of words that a log makes room for, once it makes room.
 pub const LEAST_ROOM: usize = 16;
 
 /// A word as it was before it was overwritten.
@@ -18,7 +18,7 @@ pub const LEAST_ROOM: usize = 16;
 pub struct Noted {
     /// The place of the word among those of the objects.
     pub at: u32,
-    /// The word that stood there.
+    /// The word that was there.
     pub old: u64,
 }
 
@@ -47,9 +47,9 @@ impl WriteLog {
         }
     }
 
-    /// Makes room, where there is none, for as many more words as are logged, and for at least [`LEAST_ROOM`]: so the
-    /// memory that is taken grows with the words that are logged, and is taken seldom. Where there is room nothing
-    /// changes, and the call can't fail. What is logged stays, whatever the answer. No other call takes memory.
+    /// Makes room for as many more words as are logged, and for at least [`LEAST_ROOM`], where there is none: so a log
+    /// of n words takes memory about as often as n can be halved. Where there is room nothing changes, and the call
+    /// can't fail. What is logged stays, whatever the answer. No other call takes memory.
     pub fn reserve(&mut self) -> Result<(), NoMemory>
         ensures has_room { 0 < self.old.spare → IsOk result × (self.new ≡ self.old) }
         ensures grown { self.old.spare ≡ 0 → OnOk result (self.new.spare ≡ max LEAST_ROOM (length self.old.noted)) }
