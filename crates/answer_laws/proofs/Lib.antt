@@ -1,3 +1,4 @@
 pub mod Sorted
 pub mod Files
 pub mod OneAnswer
+pub mod Traced

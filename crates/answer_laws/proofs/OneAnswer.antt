@@ -1,15 +1,33 @@
 -- A request has one answer over what a folder and an input hold.
-use Rattle.std.proofs.Common.{◌≡◌, inl, inr, ℕ, List, take, length, Option, Some, None, IfSome, Result, Ok, Err, refl, sym, ◌∙◌, ap, subst}
+use Rattle.std.proofs.Common.{◌≡◌, inl, inr, ℕ, ◌+◌, ◌%◌, ◌^◌, List, [], ◌∷◌, map, take, length, Option, Some, None, IfSome, Result, Ok, Err, refl, sym, ◌∙◌, ap, subst}
 use Rattle.std.specs.List.Sorted.{IsPermutation}
+use Rattle.op_core.specs.declared.Event.{Event}
 use Rattle.op_core.specs.declared.Limits.{Limits}
 use Rattle.op_core.specs.declared.Outcome.{Outcome}
 use Rattle.schedules.specs.declared.order.Schedule.{Schedule}
-use Rattle.ordinary_runs.specs.ScheduledRun.{all_steps}
+use Rattle.ordinary_machine.specs.Machine.{Machine}
+use Rattle.ordinary_runs.specs.ScheduledRun.{all_steps, a_journal}
 use Rattle.ordinary_runs.proofs.LawLemmas.{one_outcome}
-use Rattle.java_rows.specs.Thread.{java_code}
-use Rattle.java_run.specs.Run.{IsRunOf, answer_of, machine_at_start}
+use Rattle.ordinary_runs.proofs.MadeLemmas.{made_one}
+use Rattle.trace_journal.specs.declared.item.JournalFault.{JournalFault}
+use Rattle.trace_journal.specs.declared.item.TheConstants.{LARGEST}
+use Rattle.trace_journal.specs.Reading.{Read, line_of}
+use Rattle.trace_journal.specs.Text.{text_of}
+use Rattle.trace_journal.proofs.LawLemmas.{texts_have_one_reading}
+use Rattle.journal_check.specs.Checked.{IsChecked}
+use Rattle.journal_check.proofs.LawLemmas.{one_check}
+use Rattle.code_decode.specs.declared.code.ClassUnit.{ClassUnit}
+use Rattle.java_rows.specs.Thread.{Local, java_code}
+use Rattle.java_machine.specs.Lines.{line_bytes}
+use Rattle.java_run.specs.Run.{answer_of, journal_answer, machine_at_start}
+use Rattle.java_run.specs.Check.{Shows}
+use Rattle.java_run.specs.declared.checking.Checked.{Checked}
+use Rattle.java_run.specs.declared.checking.Checked.TheVariants.{Execution, NotExecution}
 use Rattle.class_make.proofs.TextLaws as texts
 use Rattle.class_make.specs.Texts.{front}
+use Rattle.stress_texts.specs.Classes.{AreClasses, stress_names}
+use Rattle.stress_texts.specs.Texts.{stress_texts}
+use Rattle.stress_texts.specs.declared.classes.TheConstants.{STRESS_MAIN}
 use Rattle.jr_ports.specs.Folder.{File, AreDifferent, names_of}
 use Rattle.program_input.specs.Folder.{AreRead}
 use Rattle.program_accept.specs.declared.refusal.Refusal.{Refusal}
@@ -19,8 +37,8 @@ use Rattle.program_accept.specs.Accepted.{Accepted}
 use Rattle.program_answers.specs.declared.answer.Answer.{Answer}
 use Rattle.encoded_texts.specs.Encoded.{encoded_text}
 use Rattle.command_words.specs.declared.request.Request.{Request}
-use Rattle.command_words.specs.declared.request.Request.TheVariants.{Pick, Trace, Run, Check, Load, Make, Stress, Help, Version}
-use Rattle.jrev_top.specs.Answers.{IsJudged, IsMade, Counts, Runs, refused, given, not_made}
+use Rattle.command_words.specs.declared.request.Request.TheVariants.{Pick, Trace, Run, Check, Load, Make, Migrate, Stress, Help, Version}
+use Rattle.jrev_top.specs.Answers.{IsJudged, IsMade, IsJournalText, IsMigrated, Counts, Runs, Traces, Checks, checked_answer, IsSecond, RunsTwice, IsStressed, second_answer, seeded, stress_limits, refused, given, not_made, not_execution}
 use Rattle.jrev_top.specs.Folder.{AreListed}
 use Rattle.jrev_top.specs.Headline.{Outside, IsText, IsOfProgram, IsAnswerTo, IsAnswer}
 use Rattle.answer_laws.specs.OneAnswer.{Tells, RequestsHaveOneAnswer}
@@ -38,8 +56,37 @@ counts_once count program answer other one two = two ∙ sym one
 
 runs_once : (schedule : Schedule) (limits : Limits) → AnswersOnce (Runs schedule limits)
 runs_once schedule limits count program answer other one two =
-    let outcomes : two.outcome ≡ one.outcome = one_outcome java_code (machine_at_start program.units program.main) schedule limits all_steps one.outcome two.outcome one.ran two.ran in
+    let outcomes : two.outcome ≡ one.outcome = one_outcome java_code (machine_at_start program.units program.main) schedule limits all_steps one.outcome two.outcome one.run.ran two.run.ran in
     two.answered ∙ ap (answer_of program.units) outcomes ∙ sym one.answered
+
+same_events : (es fs : List Event) → (let x : Option (List Event) = Some es in let y : Option (List Event) = Some fs in x ≡ y) → es ≡ fs
+same_events es fs same = cc
+
+traces_once : (schedule : Schedule) (limits : Limits) → AnswersOnce (Traces schedule limits)
+traces_once schedule limits count program answer other one two =
+    let outcomes : two.outcome ≡ one.outcome = one_outcome java_code (machine_at_start program.units program.main) schedule limits a_journal one.outcome two.outcome one.run.ran two.run.ran in
+    let firsts = one.run.executed in
+    let seconds = two.run.executed in
+    let events : seconds.events ≡ firsts.events = same_events seconds.events firsts.events (sym seconds.kept ∙ ap (λ (o : Outcome). o.events) outcomes ∙ firsts.kept) in
+    two.answered ∙ ap (λ es. journal_answer program.units es two.outcome) events ∙ ap (journal_answer program.units firsts.events) outcomes ∙ sym one.answered
+
+-- what is shown of a check is one thing
+one_shown : (us : List ClassUnit) (found : Result (Machine Local) ℕ) (checked other : Checked) → Shows us found checked → Shows us found other → checked_answer other ≡ checked_answer checked
+one_shown us (Ok last) (Execution lines) (Execution others) (made, are, same) (made_too, are_too, same_too) =
+    let texts : made_too ≡ made = made_one last.now last.now.lines made made_too are are_too in
+    ap (λ ls. checked_answer (Execution ls)) (same_too ∙ ap (λ ms. map (line_bytes us ms) last.now.lines) texts ∙ sym same)
+one_shown us (Err n) (NotExecution line) (NotExecution another) same same_too = ap not_execution (same_too ∙ sym same)
+one_shown us (Ok last) (NotExecution line) other is is_too = absurd is
+one_shown us (Ok last) (Execution lines) (NotExecution line) is is_too = absurd is_too
+one_shown us (Err n) (Execution lines) other is is_too = absurd is
+one_shown us (Err n) (NotExecution line) (Execution lines) is is_too = absurd is_too
+
+checks_once : (input : List ℕ) → AnswersOnce (Checks (Some input))
+checks_once input count program answer other (text, checked, read, is, same) (another, checked_too, read_too, is_too, same_too) =
+    let texts : another ≡ text = read_too ∙ sym read in
+    let m = machine_at_start program.units program.main in
+    let found : is_too.found ≡ is.found = one_check java_code m text is.found is_too.found is.is (subst (λ t. IsChecked java_code m t is_too.found) texts is_too.is) in
+    same_too ∙ one_shown program.units is.found checked checked_too is.shows (subst (λ f. Shows program.units f checked_too) found is_too.shows) ∙ sym same
 
 same_refusal : (e f : Refusal) → Refused e ≡ Refused f → e ≡ f
 same_refusal e f same = cc
@@ -103,6 +150,50 @@ one_making text answer other (inl one) (inr two) = absurd (ok_err one.0 two.0 (t
 one_making text answer other (inr one) (inl two) = absurd (ok_err two.0 one.0 (texts.one_answer text (Ok two.0) (Err one.0) two.1 one.1))
 one_making text answer other (inr one) (inr two) = two.2 ∙ ap not_made (same_err one.0 two.0 (texts.one_answer text (Err one.0) (Err two.0) one.1 two.1)) ∙ sym one.2
 
+same_read : (a b : Read) → (let x : Result Read JournalFault = Ok a in let y : Result Read JournalFault = Ok b in x ≡ y) → a ≡ b
+same_read a b same = cc
+
+same_fault : (a b : JournalFault) → (let x : Result Read JournalFault = Err a in let y : Result Read JournalFault = Err b in x ≡ y) → a ≡ b
+same_fault a b same = cc
+
+read_fault : (a : Read) (b : JournalFault) → (let x : Result Read JournalFault = Ok a in let y : Result Read JournalFault = Err b in x ≡ y) → ⊥
+read_fault a b same = absurd cc
+
+one_migration : (text : List ℕ) (answer other : Answer) → IsMigrated text answer → IsMigrated text other → other ≡ answer
+one_migration text answer other (inl one) (inl two) =
+    two.2 ∙ ap (λ (r : Read). given (text_of 2 r.items)) (same_read two.0 one.0 (texts_have_one_reading LARGEST text (Ok one.0) (Ok two.0) one.1 two.1)) ∙ sym one.2
+one_migration text answer other (inl one) (inr two) = absurd (read_fault one.0 two.0 (texts_have_one_reading LARGEST text (Err two.0) (Ok one.0) two.1 one.1))
+one_migration text answer other (inr one) (inl two) = absurd (read_fault two.0 one.0 (texts_have_one_reading LARGEST text (Err one.0) (Ok two.0) one.1 two.1))
+one_migration text answer other (inr one) (inr two) =
+    two.2 ∙ ap (λ fault. not_execution (line_of fault)) (same_fault two.0 one.0 (texts_have_one_reading LARGEST text (Err one.0) (Err two.0) one.1 two.1)) ∙ sym one.2
+
+one_journal : (input : List ℕ) (told : Option (List ℕ)) (text : List ℕ) → told ≡ Some input → IsJournalText told text → text ≡ take 268435457 input
+one_journal input told text is of = subst (λ (o : Option (List ℕ)). IsJournalText o text) is of
+
+-- the files of some texts are one thing
+one_class : (ts files others : List (List ℕ)) → AreClasses ts files → AreClasses ts others → others ≡ files
+one_class [] [] [] are others = refl
+one_class (text ∷ ts) (file ∷ files) (other ∷ others) are are_too =
+    ap (λ f. f ∷ others) (same_ok file other (texts.one_answer text (Ok file) (Ok other) are.0 are_too.0)) ∙ ap (λ fs. file ∷ fs) (one_class ts files others are.1 are_too.1)
+
+twice_once : (number : ℕ) → AnswersOnce (RunsTwice number)
+twice_once number count program answer other (first, runs, rest) (another, runs_too, rest_too) =
+    let same : another ≡ first = runs_once (seeded number) stress_limits count program first another runs runs_too in
+    second rest (subst (λ a. IsSecond number count program a other) same rest_too)
+  where
+    second : IsSecond number count program first answer → IsSecond number count program first other → other ≡ answer
+    second (inl (well, one, again, is)) (inl (well_too, two, again_too, is_too)) =
+        is_too ∙ ap (second_answer first) (runs_once (seeded ((number + 1) % 2 ^ 64)) stress_limits count program one two again again_too) ∙ sym is
+    second (inr (ill, is)) (inr (ill_too, is_too)) = is_too ∙ sym is
+    second (inl (well, _)) (inr (ill, _)) = absurd (ill well)
+    second (inr (ill, _)) (inl (well, _)) = absurd (ill well)
+
+one_stress : (number : ℕ) (answer other : Answer) → IsStressed number answer → IsStressed number other → other ≡ answer
+one_stress number answer other (files, are, judged) (others, are_too, judged_too) =
+    let Of : List (List ℕ) → Type 0 = λ fs. IsJudged (RunsTwice number) (encoded_text STRESS_MAIN.now) stress_names fs other in
+    one_judgement (RunsTwice number) (encoded_text STRESS_MAIN.now) stress_names files answer other (twice_once number) judged
+    (subst Of (one_class (stress_texts number) files others are are_too) judged_too)
+
 one_text : (input : List ℕ) (told : Option (List ℕ)) (text : List ℕ) → told ≡ Some input → IsText told text → text ≡ front input
 one_text input told text is of = subst (λ (o : Option (List ℕ)). IsText o text) is of
 
@@ -114,6 +205,20 @@ one_answer_to (Pick dir main limits schedule counts) files input outside another
     one_of_program (Runs schedule limits) dir (encoded_text main) files input outside another answer other (runs_once schedule limits) different here there one two
 one_answer_to (Load dir main) files input outside another answer other different here there one two =
     one_of_program Counts dir (encoded_text main) files input outside another answer other counts_once different here there one two
+one_answer_to (Trace dir main limits schedule) files input outside another answer other different here there one two =
+    one_of_program (Traces schedule limits) dir (encoded_text main) files input outside another answer other (traces_once schedule limits) different here there one two
+one_answer_to (Check dir main) files input outside another answer other different here there one two =
+    let Of : Option (List ℕ) → Type 0 = λ told. IsOfProgram (Checks told) dir (encoded_text main) outside answer in
+    let Too : Option (List ℕ) → Type 0 = λ told. IsOfProgram (Checks told) dir (encoded_text main) another other in
+    one_of_program (Checks (Some input)) dir (encoded_text main) files input outside another answer other (checks_once input) different here there
+    (subst Of here.told_input one) (subst Too there.told_input two)
+one_answer_to Migrate files input outside another answer other different here there one two =
+    let first = one_journal input outside.input one.0 here.told_input one.1 in
+    let second = one_journal input another.input two.0 there.told_input two.1 in
+    let Of : List ℕ → Type 0 = λ text. IsMigrated text answer in
+    let Too : List ℕ → Type 0 = λ text. IsMigrated text other in
+    one_migration (take 268435457 input) answer other (subst Of first one.2) (subst Too second two.2)
+one_answer_to (Stress number) files input outside another answer other different here there one two = one_stress number answer other one two
 one_answer_to Make files input outside another answer other different here there one two =
     let first = one_text input outside.input one.0 here.told_input one.1 in
     let second = one_text input another.input two.0 there.told_input two.1 in
@@ -122,10 +227,7 @@ one_answer_to Make files input outside another answer other different here there
     one_making (front input) answer other (subst Of first one.2) (subst Too second two.2)
 one_answer_to Help files input outside another answer other different here there one two = two ∙ sym one
 one_answer_to Version files input outside another answer other different here there one two = two ∙ sym one
-one_answer_to (Trace dir main limits schedule) files input outside another answer other different here there one two = absurd one
 one_answer_to (Run dir main limits workers slice counts) files input outside another answer other different here there one two = absurd one
-one_answer_to (Check dir main) files input outside another answer other different here there one two = absurd one
-one_answer_to (Stress number) files input outside another answer other different here there one two = absurd one
 
 pub one_answer : RequestsHaveOneAnswer
 one_answer None files input outside another answer other different here there one two = two ∙ sym one

@@ -3,4 +3,4 @@
 
 mod laws;
 
-pub use laws::requests_have_one_answer;
+pub use laws::{requests_have_one_answer, traces_are_accepted};

@@ -3,7 +3,7 @@ use Rattle.std.specs.Prelude.{ℕ, ◌&&◌, not, Bool, true, false, List, if◌
 use Rattle.std.specs.List.{list_all}
 use Rattle.std.specs.Option.{option_and_then}
 use Rattle.command_words.specs.declared.request.Request.{Request}
-use Rattle.command_words.specs.declared.request.Request.TheVariants.{Pick, Trace, Run, Check, Load, Make, Stress, Help, Version}
+use Rattle.command_words.specs.declared.request.Request.TheVariants.{Pick, Trace, Run, Check, Load, Make, Migrate, Stress, Help, Version}
 use Rattle.schedules.specs.declared.order.OrderItem.{OrderItem}
 use Rattle.schedules.specs.declared.order.OrderItem.TheVariants.{Turns, Until}
 use Rattle.command_words.specs.Grammar.{request_of}
@@ -13,16 +13,16 @@ abbrev pub gives_turns : OrderItem → Bool
 gives_turns (Turns t n) = true
 gives_turns (Until t kind) = false
 
--- the commands that are carried out: pick by an order of turns and without counts, load, make, and what says what the
--- program is
+-- the commands that are carried out: all but run; pick and trace by an order of turns, and pick without counts
 abbrev pub is_built : Request → Bool
 is_built (Pick dir main limits schedule counts) = not counts && list_all gives_turns schedule.order
-is_built (Trace dir main limits schedule) = false
+is_built (Trace dir main limits schedule) = list_all gives_turns schedule.order
 is_built (Run dir main limits workers slice counts) = false
-is_built (Check dir main) = false
+is_built (Check dir main) = true
 is_built (Load dir main) = true
 is_built Make = true
-is_built (Stress number) = false
+is_built Migrate = true
+is_built (Stress number) = true
 is_built Help = true
 is_built Version = true
 

@@ -12,7 +12,7 @@ use Rattle.command_words.specs.declared.options.CommandOption.TheVariants as opt
 use Rattle.command_words.specs.declared.request.ProgramCommand.{ProgramCommand}
 use Rattle.command_words.specs.declared.request.ProgramCommand.TheVariants as commands
 use Rattle.command_words.specs.declared.request.Request.{Request}
-use Rattle.command_words.specs.declared.request.Request.TheVariants.{Pick, Trace, Run, Check, Load, Make, Stress, Help, Version}
+use Rattle.command_words.specs.declared.request.Request.TheVariants.{Pick, Trace, Run, Check, Load, Make, Migrate, Stress, Help, Version}
 use Rattle.command_words.specs.Options.{option_of, each_of, are_different, number_given, order_given, is_counts}
 
 -- a word that is no option
@@ -93,6 +93,7 @@ program_request word dir name written =
 abbrev pub lone_request : List ℕ → Option Request
 lone_request word =
     if bytes_eq word (codes "make") then Some Make
+    else if bytes_eq word (codes "migrate") then Some Migrate
     else if bytes_eq word (codes "--help") then Some Help
     else if bytes_eq word (codes "--version") then Some Version
     else None
@@ -102,7 +103,7 @@ abbrev pub stress_request : List ℕ → List ℕ → Option Request
 stress_request word number =
     if bytes_eq word (codes "stress") then option_map (λ n. Stress n) (number_up_to 18446744073709551615 number) else None
 
--- what the words ask for; nothing where they are none of a command
+-- what the words ask for; nothing where no command has them
 abbrev pub request_of : List (List ℕ) → Option Request
 request_of [] = None
 request_of (word ∷ []) = lone_request word

@@ -33,19 +33,23 @@ fn is_built(request: &Request) -> bool
             counts,
             ..
         } => !*counts && is_order_built(schedule.order.as_slice()),
-        Request::Load { .. } | Request::Make | Request::Help | Request::Version => true,
-        Request::Trace { .. }
-        | Request::Run { .. }
-        | Request::Check { .. }
-        | Request::Stress { .. } => false,
+        Request::Trace { schedule, .. } => is_order_built(schedule.order.as_slice()),
+        Request::Check { .. }
+        | Request::Load { .. }
+        | Request::Make
+        | Request::Migrate
+        | Request::Stress { .. }
+        | Request::Help
+        | Request::Version => true,
+        Request::Run { .. } => false,
     }
 }
 
-/// What the words of the command line, without the program's name, ask for, where it is carried out: `pick` without
-/// `--counts` and without items `T@K` in its order, `load`, `make`, `--help` and `--version`.
+/// What the words of the command line, without the program's name, ask for, where it is carried out: every command but
+/// `run`; `pick` without `--counts`; `pick` and `trace` without items `T@K` in their order.
 ///
 /// # Errors
-/// `Usage` exactly where the words are none of a command, or ask for what isn't carried out yet.
+/// `Usage` exactly where no command has these words, or where they ask for what isn't carried out yet.
 /// `NoMemory` may come anywhere.
 pub fn words_of(alloc: Global, words: &[String]) -> Result<Request, WordsRefusal>
     ensures found { IfOk result (λ request. built.built_request (map string_bytes words.now) ≡ Some request) }

@@ -45,7 +45,7 @@ pub enum Request {
         slice: u32,
         counts: bool,
     },
-    /// Replays the journal on the standard input.
+    /// Says whether the journal on the standard input is one of an execution of the program.
     Check {
         dir: Text,
         main: Text,
@@ -57,6 +57,8 @@ pub enum Request {
     },
     /// Makes a class file of the text on the standard input.
     Make,
+    /// Writes the journal on the standard input in the newest version.
+    Migrate,
     /// Executes the program that a number stands for, twice.
     Stress {
         number: u64,

@@ -16,7 +16,7 @@ use std::alloc::{AllocError, AllocFailed, Global};
 /// Why there is no request.
 #[derive(Clone, Copy)]
 pub enum WordsRefusal {
-    /// The words are none of a command.
+    /// No command has these words.
     Usage,
     /// There was no memory.
     NoMemory,
@@ -220,6 +220,8 @@ fn lone_request(word: &[u8]) -> Option<Request>
 {
     if word == b"make".as_slice() {
         Some(Request::Make)
+    } else if word == b"migrate".as_slice() {
+        Some(Request::Migrate)
     } else if word == b"--help".as_slice() {
         Some(Request::Help)
     } else if word == b"--version".as_slice() {
@@ -242,7 +244,7 @@ fn stress_request(word: &[u8], number: &[u8]) -> Option<Request>
 /// What the words of the command line, without the program's name, ask for.
 ///
 /// # Errors
-/// `Usage` exactly where they are none of a command. `NoMemory` may come anywhere.
+/// `Usage` exactly where no command has these words. `NoMemory` may come anywhere.
 pub fn request_of(alloc: Global, words: &[String]) -> Result<Request, WordsRefusal>
     ensures found { IfOk result (λ request. grammar.request_of (map string_bytes words.now) ≡ Some request) }
     ensures usage { result ≡ Err WordsRefusal.Usage → grammar.request_of (map string_bytes words.now) ≡ None }

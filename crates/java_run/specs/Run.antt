@@ -1,27 +1,28 @@
 -- What a program's execution answers.
-use Rattle.std.specs.Prelude.{◌≡◌, ℕ, true, Some, List, [], ◌∷◌, ◌++◌, map, filter_map, codes}
+use Rattle.std.specs.Prelude.{◌≡◌, ℕ, List, [], ◌∷◌, ◌++◌, map, filter_map, codes}
 use Rattle.code_decode.specs.declared.code.ClassUnit.{ClassUnit}
 use Rattle.op_core.specs.declared.Event.{Event}
 use Rattle.op_core.specs.declared.How.{How}
 use Rattle.op_core.specs.declared.How.TheVariants as how
 use Rattle.op_core.specs.declared.Limits.{Limits}
 use Rattle.op_core.specs.declared.Outcome.{Outcome}
-use Rattle.op_core.specs.Execution.{EndsStuck}
 use Rattle.schedules.specs.declared.order.Schedule.{Schedule}
-use Rattle.ordinary_machine.specs.Advance.{HasHalted}
 use Rattle.ordinary_machine.specs.Machine.{Machine}
 use Rattle.ordinary_machine.specs.Start.{start_of}
-use Rattle.ordinary_runs.specs.ScheduledRun.{all_steps, IsOutcome}
+use Rattle.ordinary_runs.specs.ScheduledRun.{Keeping, all_steps, a_journal, IsOutcome}
 use Rattle.ordinary_runs.specs.Laws.{IsExecuted}
 use Rattle.program_answers.specs.declared.status.Status.{Status}
 use Rattle.program_answers.specs.declared.status.Status.TheVariants as statuses
 use Rattle.program_answers.specs.declared.answer.Answer.{Answer}
+use Rattle.program_answers.specs.Output.{journal_pieces}
 use Rattle.program_answers.specs.Written.{line}
 use Rattle.link_types.specs.declared.operands.MethodId.{MethodId}
 use Rattle.java_rows.specs.Start.{opening_of}
 use Rattle.java_rows.specs.Thread.{Local, first_state, java_code}
 use Rattle.java_machine.specs.Ends.{died_line, limit_line}
 use Rattle.java_machine.specs.Lines.{line_bytes}
+use Rattle.waiting_runs.specs.Waiting.{EndsWaiting}
+use Rattle.java_run.specs.declared.answering.PrintedRun.{PrintedRun}
 
 abbrev pub status_of : How → Status
 status_of how.Done = statuses.Done
@@ -35,30 +36,51 @@ how_lines how.Stuck = line (codes "stuck") ∷ []
 how_lines (how.Limit t limit) = limit_line limit t ∷ []
 how_lines _ = []
 
--- the printed lines; on the standard error the threads that died, by number, and then why it didn't end of itself
+-- on the standard error the threads that died, by number, and then why the run didn't end of itself
+abbrev pub err_lines : List ClassUnit → Outcome → List (List ℕ)
+err_lines us outcome = filter_map (died_line us) outcome.ends ++ how_lines outcome.how
+
+-- the answer that prints the lines
 abbrev pub answer_of : List ClassUnit → Outcome → Answer
 answer_of us outcome = record {
   status = status_of outcome.how;
   out = map (line_bytes us outcome.made) outcome.lines;
-  err = filter_map (died_line us) outcome.ends ++ how_lines outcome.how;
+  err = err_lines us outcome;
+}
+
+-- the answer that prints the journal of these events in their place
+abbrev pub journal_answer : List ClassUnit → List Event → Outcome → Answer
+journal_answer us events outcome = record {
+  status = status_of outcome.how;
+  out = journal_pieces events [];
+  err = err_lines us outcome;
 }
 
 -- the machine at the start of the program of these classes, which begins with a method
 abbrev pub machine_at_start : List ClassUnit → MethodId → Machine Local
 machine_at_start us main = start_of (opening_of us) (first_state us main)
 
--- Where the run of a machine ended stuck and no thread is at its code's end without having ended, its events are an execution
--- that ends stuck.
-abbrev pub IsStuckRun : Machine Local → Outcome → Machine Local → Type 0
-IsStuckRun start outcome last = outcome.how ≡ how.Stuck → ((t : ℕ) → HasHalted java_code last t → ⊥)
-    → (events : List Event) × (outcome.events ≡ Some events) × EndsStuck java_code start.now events
+-- The outcome is that of the run of the program of these classes, which begins with a method: the run that follows a schedule
+-- under limits. The events that its turns made are an execution of the program from its start that prints the lines and
+-- leaves the threads ended as the outcome says. Where it is stuck, some thread hasn't ended after them, no such thread has
+-- a step, and each waits for one of five named reasons.
+pub record IsRun (us : List ClassUnit) (main : MethodId) (schedule : Schedule) (limits : Limits) (keeping : Keeping) (outcome : Outcome) : Type 0 where
+  pub ran : IsOutcome java_code (machine_at_start us main) schedule limits keeping outcome
+  pub executed : IsExecuted java_code (machine_at_start us main) keeping outcome
+  pub stuck : outcome.how ≡ how.Stuck → EndsWaiting us main executed.events
 
--- The answer is that of the run of the program of these classes, which begins with a method: the run that follows a schedule
--- under limits. The events that its turns made, which its outcome has, are an execution of the program from its start that
--- prints the lines and leaves the threads ended as the answer says.
+-- the answer prints the lines of the run
 pub record IsRunOf (us : List ClassUnit) (main : MethodId) (schedule : Schedule) (limits : Limits) (answer : Answer) : Type 0 where
   pub outcome : Outcome
-  pub ran : IsOutcome java_code (machine_at_start us main) schedule limits all_steps outcome
-  pub executed : IsExecuted java_code (machine_at_start us main) all_steps outcome
-  pub stuck : IsStuckRun (machine_at_start us main) outcome ran.last.state.machine
+  pub run : IsRun us main schedule limits all_steps outcome
   pub answered : answer ≡ answer_of us outcome
+
+-- the answer prints the journal of the run, which ends at the latest where a journal is full
+pub record IsTraceOf (us : List ClassUnit) (main : MethodId) (schedule : Schedule) (limits : Limits) (answer : Answer) : Type 0 where
+  pub outcome : Outcome
+  pub run : IsRun us main schedule limits a_journal outcome
+  pub answered : answer ≡ journal_answer us run.executed.events outcome
+
+-- a run's status and lines as an answer
+abbrev pub shown : PrintedRun → Answer
+shown run = record { status = run.status; out = run.lines; err = run.err }

@@ -1,9 +1,11 @@
 //! The answer of a run.
 
-ghost use Rattle.std.specs.Prelude.{◌≡◌, ◌∷◌, [], ◌++◌, IfOk, OnOk, map, filter_map};
+ghost use Rattle.std.specs.Prelude.{◌≡◌, ◌≤◌, ◌∷◌, [], ◌++◌, IfOk, OnOk, IfSome, Some, List, length, map, filter_map};
 ghost use Rattle.java_machine.specs.Ends as ends;
 ghost use Rattle.java_machine.specs.Lines as lines;
 ghost use Rattle.java_run.specs.Run as spec;
+ghost use Rattle.op_core.specs.declared.Event.{Event};
+ghost use Rattle.ordinary_runs.specs.declared.turns.TheConstants.{MOST_EVENTS};
 
 use java_machine::{MadeLines, World, died_line, limit_line, line_bytes};
 use op_core::{How, Line, MadeText, NoMemory, Outcome, ThreadEnd};
@@ -23,7 +25,7 @@ fn status_of(how: How) -> Status
 }
 
 // The bytes of the printed lines, of which the program made these texts.
-fn printed(
+pub(crate) fn printed(
     alloc: Global,
     world: &World,
     made: &[MadeText],
@@ -81,21 +83,62 @@ fn push_how(alloc: Global, err: &mut Rows<Bytes>, how: How) -> Result<(), NoMemo
     Ok(())
 }
 
-/// The answer of a run that came to this.
-pub fn answer_of(alloc: Global, world: &World, outcome: &Outcome) -> Result<Answer, NoMemory>
-    ensures { IfOk result (λ answer. answer ≡ spec.answer_of world.now outcome.now) }
+// What goes to the standard error.
+fn err_lines(alloc: Global, world: &World, outcome: &Outcome) -> Result<Rows<Bytes>, NoMemory>
+    ensures { IfOk result (λ err. err ≡ spec.err_lines world.now outcome.now) }
 {
-    let out = printed(
+    let mut err = died(alloc, world, outcome.ends.as_slice())?;
+    push_how(alloc, &mut err, outcome.how)?;
+    Ok(err)
+}
+
+/// The status of a run, the lines that it printed, and what goes to the standard error.
+#[derive(Drop)]
+pub struct PrintedRun {
+    pub status: Status,
+    pub lines: Rows<Bytes>,
+    pub err: Rows<Bytes>,
+}
+
+/// The lines of a run that came to this.
+pub(crate) fn printed_run(
+    alloc: Global,
+    world: &World,
+    outcome: &Outcome,
+) -> Result<PrintedRun, NoMemory>
+    ensures { IfOk result (λ run. spec.shown run ≡ spec.answer_of world.now outcome.now) }
+{
+    let lines = printed(
         alloc,
         world,
         outcome.made.as_slice(),
         outcome.lines.as_slice(),
     )?;
-    let mut err = died(alloc, world, outcome.ends.as_slice())?;
-    push_how(alloc, &mut err, outcome.how)?;
-    Ok(Answer {
+    Ok(PrintedRun {
         status: status_of(outcome.how),
-        out: Output::from_pieces(out),
+        lines,
+        err: err_lines(alloc, world, outcome)?,
+    })
+}
+
+/// The answer of a run that came to this and kept its events: their journal.
+pub(crate) fn journal_answer(
+    alloc: Global,
+    world: &World,
+    outcome: Outcome,
+) -> Result<Answer, NoMemory>
+    requires { IfSome outcome.events (λ events. length events ≤ MOST_EVENTS) }
+    ensures { (events : List Event) → outcome.events ≡ Some events → IfOk result (λ answer. answer ≡ spec.journal_answer world.now events outcome) }
+{
+    let err = err_lines(alloc, world, &outcome)?;
+    let Outcome { how, events, .. } = outcome;
+    let out = match events {
+        Some(events) => Output::from_journal(alloc, events, Rows::new(alloc)),
+        None => Output::from_pieces(Rows::new(alloc)),
+    };
+    Ok(Answer {
+        status: status_of(how),
+        out,
         err,
     })
 }

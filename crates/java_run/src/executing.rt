@@ -1,42 +1,122 @@
 //! A program's threads run.
 
 ghost use Rattle.std.specs.Prelude.{◌≡◌, IfOk};
-ghost use Rattle.java_run.specs.Run.{IsRunOf};
+ghost use Rattle.accepted_programs.specs.Programs.{IsOfFiles};
+ghost use Rattle.java_rows.specs.Thread.{java_code};
+ghost use Rattle.java_run.specs.Check.{state_in};
+ghost use Rattle.java_run.specs.Run.{IsRunOf, IsTraceOf, machine_at_start, shown};
+ghost use Rattle.ordinary_machine.specs.Machine.{machine_of};
+ghost use Rattle.ordinary_runs.specs.ScheduledRun.{IsOutcome, keeping_for};
 
-use crate::answering::answer_of;
+use crate::answering::{PrintedRun, journal_answer, printed_run};
+use accepted_programs::accepted_programs_go_in_order;
 use interp_calls::{JavaCode, JavaProgram};
-use java_machine::{World, opening};
-use link_types::MethodId;
-use op_core::{Limits, NoMemory};
+use java_machine::opening;
+use op_core::{Limits, NoMemory, Outcome};
 use ordinary_machine::Ordinary;
-use ordinary_runs::laws::{runs_are_executions, runs_have_events, stuck_runs_are_stuck};
+use ordinary_runs::laws::{runs_are_executions, runs_fit_journals, runs_have_events};
 use ordinary_runs::run_picks;
-use program_answers::Answer;
+use program_accept::Program;
+use program_answers::{Answer, Output};
 use schedules::Schedule;
 use std::alloc::Global;
 
-/// Executes the program of these classes, which begins with a method, by a schedule and under limits, on one host thread;
-/// `program` is the same program, as the code of its threads sees it.
+// The machine at the start of a program.
+pub(crate) fn started<'p, P: JavaProgram>(
+    alloc: Global,
+    program: &'p P,
+    accepted: &Program,
+) -> Result<Ordinary<JavaCode<'p, P>>, NoMemory>
+    requires { P.units program.now ≡ accepted.now.units }
+    ensures { IfOk result (λ machine. machine_of (state_in P.units) machine ≡ machine_at_start accepted.now.units accepted.now.main) }
+{
+    let opening = opening(alloc, accepted.world())?;
+    let code = JavaCode::main(alloc, program, accepted.main())?;
+    Ordinary::start(alloc, &opening, code)
+}
+
+// What a run of a program comes to; its events are kept where that is asked for.
+fn outcome<P: JavaProgram>(
+    alloc: Global,
+    program: &P,
+    accepted: &Program,
+    schedule: &Schedule,
+    limits: &Limits,
+    events: bool,
+) -> Result<Outcome, NoMemory>
+    requires { P.units program.now ≡ accepted.now.units }
+    ensures { IfOk result (λ outcome. IsOutcome java_code (machine_at_start accepted.now.units accepted.now.main) schedule.now limits.now (keeping_for events) outcome) }
+{
+    let machine = started(alloc, program, accepted)?;
+    run_picks(alloc, machine, schedule, limits, events)
+}
+
+/// Executes a program by a schedule and under limits, on one host thread, and gives its status and the lines that it
+/// printed; `program` is the same program, as the code of its threads sees it.
+///
+/// # Errors
+/// `NoMemory` where memory runs out.
+pub fn execute_printed<P: JavaProgram>(
+    alloc: Global,
+    program: &P,
+    accepted: &Program,
+    schedule: &Schedule,
+    limits: &Limits,
+) -> Result<PrintedRun, NoMemory>
+    requires same { P.units program.now ≡ accepted.now.units }
+    requires accepted { IsOfFiles accepted.now }
+    ensures { IfOk result (λ run. IsRunOf accepted.now.units accepted.now.main schedule.now limits.now (shown run)) }
+{
+    let outcome = outcome(alloc, program, accepted, schedule, limits, false)?;
+    runs_have_events::<JavaCode<'_, P>>();
+    runs_are_executions::<JavaCode<'_, P>>();
+    accepted_programs_go_in_order(accepted);
+    printed_run(alloc, accepted.world(), &outcome)
+}
+
+/// Executes a program by a schedule and under limits, on one host thread, and answers the lines that it printed; `program`
+/// is the same program, as the code of its threads sees it.
 ///
 /// # Errors
 /// `NoMemory` where memory runs out.
 pub fn execute<P: JavaProgram>(
     alloc: Global,
-    world: &World,
     program: &P,
-    main: MethodId,
+    accepted: &Program,
     schedule: &Schedule,
     limits: &Limits,
 ) -> Result<Answer, NoMemory>
-    requires { P.units program.now ≡ world.now }
-    ensures { IfOk result (λ answer. IsRunOf world.now main schedule.now limits.now answer) }
+    requires same { P.units program.now ≡ accepted.now.units }
+    requires accepted { IsOfFiles accepted.now }
+    ensures { IfOk result (λ answer. IsRunOf accepted.now.units accepted.now.main schedule.now limits.now answer) }
 {
-    let opening = opening(alloc, world)?;
-    let code = JavaCode::main(alloc, program, main)?;
-    let machine = Ordinary::start(alloc, &opening, code)?;
-    let outcome = run_picks(alloc, machine, schedule, limits, false)?;
-    runs_have_events::<JavaCode<'_, P>>();
+    let run = execute_printed(alloc, program, accepted, schedule, limits)?;
+    Ok(Answer {
+        status: run.status,
+        out: Output::from_pieces(run.lines),
+        err: run.err,
+    })
+}
+
+/// Executes a program in the same way, up to the turn that makes event 4,194,304 at the latest, and answers the journal of the
+/// run in place of the lines.
+///
+/// # Errors
+/// `NoMemory` where memory runs out.
+pub fn trace<P: JavaProgram>(
+    alloc: Global,
+    program: &P,
+    accepted: &Program,
+    schedule: &Schedule,
+    limits: &Limits,
+) -> Result<Answer, NoMemory>
+    requires same { P.units program.now ≡ accepted.now.units }
+    requires accepted { IsOfFiles accepted.now }
+    ensures { IfOk result (λ answer. IsTraceOf accepted.now.units accepted.now.main schedule.now limits.now answer) }
+{
+    let outcome = outcome(alloc, program, accepted, schedule, limits, true)?;
+    runs_fit_journals::<JavaCode<'_, P>>();
     runs_are_executions::<JavaCode<'_, P>>();
-    stuck_runs_are_stuck::<JavaCode<'_, P>>();
-    answer_of(alloc, world, &outcome)
+    accepted_programs_go_in_order(accepted);
+    journal_answer(alloc, accepted.world(), outcome)
 }

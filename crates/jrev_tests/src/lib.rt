@@ -18,4 +18,8 @@ mod programs;
 #[cfg(test)]
 mod running;
 #[cfg(test)]
+mod stressing;
+#[cfg(test)]
+mod tracing;
+#[cfg(test)]
 mod words;

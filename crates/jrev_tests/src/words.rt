@@ -5,7 +5,7 @@ use jrev_top::{Request, Status, words_of};
 use std::test::Fail;
 
 /// Words that ask for nothing that there is, or that isn't carried out yet.
-const FAULTY: [&[&str]; 24] = [
+const FAULTY: [&[&str]; 28] = [
     &[],
     &["pick", "D"],
     &["pick", "D", "One", "x"],
@@ -19,9 +19,13 @@ const FAULTY: [&[&str]; 24] = [
     &["load", "--D", "One"],
     &["load", "D", "One", "--counts"],
     &["run", "D", "One"],
-    &["trace", "D", "One"],
-    &["check", "D", "One"],
-    &["stress", "1"],
+    &["trace", "D"],
+    &["trace", "D", "One", "--counts"],
+    &["trace", "D", "One", "--order=1@1"],
+    &["check", "D"],
+    &["check", "D", "One", "--seed=1"],
+    &["migrate", "x"],
+    &["stress", "x"],
     &["pick", "D", "One", "--counts"],
     &["pick", "D", "One", "--order=1@1"],
     &["pick", "D", "One", "--seed=1", "--order=1*1,2@27"],
@@ -82,11 +86,15 @@ const HELP: Case = Case {
 };
 
 /// What the help text says: each command with its words, each option, and each exit status.
-const HELPED: [&str; 25] = [
+const HELPED: [&str; 31] = [
     "jrev executes Java class files",
     "jrev pick DIR MAIN",
+    "jrev trace DIR MAIN",
+    "jrev check DIR MAIN",
     "jrev load DIR MAIN",
     "jrev make",
+    "jrev migrate",
+    "jrev stress N",
     "jrev --help",
     "jrev --version",
     "\n  --order=ITEM,..",
@@ -105,7 +113,9 @@ const HELPED: [&str; 25] = [
     "\n  7  ",
     "\n  8  ",
     "\n  9  ",
+    "\n 10  ",
     "\n 11  ",
+    "journal",
     "one.jasm",
     "accepted",
 ];

@@ -1,5 +1,5 @@
 -- Answers to what was found.
-use Rattle.std.proofs.Common.{◌≡◌, inl, inr, ℕ, Bool, List, map, take, String, string_bytes, sym, ◌∙◌, subst, Option, Some}
+use Rattle.std.proofs.Common.{◌≡◌, ◌+◌, ◌%◌, ◌^◌, inl, inr, true, false, ap, refl, length, ℕ, List, map, take, String, string_bytes, sym, ◌∙◌, subst, Option}
 use Rattle.std.specs.Prelude.{◌⊎◌}
 use Rattle.std.specs.declared.alloc.Global.{Global}
 use Rattle.jr_ports.specs.Folder.{File, Asked}
@@ -7,26 +7,29 @@ use Rattle.jr_ports.specs.Stream.{Gains}
 use Rattle.program_input.specs.Folder.{AreRead}
 use Rattle.program_answers.specs.declared.answer.Answer.{Answer}
 use Rattle.std.proofs.lemmas.List.{take-map}
-use Rattle.jrev_top.specs.Answers.{IsJudged, IsDecided, Counts, Runs, RefuseOnly}
-use Rattle.op_core.specs.declared.Limits.{Limits}
-use Rattle.schedules.specs.declared.order.Schedule.{Schedule}
+use Rattle.accepted_programs.specs.Programs.{IsOfFiles}
+use Rattle.program_answers.specs.declared.status.Status.{Status}
+use Rattle.program_answers.specs.declared.status.Status.TheVariants as statuses
+use Rattle.jrev_top.specs.Answers.{AreProgram, ComeTo, IsJudged, RefuseOnly, Runs, RunsTwice, first_answer, second_answer, seeded, stress_limits}
+use Rattle.jrev_top.specs.Touches.{is_done}
+use Rattle.jrev_top.specs.declared.loading.Judged.{Judged}
+use Rattle.jrev_top.specs.declared.loading.Judged.TheVariants as judged
 use Rattle.rules.specs.Rules.{Rules}
 use Rattle.program_accept.specs.Accepted.{Accepted}
 use Rattle.program_accept.specs.declared.refusal.AcceptRefusal.{AcceptRefusal}
 use Rattle.program_accept.specs.declared.refusal.AcceptRefusal.TheVariants.{NoMemory}
 use Rattle.command_words.specs.declared.request.Request.{Request}
-use Rattle.command_words.specs.declared.request.Request.TheVariants.{Pick, Load}
 use Rattle.encoded_texts.specs.Encoded.{encoded_text}
 use Rattle.jrev_top.specs.Folder.{AreListed}
 use Rattle.jrev_top.specs.Headline.{Outside, IsOfProgram, IsAnswer}
 use Rattle.jrev_top.proofs.Found.{Told, listed}
 
--- the answer over the class files of a folder, by what holds of it where they are a program
-pub loaded : (answers : ℕ → Accepted → Answer → Type 0) (asked now : Option Asked) (files given : Option (List File)) (first before after : Option (List (List ℕ))) (dir main : List ℕ) (sorted read judged : List (String Global)) (bytes : List (List ℕ)) (answer : Answer)
+-- what holds of the class files of a folder that were read, by their names and bytes
+pub loaded : (Is : List (List ℕ) → List (List ℕ) → Type 0) (asked now : Option Asked) (files given : Option (List File)) (first before after : Option (List (List ℕ))) (dir : List ℕ) (sorted read judged : List (String Global)) (bytes : List (List ℕ))
     → Told asked files dir (map string_bytes sorted) → now ≡ asked → given ≡ files → before ≡ first → read ≡ take 1025 sorted → judged ≡ take 1025 sorted
-    → AreRead given (map string_bytes read) bytes → Gains before after (map string_bytes read) → IsJudged answers main (map string_bytes judged) bytes answer
-    → (names : List (List ℕ)) × AreListed now files dir names × Gains first after (take 1025 names) × IsDecided answers main files (take 1025 names) answer
-loaded answers asked now files given first before after dir main sorted read judged bytes answer told same told_too none all all_too are gains is =
+    → AreRead given (map string_bytes read) bytes → Gains before after (map string_bytes read) → Is (map string_bytes judged) bytes
+    → (names : List (List ℕ)) × AreListed now files dir names × Gains first after (take 1025 names) × ((found : List (List ℕ)) × AreRead files (take 1025 names) found × Is (take 1025 names) found)
+loaded Is asked now files given first before after dir sorted read judged bytes told same told_too none all all_too are gains is =
     let Listed : Option Asked → Type 0 = λ a. AreListed a files dir (map string_bytes sorted) in
     let From : Option (List File) → Type 0 = λ f. AreRead f (map string_bytes read) bytes in
     let Read : List (String Global) → Type 0 = λ r. AreRead files (map string_bytes r) bytes in
@@ -34,8 +37,8 @@ loaded answers asked now files given first before after dir main sorted read jud
     let Since : Option (List (List ℕ)) → Type 0 = λ b. Gains b after (map string_bytes read) in
     let Gained : List (String Global) → Type 0 = λ r. Gains first after (map string_bytes r) in
     let All : List (List ℕ) → Type 0 = λ n. Gains first after n in
-    let Judged : List (String Global) → Type 0 = λ r. IsJudged answers main (map string_bytes r) bytes answer in
-    let Said : List (List ℕ) → Type 0 = λ n. IsJudged answers main n bytes answer in
+    let Judged : List (String Global) → Type 0 = λ r. Is (map string_bytes r) bytes in
+    let Said : List (List ℕ) → Type 0 = λ n. Is n bytes in
     let front = take-map string_bytes 1025 sorted in (
       map string_bytes sorted,
       subst Listed (sym same) (listed asked files dir (map string_bytes sorted) told),
@@ -60,19 +63,54 @@ refuses-only rules e wanted exact first hold same other = record {
   broken = λ holds. other (sym same ∙ hold holds);
 }
 
-pub pick-asked : (request : Option Request) (dir main dir-given main-given : List ℕ) (limits : Limits) (schedule : Schedule) (counts : Bool) (outside : Outside) (answer : Answer)
-    → request ≡ Some (Pick dir main limits schedule counts) → dir-given ≡ dir → main-given ≡ main
-    → IsOfProgram (Runs schedule limits) dir-given (encoded_text main-given) outside answer → IsAnswer request outside answer
-pick-asked request dir main dir-given main-given limits schedule counts outside answer is same-dir same-main of =
-    let Of : Option Request → Type 0 = λ r. IsAnswer r outside answer in
-    let In : List ℕ → Type 0 = λ d. IsOfProgram (Runs schedule limits) d (encoded_text main) outside answer in
-    let From : List ℕ → Type 0 = λ m. IsOfProgram (Runs schedule limits) dir-given (encoded_text m) outside answer in
-    subst Of (sym is) (subst In same-dir (subst From same-main of))
+-- the answer to class files that come to a program, of which this holds; or to others
+pub judged_program : (answers : ℕ → Accepted → Answer → Type 0) (main : List ℕ) (names files : List (List ℕ)) (came : Judged) (program : Accepted) (count : ℕ) (answer : Answer)
+    → ComeTo main names files came → came ≡ judged.Program program → answers count program answer → count ≡ length files → IsJudged answers main names files answer
+judged_program answers main names files came program count answer come is holds long =
+    inl (program, subst (ComeTo main names files) is come, subst (λ n. answers n program answer) long holds)
 
-pub load-asked : (request : Option Request) (dir main dir-given main-given : List ℕ) (outside : Outside) (answer : Answer) → request ≡ Some (Load dir main) → dir-given ≡ dir → main-given ≡ main
-    → IsOfProgram Counts dir-given (encoded_text main-given) outside answer → IsAnswer request outside answer
-load-asked request dir main dir-given main-given outside answer is same-dir same-main of =
+pub judged_other : (answers : ℕ → Accepted → Answer → Type 0) (main : List ℕ) (names files : List (List ℕ)) (came : Judged) (answer : Answer)
+    → ComeTo main names files came → came ≡ judged.Other answer → IsJudged answers main names files answer
+judged_other answers main names files came answer come is = inr (subst (ComeTo main names files) is come)
+
+-- .. where they come to a program, it is one of these files
+pub of_files : (main : List ℕ) (names files : List (List ℕ)) (came : Judged) (program : Accepted) → ComeTo main names files came → came ≡ judged.Program program → IsOfFiles program
+of_files main names files came program come is =
+    let are : AreProgram main files program = subst (ComeTo main names files) is come in
+    (files, main, are.is)
+
+done_is : (status : Status) → is_done status ≡ true → status ≡ statuses.Done
+done_is statuses.Done is = refl
+done_is statuses.Died is = cc
+done_is statuses.Usage is = cc
+done_is statuses.Refused is = cc
+done_is statuses.NoMain is = cc
+done_is statuses.Stuck is = cc
+done_is statuses.Limit is = cc
+done_is statuses.ReadFault is = cc
+done_is statuses.WriteFault is = cc
+done_is statuses.Memory is = cc
+done_is (statuses.NotExecution n) is = cc
+done_is (statuses.MakeRefused n) is = cc
+
+-- two runs of the program of a number, or one
+pub ran_twice : (number count : ℕ) (program : Accepted) (first second answer : Answer) → Runs (seeded number) stress_limits count program first → is_done first.status ≡ true
+    → Runs (seeded ((number + 1) % 2 ^ 64)) stress_limits count program second → answer ≡ second_answer first second → RunsTwice number count program answer
+ran_twice number count program first second answer runs well again is = (first, runs, inl (done_is first.status well, second, again, is))
+
+pub ran_once : (number count : ℕ) (program : Accepted) (first answer : Answer) → Runs (seeded number) stress_limits count program first → is_done first.status ≡ false
+    → answer ≡ first_answer first → RunsTwice number count program answer
+ran_once number count program first answer runs ill is = (first, runs, inr (λ well. not_done (sym (ap is_done well) ∙ ill), is))
+  where
+    not_done : true ≡ false → ⊥
+    not_done e = cc
+
+-- the answer of a command over the program of a folder
+pub program-asked : (request known : Option Request) (answers : ℕ → Accepted → Answer → Type 0) (dir main dir-given main-given : List ℕ) (outside : Outside) (answer : Answer)
+    → request ≡ known → dir-given ≡ dir → main-given ≡ main → (IsOfProgram answers dir (encoded_text main) outside answer → IsAnswer known outside answer)
+    → IsOfProgram answers dir-given (encoded_text main-given) outside answer → IsAnswer request outside answer
+program-asked request known answers dir main dir-given main-given outside answer is same-dir same-main means of =
     let Of : Option Request → Type 0 = λ r. IsAnswer r outside answer in
-    let In : List ℕ → Type 0 = λ d. IsOfProgram Counts d (encoded_text main) outside answer in
-    let From : List ℕ → Type 0 = λ m. IsOfProgram Counts dir-given (encoded_text m) outside answer in
-    subst Of (sym is) (subst In same-dir (subst From same-main of))
+    let In : List ℕ → Type 0 = λ d. IsOfProgram answers d (encoded_text main) outside answer in
+    let From : List ℕ → Type 0 = λ m. IsOfProgram answers dir-given (encoded_text m) outside answer in
+    subst Of (sym is) (means (subst In same-dir (subst From same-main of)))

@@ -1,5 +1,5 @@
 -- How a run may end.
-use Rattle.std.proofs.Common.{◌≡◌, inl, inr, ℕ, List, [], ◌∷◌, ◌||◌, length, Bool, true, false, Option, None, Some, Result, Ok, Err, IfOk, ◌<◌, ◌↔◌, arith, refl, sym, ◌∙◌, ap, subst, codes}
+use Rattle.std.proofs.Common.{◌≡◌, inl, inr, ℕ, List, [], ◌∷◌, ◌||◌, length, Bool, true, false, Option, None, Some, Result, Ok, Err, IfOk, ◌+◌, ◌%◌, ◌^◌, ◌<◌, ◌↔◌, arith, refl, sym, ◌∙◌, ap, subst, codes}
 use Rattle.std.specs.Prelude.{◌⊎◌}
 use Rattle.std.specs.Result.{OnOk}
 use Rattle.op_core.specs.declared.How.{How}
@@ -9,16 +9,20 @@ use Rattle.schedules.specs.declared.order.Schedule.{Schedule}
 use Rattle.java_run.specs.Run.{status_of}
 use Rattle.program_accept.specs.Accepted.{Accepted}
 use Rattle.command_words.specs.declared.request.Request.{Request}
-use Rattle.command_words.specs.declared.request.Request.TheVariants.{Pick, Trace, Run, Check, Load, Make, Stress, Help, Version}
+use Rattle.command_words.specs.declared.request.Request.TheVariants.{Pick, Trace, Run, Check, Load, Make, Migrate, Stress, Help, Version}
 use Rattle.program_answers.specs.declared.status.Status.{Status}
 use Rattle.program_answers.specs.declared.status.Status.TheVariants as statuses
 use Rattle.program_answers.specs.declared.answer.Answer.{Answer}
 use Rattle.program_answers.specs.Written.{line, SinkRun, Streams, EndsOr, Comes}
 use Rattle.encoded_texts.specs.Encoded.{encoded_text}
-use Rattle.jrev_top.specs.Answers.{IsJudged, Counts, Runs, IsMade}
+use Rattle.java_run.specs.declared.checking.Checked.{Checked}
+use Rattle.java_run.specs.declared.checking.Checked.TheVariants.{Execution, NotExecution}
+use Rattle.jrev_top.specs.Answers.{IsJudged, IsRefusal, Counts, Runs, Traces, Checks, checked_answer, IsMade, IsMigrated, IsStressed, RunsTwice, seeded, stress_limits}
+use Rattle.stress_texts.specs.Classes.{stress_names}
+use Rattle.stress_texts.specs.declared.classes.TheConstants.{STRESS_MAIN}
 use Rattle.jrev_top.specs.declared.failure.Failure.{Failure}
 use Rattle.jrev_top.specs.declared.failure.Failure.TheVariants as failure
-use Rattle.jrev_top.specs.Touches.{may_end, is_of_program, is_of_run, is_of_text, is_done}
+use Rattle.jrev_top.specs.Touches.{may_end, is_of_program, is_of_run, is_of_text, is_of_journal, is_done}
 use Rattle.jrev_top.specs.Headline.{Outside, IsAnswerTo, IsAnswer, IsTold, Reports, FailsAsked, FailsStream, Ends, MayEnd}
 
 -- what holds of the status that is meant, and of those of failures, holds of the one that comes
@@ -75,31 +79,59 @@ or_left a b is = ap (λ x. x || b) is
 ran : (schedule : Schedule) (limits : Limits) (count : ℕ) (program : Accepted) (answer : Answer) → Runs schedule limits count program answer → is_of_run answer.status ≡ true
 ran schedule limits count program answer is = ap (λ (a : Answer). is_of_run a.status) is.answered ∙ of_how is.outcome.how
 
+traced : (schedule : Schedule) (limits : Limits) (count : ℕ) (program : Accepted) (answer : Answer) → Traces schedule limits count program answer → is_of_run answer.status ≡ true
+traced schedule limits count program answer is = ap (λ (a : Answer). is_of_run a.status) is.answered ∙ of_how is.outcome.how
+
+of_checked : (checked : Checked) → is_of_journal (checked_answer checked).status ≡ true
+of_checked (Execution lines) = refl
+of_checked (NotExecution number) = refl
+
+checks : (input : Option (List ℕ)) (count : ℕ) (program : Accepted) (answer : Answer) → Checks input count program answer → is_of_journal answer.status ≡ true
+checks input count program answer (text, checked, read, is, same) = ap (λ (a : Answer). is_of_journal a.status) same ∙ of_checked checked
+
+refused_as : (main : List ℕ) (names files : List (List ℕ)) (answer : Answer) → IsRefusal main names files answer → is_of_program answer.status ≡ true
+refused_as main names files answer (inl none) = ends-as is_of_program answer _ none.1 refl
+refused_as main names files answer (inr refusal) = ends-as is_of_program answer _ refusal.2 refl
+
 counted : (main : List ℕ) (names files : List (List ℕ)) (answer : Answer) → IsJudged Counts main names files answer → is_of_program answer.status ≡ true
 counted main names files answer (inl program) = ends-as is_of_program answer _ program.2 refl
-counted main names files answer (inr (inl none)) = ends-as is_of_program answer _ none.1 refl
-counted main names files answer (inr (inr refusal)) = ends-as is_of_program answer _ refusal.2 refl
+counted main names files answer (inr refusal) = refused_as main names files answer refusal
 
-picked : (schedule : Schedule) (limits : Limits) (main : List ℕ) (names files : List (List ℕ)) (answer : Answer) → IsJudged (Runs schedule limits) main names files answer
-    → is_of_run answer.status || is_of_program answer.status ≡ true
-picked schedule limits main names files answer (inl program) = or_left _ _ (ran schedule limits (length files) program.0 answer program.2)
-picked schedule limits main names files answer (inr (inl none)) = or_right _ _ (ends-as is_of_program answer _ none.1 refl)
-picked schedule limits main names files answer (inr (inr refusal)) = or_right _ _ (ends-as is_of_program answer _ refusal.2 refl)
+-- of a program that something is done with, whose answers end so
+judged_as : (test : Status → Bool) (answers : ℕ → Accepted → Answer → Type 0) → ((count : ℕ) (program : Accepted) (answer : Answer) → answers count program answer → test answer.status ≡ true)
+    → (main : List ℕ) (names files : List (List ℕ)) (answer : Answer) → IsJudged answers main names files answer → test answer.status || is_of_program answer.status ≡ true
+judged_as test answers ends main names files answer (inl program) = or_left _ _ (ends (length files) program.0 answer program.2)
+judged_as test answers ends main names files answer (inr refusal) = or_right _ _ (refused_as main names files answer refusal)
 
 made : (text : List ℕ) (answer : Answer) → IsMade text answer → is_of_text answer.status ≡ true
 made text answer (inl bytes) = ends-as is_of_text answer _ bytes.2 refl
 made text answer (inr number) = ends-as is_of_text answer _ number.2 refl
 
+migrated : (text : List ℕ) (answer : Answer) → IsMigrated text answer → is_of_journal answer.status ≡ true
+migrated text answer (inl (read, is, same)) = ends-as is_of_journal answer _ same refl
+migrated text answer (inr (fault, is, same)) = ends-as is_of_journal answer _ same refl
+
+two_runs : (number count : ℕ) (program : Accepted) (answer : Answer) → RunsTwice number count program answer → is_of_run answer.status ≡ true
+two_runs number count program answer (first, runs, inl (well, second, again, same)) =
+    ap (λ (a : Answer). is_of_run a.status) same ∙ ran (seeded ((number + 1) % 2 ^ 64)) stress_limits count program second again
+two_runs number count program answer (first, runs, inr (other, same)) =
+    ap (λ (a : Answer). is_of_run a.status) same ∙ ran (seeded number) stress_limits count program first runs
+
+stressed : (number : ℕ) (answer : Answer) → IsStressed number answer → is_of_run answer.status || is_of_program answer.status ≡ true
+stressed number answer (files, are, judged) =
+    judged_as is_of_run (RunsTwice number) (two_runs number) (encoded_text STRESS_MAIN.now) stress_names files answer judged
+
 request-ends : (request : Request) (outside : Outside) (answer : Answer) → IsAnswerTo request outside answer → may_end request answer.status ≡ true
-request-ends (Pick dir main limits schedule counts) outside answer is = picked schedule limits (encoded_text main) _ is.3.0 answer is.3.2
+request-ends (Pick dir main limits schedule counts) outside answer is = judged_as is_of_run (Runs schedule limits) (ran schedule limits) (encoded_text main) _ is.3.0 answer is.3.2
+request-ends (Trace dir main limits schedule) outside answer is = judged_as is_of_run (Traces schedule limits) (traced schedule limits) (encoded_text main) _ is.3.0 answer is.3.2
+request-ends (Check dir main) outside answer is = judged_as is_of_journal (Checks outside.input) (checks outside.input) (encoded_text main) _ is.3.0 answer is.3.2
 request-ends (Load dir main) outside answer is = counted (encoded_text main) _ is.3.0 answer is.3.2
 request-ends Make outside answer is = made is.0 answer is.2
+request-ends Migrate outside answer is = migrated is.0 answer is.2
+request-ends (Stress number) outside answer is = stressed number answer is
 request-ends Help outside answer is = ends-as is_done answer _ is refl
 request-ends Version outside answer is = ends-as is_done answer _ is refl
-request-ends (Trace dir main limits schedule) outside answer is = absurd is
 request-ends (Run dir main limits workers slice counts) outside answer is = absurd is
-request-ends (Check dir main) outside answer is = absurd is
-request-ends (Stress number) outside answer is = absurd is
 
 -- the answer's status is one with which the words may end
 pub answer-ends : (request : Option Request) (outside : Outside) (answer : Answer) → IsAnswer request outside answer → Ends request answer.status
@@ -112,6 +144,7 @@ ends-read_fault None is = cc
 ends-read_fault (Some (Pick dir main limits schedule counts)) is = cc
 ends-read_fault (Some (Load dir main)) is = cc
 ends-read_fault (Some Make) is = cc
+ends-read_fault (Some Migrate) is = cc
 ends-read_fault (Some Help) is = cc
 ends-read_fault (Some Version) is = cc
 ends-read_fault (Some (Trace dir main limits schedule)) is = cc
@@ -124,6 +157,7 @@ ends-write_fault None is = cc
 ends-write_fault (Some (Pick dir main limits schedule counts)) is = cc
 ends-write_fault (Some (Load dir main)) is = cc
 ends-write_fault (Some Make) is = cc
+ends-write_fault (Some Migrate) is = cc
 ends-write_fault (Some Help) is = cc
 ends-write_fault (Some Version) is = cc
 ends-write_fault (Some (Trace dir main limits schedule)) is = cc
@@ -136,6 +170,7 @@ ends-memory None is = cc
 ends-memory (Some (Pick dir main limits schedule counts)) is = cc
 ends-memory (Some (Load dir main)) is = cc
 ends-memory (Some Make) is = cc
+ends-memory (Some Migrate) is = cc
 ends-memory (Some Help) is = cc
 ends-memory (Some Version) is = cc
 ends-memory (Some (Trace dir main limits schedule)) is = cc

@@ -5,13 +5,13 @@ use Rattle.jr_ports.specs.Stream.{Gains}
 use Rattle.class_make.specs.Texts.{front}
 use Rattle.encoded_texts.specs.Encoded.{encoded_text}
 use Rattle.command_words.specs.declared.request.Request.{Request}
-use Rattle.command_words.specs.declared.request.Request.TheVariants.{Pick, Load, Make, Help, Version}
+use Rattle.command_words.specs.declared.request.Request.TheVariants.{Pick, Trace, Check, Load, Make, Migrate, Stress, Help, Version}
 use Rattle.program_accept.specs.Accepted.{Accepted}
 use Rattle.program_answers.specs.declared.status.Status.{Status}
 use Rattle.program_answers.specs.declared.status.Status.TheVariants as statuses
 use Rattle.program_answers.specs.declared.answer.Answer.{Answer}
 use Rattle.program_answers.specs.Written.{SinkRun, Streams, Comes, IsReadFault, IsNoMemory}
-use Rattle.jrev_top.specs.Answers.{usage, given, help_text, version_text, IsDecided, Counts, Runs, IsMade}
+use Rattle.jrev_top.specs.Answers.{usage, given, help_text, version_text, IsDecided, Counts, Runs, Traces, Checks, IsJournalText, IsMade, IsMigrated, IsStressed}
 use Rattle.jrev_top.specs.declared.failure.Failure.{Failure}
 use Rattle.jrev_top.specs.declared.failure.Failure.TheVariants.{Failed, NoMemory}
 use Rattle.jrev_top.specs.Touches.{folder_named, input_wanted, may_end}
@@ -39,8 +39,12 @@ IsOfProgram answers dir main outside answer =
 -- The answer to a request. A class's name is compared in modified UTF-8.
 abbrev pub IsAnswerTo : Request → Outside → Answer → Type 0
 IsAnswerTo (Pick dir main limits schedule counts) outside answer = IsOfProgram (Runs schedule limits) dir (encoded_text main) outside answer
+IsAnswerTo (Trace dir main limits schedule) outside answer = IsOfProgram (Traces schedule limits) dir (encoded_text main) outside answer
+IsAnswerTo (Check dir main) outside answer = IsOfProgram (Checks outside.input) dir (encoded_text main) outside answer
 IsAnswerTo (Load dir main) outside answer = IsOfProgram Counts dir (encoded_text main) outside answer
 IsAnswerTo Make outside answer = (text : List ℕ) × IsText outside.input text × IsMade text answer
+IsAnswerTo Migrate outside answer = (text : List ℕ) × IsJournalText outside.input text × IsMigrated text answer
+IsAnswerTo (Stress number) outside answer = IsStressed number answer
 IsAnswerTo Help outside answer = answer ≡ given help_text
 IsAnswerTo Version outside answer = answer ≡ given version_text
 IsAnswerTo _ outside answer = ⊥

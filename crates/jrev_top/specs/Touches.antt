@@ -5,7 +5,7 @@ use Rattle.std.specs.declared.alloc.Global.{Global}
 use Rattle.assembler_text.specs.TextLines.{most_bytes}
 use Rattle.command_words.specs.Built.{built_request}
 use Rattle.command_words.specs.declared.request.Request.{Request}
-use Rattle.command_words.specs.declared.request.Request.TheVariants.{Pick, Trace, Run, Check, Load, Make, Stress, Help, Version}
+use Rattle.command_words.specs.declared.request.Request.TheVariants.{Pick, Trace, Run, Check, Load, Make, Migrate, Stress, Help, Version}
 use Rattle.program_answers.specs.declared.status.Status.{Status}
 use Rattle.program_answers.specs.declared.status.Status.TheVariants as statuses
 
@@ -21,19 +21,24 @@ folder_of (Run dir main limits workers slice counts) = Some dir
 folder_of (Check dir main) = Some dir
 folder_of (Load dir main) = Some dir
 folder_of Make = None
+folder_of Migrate = None
 folder_of (Stress number) = None
 folder_of Help = None
 folder_of Version = None
 
--- How many of its class files are read at most. What isn't carried out yet is said to read none, and nothing of the input.
+-- How many of its class files are read at most. `run`, which isn't carried out yet, is said to read none.
 abbrev pub files_of : Request → ℕ
 files_of (Pick dir main limits schedule counts) = 1025
+files_of (Trace dir main limits schedule) = 1025
+files_of (Check dir main) = 1025
 files_of (Load dir main) = 1025
 files_of _ = 0
 
--- how many bytes of the input are read at most, if it is read: of a text one more than it may have
+-- how many bytes of the input are read at most, if it is read: one more than a text or a journal may have
 abbrev pub input_of : Request → Option ℕ
+input_of (Check dir main) = Some 268435457
 input_of Make = Some (most_bytes + 1)
+input_of Migrate = Some 268435457
 input_of _ = None
 
 abbrev pub is_of_program : Status → Bool
@@ -55,6 +60,11 @@ is_of_text statuses.Done = true
 is_of_text (statuses.MakeRefused line) = true
 is_of_text _ = false
 
+abbrev pub is_of_journal : Status → Bool
+is_of_journal statuses.Done = true
+is_of_journal (statuses.NotExecution line) = true
+is_of_journal _ = false
+
 abbrev pub is_done : Status → Bool
 is_done statuses.Done = true
 is_done _ = false
@@ -62,8 +72,12 @@ is_done _ = false
 -- with which statuses its answer ends
 abbrev pub may_end : Request → Status → Bool
 may_end (Pick dir main limits schedule counts) status = is_of_run status || is_of_program status
+may_end (Trace dir main limits schedule) status = is_of_run status || is_of_program status
+may_end (Check dir main) status = is_of_journal status || is_of_program status
 may_end (Load dir main) status = is_of_program status
 may_end Make status = is_of_text status
+may_end Migrate status = is_of_journal status
+may_end (Stress number) status = is_of_run status || is_of_program status
 may_end Help status = is_done status
 may_end Version status = is_done status
 may_end _ status = false

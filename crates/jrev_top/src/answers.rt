@@ -5,6 +5,7 @@ ghost use Rattle.std.specs.Fmt.{decimal};
 ghost use Rattle.program_answers.specs.Written.{line};
 ghost use Rattle.jrev_top.specs.Answers as answers;
 
+use java_run::Checked;
 use program_accept::{Refusal, Stage};
 use program_answers::{Answer, Output, Status};
 use rows::{Bytes, Rows};
@@ -151,4 +152,28 @@ pub(crate) fn not_made(alloc: Global, number: u32) -> Result<Answer, AllocError>
     let mut text = Vec::from_slice(alloc, b"make: line ")?;
     text.extend_from_slice(digits.as_bytes())?;
     told(alloc, Status::MakeRefused(number), text)
+}
+
+/// The line of this number shows that a text is the journal of no execution.
+pub(crate) fn not_execution(alloc: Global, number: u32) -> Result<Answer, AllocError>
+    ensures { IfOk result (λ answer. answer ≡ answers.not_execution number) }
+{
+    let digits = number.to_string(alloc)?;
+    let mut text = Vec::from_slice(alloc, b"not an execution: line ")?;
+    text.extend_from_slice(digits.as_bytes())?;
+    told(alloc, Status::NotExecution(number), text)
+}
+
+/// What the check of a journal came to.
+pub(crate) fn checked_answer(alloc: Global, checked: Checked) -> Result<Answer, AllocError>
+    ensures { IfOk result (λ answer. answer ≡ answers.checked_answer checked) }
+{
+    match checked {
+        Checked::Execution(lines) => Ok(Answer {
+            status: Status::Done,
+            out: Output::from_pieces(lines),
+            err: Rows::new(alloc),
+        }),
+        Checked::NotExecution(number) => not_execution(alloc, number),
+    }
 }

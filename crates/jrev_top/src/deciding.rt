@@ -9,10 +9,12 @@ ghost use Rattle.jrev_top.specs.Headline.{AsksOnly, FailsAsked, IsAnswer};
 
 use crate::answers::{given, usage};
 use crate::failure::Failure;
+use crate::journals::{check, migrate};
 use crate::loading::decide_program;
 use crate::making::make;
+use crate::stressing::answer_to_number;
 use crate::texts::{help, version};
-use crate::verdict::{Count, Execution};
+use crate::verdict::{Count, Execution, Tracing};
 use command_words::{Request, WordsRefusal, words_of};
 use jr_ports::{ClassDir, Source};
 use program_answers::Answer;
@@ -79,10 +81,29 @@ pub(crate) fn decide<D: ClassDir, I: Source>(
             };
             decide_program(alloc, dir.as_str(), main.as_str(), classes, &execution)
         }
+        Ok(
+            Request::Trace {
+                dir,
+                main,
+                limits,
+                schedule,
+            },
+        ) => {
+            let tracing = Tracing {
+                schedule: &schedule,
+                limits: &limits,
+            };
+            decide_program(alloc, dir.as_str(), main.as_str(), classes, &tracing)
+        }
+        Ok(Request::Check { dir, main }) => {
+            check(alloc, dir.as_str(), main.as_str(), classes, input)
+        }
         Ok(Request::Load { dir, main }) => {
             decide_program(alloc, dir.as_str(), main.as_str(), classes, &Count)
         }
         Ok(Request::Make) => make(alloc, input),
+        Ok(Request::Migrate) => migrate(alloc, input),
+        Ok(Request::Stress { number }) => Ok(answer_to_number(alloc, number)?),
         Ok(Request::Help) => text(alloc, help()),
         Ok(Request::Version) => text(alloc, version()),
         Ok(_) | Err(WordsRefusal::Usage) => Ok(usage(alloc)?),

@@ -15,21 +15,25 @@ use std::thread::Threads;
 
 /// Runs the program with the words of its command line, its own name left out.
 ///
-/// `pick DIR MAIN` executes the program of the class files in DIR that begins with the class MAIN, `load DIR MAIN`
-/// says whether it is accepted, `make` makes a class file of the text on `input`, `--help` and `--version` say what the
-/// program is. The answer goes to `out` and `err`, and the status says how the run ended:
+/// `pick DIR MAIN` executes the program of the class files in DIR that begins with the class MAIN. `trace DIR MAIN`
+/// does so too, and gives the journal of the run in place of its lines. `check DIR MAIN` says whether the text on
+/// `input` is the journal of an execution of the program. `load DIR MAIN` says whether the program is accepted. `make`
+/// makes a class file of the text on `input`, `migrate` gives the journal on `input` in version 2, `stress N` executes
+/// the program that is made for a number twice, and `--help` and `--version` say what the program is. The answer goes
+/// to `out` and `err`, and the status says how the run ended:
 ///
-/// - `Done`, `Usage`, `Refused`, `NoMain` and `MakeRefused` come exactly where the words, the files and the text say
-///   so; under `pick` `Done` and `Died` where all threads have ended, normally or one by an exception, `Stuck` where no
-///   thread can go on, `Limit` where the next turn meets a limit;
+/// - `Done`, `Usage`, `Refused`, `NoMain`, `NotExecution` and `MakeRefused` come exactly where the words, the files and
+///   the text say so; under `pick`, `trace` and `stress` `Done` and `Died` where all threads have ended, normally or one
+///   by an exception, `Stuck` where no thread can go on, since each that hasn't ended waits, and `Limit` where the next
+///   turn meets a limit, or where under `trace` the last turn made the last event that a journal has room for;
 /// - `WriteFault` comes exactly where the count of faults of `out` or of `err` rose in this call, and `ReadFault`
-///   exactly where neither did and that of `classes` rose, or under `make` that of `input`;
+///   exactly where neither did and that of `classes` rose, or under `check`, `make` and `migrate` that of `input`;
 /// - `Memory` may come anywhere, but not where one of these counts rose.
 ///
 /// `out` is written before `err`. After a fault, or when memory runs out, `out` was given a part of the answer, from
 /// its front, and `err` the line of that failure alone, or a part of it. `classes` is asked for DIR alone; all files
-/// that an answer is based on were read before it. `input` is read by `make` alone, up to its end or one byte past the
-/// longest text, whichever comes first.
+/// that an answer is based on were read before it. `input` is read by `check`, `make` and `migrate` alone, up to its
+/// end or one byte past the longest journal or text, whichever comes first.
 pub fn jrev<R: Threads + Sync, D: ClassDir, I: Source, O: Sink, E: Sink, G: Gate + Sync>(
     _rt: &R,
     alloc: Global,

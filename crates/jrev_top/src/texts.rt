@@ -7,21 +7,33 @@ ghost use Rattle.jrev_top.specs.Answers.{help_text, version_text};
 pub const HELP: &str = "jrev executes Java class files whose monitors can be revoked.
 
 usage: jrev pick DIR MAIN [OPTION..]
+       jrev trace DIR MAIN [OPTION..]
+       jrev check DIR MAIN
        jrev load DIR MAIN
        jrev make
+       jrev migrate
+       jrev stress N
        jrev --help
        jrev --version
 
 pick       loads the class files of the folder DIR and executes the class MAIN, a dot or a slash between the
            parts of its name, with its threads by turns on one processor, and prints its lines.
+trace      executes a program as pick does and prints the journal of the run: a line for each operation of a
+           thread. docs/journal.md explains it.
+check      reads a journal from the standard input and says whether it is one of an execution of the program.
+           If it is, check prints the lines of that execution, and else the line of the journal that shows it.
 load       says whether the class files of the folder DIR are accepted as a program that begins with the
            class MAIN: whether they are read, decoded, linked and verified. It executes nothing. The line
            refused: STAGE FILE NUMBER METHOD PLACE says what is wrong; docs/refusals.md explains it.
 make       reads the text of an assembler from the standard input and writes the class file that it stands for.
+migrate    reads a journal of either version from the standard input and writes it in version 2.
+stress     makes a program of 2 to 16 threads from the number N, which count under one monitor, and executes
+           it twice, by N and by the number after it. Each run prints first or second, then 8000, then 500
+           for each thread.
 --help     prints this text.
 --version  prints the version.
 
-options of pick, each at most once:
+options of pick and trace, each at most once:
   --order=ITEM,..  the turns that come first: 2*100 gives thread 2 one hundred turns. After the order
                    the first thread that can go on has the turn
   --seed=N         after the order a thread is drawn for each turn, by this number
@@ -31,13 +43,14 @@ options of pick, each at most once:
 
 examples: jrev pick classes Main
           jrev pick classes Main --seed=7
+          jrev trace classes Main --seed=7 | jrev check classes Main
           jrev load classes Main
           jrev make < one.jasm > One.new && mv One.new classes/One.class
 
 exit status:
   0  the command did its work
   1  all threads of the program have ended, one or more by an exception that nothing caught
-  2  the words are none of a command, or ask for what is not there yet
+  2  no command has these words, or they ask for what is not there yet
   3  the program is not accepted
   4  no class in DIR is named MAIN, or it has no main method
   5  no thread of the program can go on
@@ -45,6 +58,7 @@ exit status:
   7  the folder or the standard input could not be read
   8  the output could not be written
   9  there was no memory
+ 10  the standard input is not the journal of an execution
  11  the assembler's text is refused at a line
 ";
 

@@ -3,7 +3,7 @@
 ghost use Rattle.std.specs.Prelude.{IfOk};
 
 use crate::answers::accepted;
-use java_run::execute;
+use java_run::{execute, trace};
 use java_world::JavaWorld;
 use op_core::{Limits, NoMemory};
 use program_accept::Program;
@@ -14,6 +14,7 @@ use std::alloc::Global;
 /// What is answered to a program that is accepted.
 pub trait Verdict {
     ghost use Rattle.std.specs.Prelude.{ℕ, IfOk};
+    ghost use Rattle.accepted_programs.specs.Programs.{IsOfFiles};
     ghost use Rattle.program_accept.specs.Accepted.{Accepted};
     ghost use Rattle.program_answers.specs.declared.answer.Answer.{Answer};
 
@@ -22,6 +23,7 @@ pub trait Verdict {
 
     /// The answer to a program of `count` classes. It fails only when memory runs out.
     fn answer(&self, alloc: Global, count: usize, accepted: &Program) -> Result<Answer, NoMemory>
+        requires { IsOfFiles accepted.now }
         ensures { IfOk result (λ answer. answers self.now count accepted.now answer) };
 }
 
@@ -53,13 +55,24 @@ impl<'a> Verdict for Execution<'a> {
 
     fn answer(&self, alloc: Global, _count: usize, accepted: &Program) -> Result<Answer, NoMemory> {
         let program = JavaWorld::new(alloc, accepted)?;
-        execute(
-            alloc,
-            accepted.world(),
-            &program,
-            accepted.main(),
-            self.schedule,
-            self.limits,
-        )
+        execute(alloc, &program, accepted, self.schedule, self.limits)
+    }
+}
+
+/// The journal of a run of the program by a schedule and under limits.
+#[derive(Clone, Copy)]
+pub struct Tracing<'a> {
+    pub schedule: &'a Schedule,
+    pub limits: &'a Limits,
+}
+
+impl<'a> Verdict for Tracing<'a> {
+    ghost use Rattle.jrev_top.specs.Answers.{Traces};
+
+    ghost answers = { λ t. Traces t.schedule.now t.limits.now };
+
+    fn answer(&self, alloc: Global, _count: usize, accepted: &Program) -> Result<Answer, NoMemory> {
+        let program = JavaWorld::new(alloc, accepted)?;
+        trace(alloc, &program, accepted, self.schedule, self.limits)
     }
 }

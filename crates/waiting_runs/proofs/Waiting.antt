@@ -41,7 +41,7 @@ module _ (us : List ClassUnit) (main : MethodId) where
         record {
           last = last;
           leads = leads;
-          some_live = stuck.some_live;
+          stuck = stuck;
           all_wait = λ t l there. fit.wait last t l (events, leads) there (stuck.all_blocked t l there);
         },
         lines,

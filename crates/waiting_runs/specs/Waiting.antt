@@ -6,7 +6,7 @@ use Rattle.op_core.specs.declared.Event.{Event}
 use Rattle.op_core.specs.declared.How.TheVariants.{Stuck}
 use Rattle.op_core.specs.declared.Limits.{Limits}
 use Rattle.op_core.specs.declared.Outcome.{Outcome}
-use Rattle.op_core.specs.Execution.{Leads, printed}
+use Rattle.op_core.specs.Execution.{Leads, IsStuck, printed}
 use Rattle.op_core.specs.OrdinaryState.{OrdinaryState, live}
 use Rattle.schedules.specs.declared.order.Schedule.{Schedule}
 use Rattle.ordinary_machine.specs.Start.{start_of}
@@ -15,11 +15,12 @@ use Rattle.java_rows.specs.Start.{opening_of, start_of_program}
 use Rattle.java_rows.specs.Thread.{Local, first_state, java_code}
 use Rattle.java_sound.specs.Sound.{WaitsAt}
 
--- the events lead from the start of the program to a state in which some thread hasn't ended, and each such thread waits
+-- the events lead from the start of the program to a state that is stuck: some thread hasn't ended, none of these has a step,
+-- and each of them waits
 pub record EndsWaiting (us : List ClassUnit) (main : MethodId) (events : List Event) : Type 0 where
   pub last : OrdinaryState Local
   pub leads : Leads java_code (start_of_program us main) events last
-  pub some_live : (t : ℕ) × (l : Local) × (last.threads t ≡ live l)
+  pub stuck : IsStuck java_code last
   pub all_wait : (t : ℕ) (l : Local) → last.threads t ≡ live l → WaitsAt last t l
 
 -- a run of the program that is stuck ends so, and prints the lines of these events: those of the outcome, where they were kept

@@ -1,43 +1,13 @@
-use Rattle.std.proofs.Common.{◌≡◌, inl, inr, length, map, subst, ◌∙◌, ℕ, List, rules}
+use Rattle.std.proofs.Common.{◌≡◌, length, map, rules, string_bytes}
 use Rattle.std.proofs.lemmas.Result.{IfOk-weaker}
 use Rattle.std.proofs.lemmas.List.{length-map}
-use Rattle.program_accept.specs.declared.refusal.AcceptRefusal.TheVariants.{NoMain, Refused}
-use Rattle.program_accept.specs.Accepted.{program_rules}
 use Rattle.encoded_texts.specs.Encoded.{encoded_text}
-use Rattle.program_answers.specs.declared.answer.Answer.{Answer}
-use Rattle.jrev_top.specs.Answers.{AreProgram, RefuseOnly, IsJudged}
-use Rattle.jrev_top.proofs.Answered.{refuses-only}
+use Rattle.jrev_top.proofs.Answered.{judged_program, judged_other}
 use Rattle.jrev_top.proofs.loading.answer_to_files.Goals as goal
 
-pub returns-in-Err-NoMain : goal.returns-in-Err-NoMain
-returns-in-Err-NoMain g c =
-    let at = c.in-Err-NoMain in
+pub returns-in-Program : goal.returns-in-Program
+returns-in-Program g c =
     let files = map (λ f. f.items) c.args.files.items in
-    let name = c.as_slice.ensures.value ∙ c.in_ok-main.ensures in
-    let Only : List ℕ → Type 0 = λ n. RefuseOnly (program_rules files n) NoMain in
-    inr (inl (
-      subst Only name (refuses-only (program_rules files c.as_slice.result.now) at.field-0 NoMain at.ensures.exact at.ensures.first at.ensures.only at.field-0-is (λ e. cc)),
-      c.in_ok-no_main-in-Err-NoMain.ensures,
-    ))
-
-pub returns-in-Err-Refused : goal.returns-in-Err-Refused
-returns-in-Err-Refused g c =
-    let at = c.in-Err-Refused in
-    let files = map (λ f. f.items) c.args.files.items in
-    let name = c.as_slice.ensures.value ∙ c.in_ok-main.ensures in
-    let Only : List ℕ → Type 0 = λ n. RefuseOnly (program_rules files n) (Refused at.refusal) in
-    inr (inr (
-      at.refusal,
-      subst Only name (refuses-only (program_rules files c.as_slice.result.now) at.field-0 (Refused at.refusal) at.ensures.exact at.ensures.first at.ensures.only at.field-0-is (λ e. cc)),
-      c.in_ok-refused-in-Err-Refused.ensures,
-    ))
-
-pub returns : goal.returns
-returns g c =
-    let files = map (λ f. f.items) c.args.files.items in
-    let name = c.as_slice.ensures.value ∙ c.in_ok-main.ensures in
     let long : c.len-count.result ≡ length files = search (length-map, rules) in
     let answers = g.V.Verdict.answers c.args.verdict.now in
-    let Is : List ℕ → Type 0 = λ n. AreProgram n files c.in-Ok.program in
-    let are = subst Is name (record { is = c.in-Ok.ensures.accepted; only = c.in-Ok.ensures.alone; unbroken = λ e refused. c.in-Ok.ensures.first e refused }) in
-    IfOk-weaker c.answer.result _ _ (λ answer is. inl (c.in-Ok.program, are, subst (λ n. answers n c.in-Ok.program answer) long is)) c.answer.ensures
+    IfOk-weaker c.answer.result _ _ (λ answer is. judged_program answers (encoded_text c.args.main.now) (map string_bytes c.args.names.now) files c.in_ok-judged.judged c.in-Program.program c.len-count.result answer c.in_ok-judged.ensures c.in-Program.is is long) c.answer.ensures

@@ -1,26 +1,16 @@
-use Rattle.std.proofs.Common.{◌∙◌}
+use Rattle.std.proofs.Common.{take}
 use Rattle.encoded_texts.specs.Encoded.{encoded_text}
-use Rattle.jrev_top.proofs.Found.{order-loaded}
-use Rattle.jrev_top.proofs.Answered.{loaded}
+use Rattle.jrev_top.proofs.Answered.{judged_program, judged_other}
 use Rattle.jrev_top.proofs.loading.decide_program.Goals as goal
 
-pub returns-in_err-files-clause-order : goal.returns-in_err-files-clause-order
-returns-in_err-files-clause-order g c =
-    order-loaded _ _ (g.D.ClassDir.contents c.args.classes.now) c.args.dir.now c.in_ok-names.names.items c.as_slice.result.now _ _ _
-    c.in_ok-names.ensures.names c.in_err-files.ensures.asked c.in_ok-names.ensures.read (c.as_slice.ensures.value ∙ c.truncate.ensures.items) c.in_err-files.ensures.front
+pub returns-in_ok-answer-in-Program-clause-answer : goal.returns-in_ok-answer-in-Program-clause-answer
+returns-in_ok-answer-in-Program-clause-answer g c =
+    let answers = g.V.Verdict.answers c.args.verdict.now in
+    let (names, listed, gained, (read, are, (count, is))) = c.in_ok-loaded.ensures.loaded in
+    (names, listed, gained, (read, are, judged_program answers (encoded_text c.args.main.now) (take 1025 names) read c.in_ok-loaded.loaded.judged c.in-Program.program c.in_ok-loaded.loaded.count c.in_ok-answer-in-Program.field-0 is c.in-Program.is c.in_ok-answer-in-Program.ensures count))
 
-pub returns-clause-answer : goal.returns-clause-answer
-returns-clause-answer g c =
-    loaded (g.V.Verdict.answers c.args.verdict.now) _ _ (g.D.ClassDir.contents c.args.classes.now) _ _ _ _ c.args.dir.now (encoded_text c.args.main.now) c.in_ok-names.names.items c.as_slice.result.now c.as_slice-2.result.now _ _
-    c.in_ok-names.ensures.names c.in_ok-files.ensures.asked c.in_ok-names.ensures.contents c.in_ok-names.ensures.read (c.as_slice.ensures.value ∙ c.truncate.ensures.items) (c.as_slice-2.ensures.value ∙ c.truncate.ensures.items)
-    c.in_ok-files.ensures.read c.in_ok-files.ensures.whole c.in_ok-answer.ensures
-
-pub returns-clause-order : goal.returns-clause-order
-returns-clause-order g c =
-    order-loaded _ _ (g.D.ClassDir.contents c.args.classes.now) c.args.dir.now c.in_ok-names.names.items c.as_slice.result.now _ _ _
-    c.in_ok-names.ensures.names c.in_ok-files.ensures.asked c.in_ok-names.ensures.read (c.as_slice.ensures.value ∙ c.truncate.ensures.items) c.in_ok-files.ensures.front
-
-pub returns-in_err-answer-clause-order : goal.returns-in_err-answer-clause-order
-returns-in_err-answer-clause-order g c =
-    order-loaded _ _ (g.D.ClassDir.contents c.args.classes.now) c.args.dir.now c.in_ok-names.names.items c.as_slice.result.now _ _ _
-    c.in_ok-names.ensures.names c.in_ok-files.ensures.asked c.in_ok-names.ensures.read (c.as_slice.ensures.value ∙ c.truncate.ensures.items) c.in_ok-files.ensures.front
+pub returns-in-Other-clause-answer : goal.returns-in-Other-clause-answer
+returns-in-Other-clause-answer g c =
+    let answers = g.V.Verdict.answers c.args.verdict.now in
+    let (names, listed, gained, (read, are, (count, is))) = c.in_ok-loaded.ensures.loaded in
+    (names, listed, gained, (read, are, judged_other answers (encoded_text c.args.main.now) (take 1025 names) read c.in_ok-loaded.loaded.judged c.in-Other.answer is c.in-Other.is))

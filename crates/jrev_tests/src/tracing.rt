@@ -1,0 +1,375 @@
+//! Tests of trace, check and migrate: a journal that is written, checked, and written in the newest version.
+
+use crate::making::ONE_TEXT;
+use crate::programs::Class;
+use crate::running::{Case, File, is_as_wanted, owned_files, run_over};
+use std::alloc::Global;
+use std::process::Abort;
+use std::test::Fail;
+use std::thread::Threads;
+
+const ONE: &[File] = &[File::Text("One.class", ONE_TEXT)];
+
+/// The journal of the class One, which prints 2 + 3.
+const ONE_JOURNAL: &str = "jrev-trace 2
+1 0 init 29 claimed
+1 0 done 29 ok
+1 5 print
+1 1 end
+end 4
+";
+
+/// The same journal in version 1.
+const FIRST_VERSION: &str = "jrev-trace 1
+1 0 init 29 claimed
+1 0 done 29 ok
+1 5 print
+1 1 end
+end 4
+";
+
+const fn traced(
+    words: &'static [&'static str],
+    status: u8,
+    out: &'static [u8],
+    err: &'static str,
+) -> Case {
+    Case {
+        words,
+        files: ONE,
+        input: "",
+        faults: (0, 0, 0, 0),
+        status,
+        out,
+        err,
+    }
+}
+
+const TRACED: [Case; 3] = [
+    traced(&["trace", "D", "One"], 0, ONE_JOURNAL.as_bytes(), ""),
+    traced(
+        &["trace", "D", "One", "--turns=1"],
+        6,
+        b"jrev-trace 2\n1 0 init 29 claimed\nend 1\n",
+        "limit: turns thread 1\n",
+    ),
+    traced(&["trace", "D", "Two"], 4, b"", "no main\n"),
+];
+
+#[test]
+fn trace_writes_the_journal_of_the_run(rt: HostRuntime) -> Result<(), Fail> {
+    for case in &TRACED {
+        assert!(rt; is_as_wanted(&rt, rt.alloc(), case)?);
+    }
+    Ok(())
+}
+
+const fn checked(input: &'static str, status: u8, out: &'static [u8], err: &'static str) -> Case {
+    Case {
+        words: &["check", "D", "One"],
+        files: ONE,
+        input,
+        faults: (0, 0, 0, 0),
+        status,
+        out,
+        err,
+    }
+}
+
+/// Journals of the class One in both versions, with an undone level, with a faulty one, with an event that is no step, without
+/// the last line, of a version that there isn't, and with a fault of the text after an event that is no step.
+const CHECKED: [Case; 8] = [
+    checked(ONE_JOURNAL, 0, b"5\n", ""),
+    checked(FIRST_VERSION, 0, b"5\n", ""),
+    checked(
+        "jrev-trace 2\n1 0 init 29 claimed\nundone 1 1 0\n1 0 done 29 ok\n1 5 print\n1 1 end\nend 4\n",
+        0,
+        b"5\n",
+        "",
+    ),
+    checked(
+        "jrev-trace 2\n1 0 init 29 claimed\nundone 1 0 0\n1 0 done 29 ok\n1 5 print\n1 1 end\nend 4\n",
+        10,
+        b"",
+        "not an execution: line 3\n",
+    ),
+    checked(
+        "jrev-trace 2\n1 0 init 29 claimed\n1 0 done 29 ok\n1 4 print\n1 1 end\nend 4\n",
+        10,
+        b"",
+        "not an execution: line 4\n",
+    ),
+    checked(
+        "jrev-trace 2\n1 0 init 29 claimed\n1 0 done 29 ok\n1 5 print\n1 1 end\n",
+        10,
+        b"",
+        "not an execution: line 6\n",
+    ),
+    checked(
+        "jrev-trace 9\n1 0 init 29 claimed\n1 0 done 29 ok\n1 5 print\n1 1 end\nend 4\n",
+        10,
+        b"",
+        "not an execution: line 1\n",
+    ),
+    checked(
+        "jrev-trace 2\n1 0 init 29 claimed\n1 0 done 29 ok\n1 4 print\n1 1 end\nend 3\n",
+        10,
+        b"",
+        "not an execution: line 6\n",
+    ),
+];
+
+#[test]
+fn check_says_whether_a_text_is_the_journal_of_an_execution(rt: HostRuntime) -> Result<(), Fail> {
+    for case in &CHECKED {
+        assert!(rt; is_as_wanted(&rt, rt.alloc(), case)?);
+    }
+    Ok(())
+}
+
+/// Programs that aren't accepted, under check: the input isn't read, so its first call, which would fail, isn't made.
+const UNCHECKED: [Case; 2] = [
+    Case {
+        words: &["check", "D", "Two"],
+        files: ONE,
+        input: ONE_JOURNAL,
+        faults: (0, 1, 0, 0),
+        status: 4,
+        out: b"",
+        err: "no main\n",
+    },
+    Case {
+        words: &["check", "D", "One"],
+        files: &[File::Other("One.class", b"any")],
+        input: ONE_JOURNAL,
+        faults: (0, 1, 0, 0),
+        status: 3,
+        out: b"",
+        err: "refused: read One.class 3 0 3\n",
+    },
+];
+
+#[test]
+fn the_input_is_read_of_an_accepted_program_alone(rt: HostRuntime) -> Result<(), Fail> {
+    for case in &UNCHECKED {
+        assert!(rt; is_as_wanted(&rt, rt.alloc(), case)?);
+    }
+    Ok(())
+}
+
+// Which line is missing or isn't ended in a text whose lines are all right.
+fn first_missing(text: &str) -> usize {
+    text.as_bytes()
+        .iter()
+        .filter(|byte| **byte == b'\n')
+        .count()
+        + 1
+}
+
+#[test]
+fn a_cut_journal_is_none_at_the_line_that_is_cut(rt: HostRuntime) -> Result<(), Fail> {
+    let alloc = rt.alloc();
+    for length in 0..ONE_JOURNAL.len() {
+        let text = ONE_JOURNAL.get(..length).unwrap_or("");
+        let mut wanted = String::from_str(alloc, "not an execution: line ")?;
+        wanted.push_str(first_missing(text).to_string(alloc)?.as_str())?;
+        wanted.push('\n')?;
+        let files = owned_files(&rt, alloc, ONE)?;
+        let seen = run_over(
+            &rt,
+            alloc,
+            &["check", "D", "One"],
+            files,
+            text,
+            (0, 0, 0, 0),
+        )?;
+        assert!(rt; seen.status == 10 && seen.out.is_empty());
+        assert!(rt; seen.err.as_slice() == wanted.as_bytes());
+    }
+    Ok(())
+}
+
+const fn migrated(input: &'static str, status: u8, out: &'static [u8], err: &'static str) -> Case {
+    Case {
+        words: &["migrate"],
+        files: &[],
+        input,
+        faults: (0, 0, 0, 0),
+        status,
+        out,
+        err,
+    }
+}
+
+/// Journals of both versions, a text that is none, one of a version that there isn't, and an undone level in version 1.
+const MIGRATED: [Case; 5] = [
+    migrated(FIRST_VERSION, 0, ONE_JOURNAL.as_bytes(), ""),
+    migrated(ONE_JOURNAL, 0, ONE_JOURNAL.as_bytes(), ""),
+    migrated("", 10, b"", "not an execution: line 1\n"),
+    migrated(
+        "jrev-trace 3\nend 0\n",
+        10,
+        b"",
+        "not an execution: line 1\n",
+    ),
+    migrated(
+        "jrev-trace 1\nundone 1 1 0\nend 0\n",
+        10,
+        b"",
+        "not an execution: line 2\n",
+    ),
+];
+
+#[test]
+fn migrate_writes_a_journal_in_the_newest_version(rt: HostRuntime) -> Result<(), Fail> {
+    for case in &MIGRATED {
+        assert!(rt; is_as_wanted(&rt, rt.alloc(), case)?);
+    }
+    Ok(())
+}
+
+/// Each call of the input fails under check and migrate, and a put of the journal or of the lines.
+const FAILING: [Case; 6] = [
+    Case {
+        words: &["check", "D", "One"],
+        files: ONE,
+        input: ONE_JOURNAL,
+        faults: (0, 1, 0, 0),
+        status: 7,
+        out: b"",
+        err: "read fault\n",
+    },
+    Case {
+        words: &["check", "D", "One"],
+        files: ONE,
+        input: ONE_JOURNAL,
+        faults: (0, 2, 0, 0),
+        status: 7,
+        out: b"",
+        err: "read fault\n",
+    },
+    Case {
+        words: &["check", "D", "One"],
+        files: ONE,
+        input: ONE_JOURNAL,
+        faults: (0, 0, 1, 0),
+        status: 8,
+        out: b"",
+        err: "write fault\n",
+    },
+    Case {
+        words: &["migrate"],
+        files: &[],
+        input: FIRST_VERSION,
+        faults: (0, 2, 0, 0),
+        status: 7,
+        out: b"",
+        err: "read fault\n",
+    },
+    Case {
+        words: &["trace", "D", "One"],
+        files: ONE,
+        input: "",
+        faults: (0, 0, 3, 0),
+        status: 8,
+        out: b"jrev-trace 2\n1 0 init 29 claimed\n",
+        err: "write fault\n",
+    },
+    Case {
+        words: &["trace", "D", "One"],
+        files: ONE,
+        input: "",
+        faults: (1, 0, 0, 0),
+        status: 7,
+        out: b"",
+        err: "read fault\n",
+    },
+];
+
+#[test]
+fn a_failing_call_is_said(rt: HostRuntime) -> Result<(), Fail> {
+    for case in &FAILING {
+        assert!(rt; is_as_wanted(&rt, rt.alloc(), case)?);
+    }
+    Ok(())
+}
+
+/// Programs of several threads, each with its lines under a seed: their journals are executions that print these lines.
+const PROGRAMS: [(Class, &str); 4] = [
+    (Class::Counts, "--seed=1"),
+    (Class::Waits, "--seed=2"),
+    (Class::Holds, "--seed=3"),
+    (Class::Joins, "--seed=4"),
+];
+
+// What the journal of a run comes to under check, beside what the run printed.
+fn is_checked<R: Abort + Threads + Sync>(
+    rt: &R,
+    alloc: Global,
+    class: Class,
+    seed: &str,
+) -> Result<bool, Fail> {
+    let files = &[File::Made(class)];
+    let none = (0, 0, 0, 0);
+    let all = owned_files(rt, alloc, files)?;
+    let picked = run_over(rt, alloc, &["pick", "D", "Main", seed], all, "", none)?;
+    let all = owned_files(rt, alloc, files)?;
+    let traced = run_over(rt, alloc, &["trace", "D", "Main", seed], all, "", none)?;
+    let journal = String::from_utf8_lossy(alloc, traced.out.as_slice())?;
+    let all = owned_files(rt, alloc, files)?;
+    let words = &["check", "D", "Main"];
+    let checked = run_over(rt, alloc, words, all, journal.as_str(), none)?;
+    Ok(
+        traced.status == picked.status
+            && traced.err == picked.err
+            && checked.status == 0
+            && checked.out == picked.out
+            && checked.err.is_empty(),
+    )
+}
+
+#[test]
+fn the_journal_of_a_run_is_accepted(rt: HostRuntime) -> Result<(), Fail> {
+    for (class, seed) in PROGRAMS {
+        assert!(rt; is_checked(&rt, rt.alloc(), class, seed)?);
+    }
+    Ok(())
+}
+
+const PAIR: &[File] = &[
+    File::Made(Class::Pair),
+    File::Made(Class::Low),
+    File::Made(Class::High),
+];
+
+// Whether the journal of a run that may end at a limit of turns is accepted, and gives the first of these lines.
+fn is_prefix_checked<R: Abort + Threads + Sync>(
+    rt: &R,
+    alloc: Global,
+    turns: u32,
+    lines: &[u8],
+) -> Result<bool, Fail> {
+    let none = (0, 0, 0, 0);
+    let mut limit = String::from_str(alloc, "--turns=")?;
+    limit.push_str(turns.to_string(alloc)?.as_str())?;
+    let words = &["trace", "D", "Main", "--seed=5", limit.as_str()];
+    let traced = run_over(rt, alloc, words, owned_files(rt, alloc, PAIR)?, "", none)?;
+    let journal = String::from_utf8_lossy(alloc, traced.out.as_slice())?;
+    let words = &["check", "D", "Main"];
+    let files = owned_files(rt, alloc, PAIR)?;
+    let checked = run_over(rt, alloc, words, files, journal.as_str(), none)?;
+    Ok(checked.status == 0 && lines.starts_with(checked.out.as_slice()))
+}
+
+#[test]
+fn the_journal_of_a_run_that_a_limit_ends_is_accepted(rt: HostRuntime) -> Result<(), Fail> {
+    let alloc = rt.alloc();
+    let words = &["pick", "D", "Main", "--seed=5"];
+    let files = owned_files(&rt, alloc, PAIR)?;
+    let picked = run_over(&rt, alloc, words, files, "", (0, 0, 0, 0))?;
+    assert!(rt; picked.status == 0 && !picked.out.is_empty());
+    for turns in 1..100 {
+        assert!(rt; is_prefix_checked(&rt, alloc, turns, picked.out.as_slice())?);
+    }
+    Ok(())
+}
