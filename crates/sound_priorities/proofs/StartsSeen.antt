@@ -1,5 +1,5 @@
 -- What is known in executions holds at the start of a program.
-use Rattle.std.proofs.Common.{◌≡◌, inl, inr, ◌≤◌, ◌^◌, ℕ, Bool, true, false, Option, None, Some, List, map, cond, nat_eq, refl, sym, ap, subst, ◌∙◌, arith}
+use Rattle.std.proofs.Common.{◌≡◌, inl, inr, ◌≤◌, ◌^◌, ℕ, Bool, true, false, Some, List, map, cond, nat_eq, sym, ap, subst, ◌∙◌, arith}
 use Rattle.std.specs.Prelude.{unwrap_or, slice_get}
 use Rattle.std.proofs.lemmas.Option.{same_Some}
 use Rattle.builtin_world.specs.declared.number.TheConstants.{STRING}
@@ -10,7 +10,7 @@ use Rattle.fixed_objects.specs.Fixed.{fixed_at, fixed_header, fixed_word}
 use Rattle.link_types.specs.declared.operands.MethodId.{MethodId}
 use Rattle.link_types.specs.declared.types.ObjectType.{ObjectType}
 use Rattle.link_types.specs.declared.types.ElementType.TheVariants as elements
-use Rattle.link_rules.specs.FixedObjects.{ObjectAtStart, class_object, first_free, main_thread_at_start, objects_at_start}
+use Rattle.link_rules.specs.FixedObjects.{ObjectAtStart, class_object, first_free, objects_at_start}
 use Rattle.link_rules.specs.Names.{program_names}
 use Rattle.op_core.specs.OrdinaryState.{Object, live, unused}
 use Rattle.java_rows.specs.Start.{fixed_object, start_of_program}

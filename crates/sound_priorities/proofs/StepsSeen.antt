@@ -1,11 +1,10 @@
 -- What is known in executions is kept by each step.
-use Rattle.std.proofs.Common.{◌≡◌, ◌⊎◌, inl, inr, ℕ, zero, suc, List, Option, None, Some, true, false, refl, sym, ap, subst, ◌∙◌}
+use Rattle.std.proofs.Common.{◌≡◌, inl, ℕ, zero, suc, List, Option, None, Some, true, false, refl, sym, ap, subst, ◌∙◌}
 use Rattle.std.specs.Prelude.{IsNone, is_some, IsSomeAnd}
 use Rattle.std.specs.Option.{option_and_then}
 use Rattle.std.proofs.lemmas.Option.{same_Some}
 use Rattle.builtin_world.specs.declared.word.TheConstants.{THREAD_PRIORITY}
 use Rattle.code_decode.specs.declared.code.ClassUnit.{ClassUnit}
-use Rattle.link_types.specs.declared.types.ObjectType.{ObjectType}
 use Rattle.op_core.specs.declared.Op.{Op}
 use Rattle.op_core.specs.declared.Op.TheVariants.{ClassOf, Read, Write, New, Start, End}
 use Rattle.op_core.specs.declared.Reply.{Reply}
@@ -21,16 +20,15 @@ use Rattle.op_core.proofs.PointwiseLemmas.{set_at-at, set_at-hit}
 use Rattle.op_core.proofs.QuietLemmas.{quiet_step-silent}
 use Rattle.java_rows.specs.Thread.{Local, java_code, next_of, silent_of, reply_of, child_of}
 use Rattle.kept_states.specs.Kept.{Extends, IsObject, IsTrueReply}
-use Rattle.soundness_senses.specs.Senses.{reference}
 use Rattle.soundness_senses.specs.Fits.{anything, after_reply}
 use Rattle.soundness_senses.specs.Knowledge.{Knows}
 use Rattle.soundness_senses.specs.Accepted.{Accepted}
 use Rattle.soundness_senses.specs.Rows.{RowsFit}
-use Rattle.soundness_senses.specs.Runs.{IsThread, MayStand, ObjectFits, RunsWant, WordHolds, fixed_of}
+use Rattle.soundness_senses.specs.Runs.{IsThread, MayStand, ObjectFits, RunsWant, fixed_of}
 use Rattle.soundness_senses.proofs.More.{local_more}
 use Rattle.soundness_senses.proofs.Settled.{goes_on_after, silent_fits, reply_fits, wants_fit, child_fits}
 use Rattle.java_sound.specs.Sound.{StateFits}
-use Rattle.sound_priorities.specs.Seen.{GoesOn, HoldsSet, IsPriority, IsSeen, IsSet, KeepsPriorities, Seen, SeenLocal, TellsPriorities, executions, seen_in}
+use Rattle.sound_priorities.specs.Seen.{GoesOn, HoldsSet, IsPriority, IsSeen, KeepsPriorities, Seen, SeenLocal, TellsPriorities, executions, seen_in}
 use Rattle.sound_priorities.proofs.SeenKnow.{holds_more}
 
 -- a state that makes a silent step is silent

@@ -1,14 +1,14 @@
 -- No class of another kind is a Thread's, and no field has the place of a Thread's priority.
-use Rattle.std.proofs.Common.{◌≡◌, ◌≢◌, ◌⊎◌, inl, inr, ◌<◌, ◌≤◌, ◌+◌, ℕ, Bool, true, false, List, length, Contains, refl, sym, ap, subst, ◌∙◌, arith}
-use Rattle.std.proofs.lemmas.Bool.{and_parts, cases_lt, cases_eq, ltb-true, leb-true}
+use Rattle.std.proofs.Common.{◌≡◌, ◌≢◌, ◌⊎◌, inl, inr, ◌<◌, ◌≤◌, ◌+◌, ℕ, true, false, List, length, Contains, refl, sym, subst, arith}
+use Rattle.std.proofs.lemmas.Bool.{and_parts, ltb-true, leb-true}
 use Rattle.std.specs.Prelude.{nat_le, nat_lt}
 use Rattle.access_flags.specs.declared.TheConstants.{INTERFACE}
 use Rattle.builtin_world.specs.Library.{library}
 use Rattle.builtin_world.specs.declared.number.TheConstants.{OBJECT, CLASS, COUNT, PRINT_STREAM, STRING, STRING_BUILDER, THREAD, THROWABLE}
 use Rattle.code_decode.specs.declared.code.ClassUnit.{ClassUnit}
 use Rattle.link_types.specs.declared.operands.FieldOperand.{FieldOperand}
-use Rattle.link_types.specs.declared.types.ObjectType.{ObjectType}
-use Rattle.link_types.specs.declared.types.ObjectType.TheVariants.{Class, Other, Array}
+use Rattle.link_types.specs.declared.types.ElementType.{ElementType}
+use Rattle.link_types.specs.declared.types.ObjectType.TheVariants.{Class, Array}
 use Rattle.link_rules.specs.Classes.{class_has, classes_of, superclass_of}
 use Rattle.link_rules.specs.Layout.{built_in_words, field_place}
 use Rattle.link_rules.specs.Names.{program_names, type_numbered, is_class_number}
@@ -97,7 +97,7 @@ module _ (us : List ClassUnit) (order : List ℕ) (sound : IsSound us order) whe
   no_array_number c past thread = let below : IsBelowClass us order sound c THREAD = thread_below c thread in omega (arith, past, below.within)
 
   -- what may be used as an array is no Thread
-  pub no_array : (c n : ℕ) (x : Rattle.link_types.specs.declared.types.ElementType.ElementType) → MayStandFor us c (Array n x) → IsThread us c ≡ true → ⊥
+  pub no_array : (c n : ℕ) (x : ElementType) → MayStandFor us c (Array n x) → IsThread us c ≡ true → ⊥
   no_array c n x stands thread =
       let below : IsBelowClass us order sound c THREAD = thread_below c thread in
       let bad : Rattle.sound_programs.proofs.ClassLaws.goes_below us (Class c) (seen_type us (Array n x)) ≡ true = subst (λ t. Rattle.sound_programs.proofs.ClassLaws.goes_below us t (seen_type us (Array n x)) ≡ true) below.type stands in

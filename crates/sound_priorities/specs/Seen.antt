@@ -13,10 +13,10 @@ use Rattle.op_core.specs.declared.Reply.{Reply}
 use Rattle.op_core.specs.declared.Reply.TheVariants.{Value, Done}
 use Rattle.op_core.specs.OrdinaryState.{Object, OrdinaryState, live}
 use Rattle.java_rows.specs.Thread.{Local}
-use Rattle.kept_states.specs.Kept.{Extends, IsTrueReply}
+use Rattle.kept_states.specs.Kept.{Extends}
 use Rattle.soundness_senses.specs.Senses.{Sense, reference}
 use Rattle.soundness_senses.specs.Fits.{Preceding, LocalFits, IsTheEnd}
-use Rattle.soundness_senses.specs.Runs.{Known, fixed_of, IsThread, HasObject, HasWordFor, WordHolds, runs}
+use Rattle.soundness_senses.specs.Runs.{Known, fixed_of, IsThread, WordHolds, runs}
 
 -- the priority of a Thread (the Java SE 8 API, Thread.MIN_PRIORITY and MAX_PRIORITY)
 abbrev pub IsPriority : ℕ → Type 0
