@@ -77,7 +77,7 @@ held_reference values.Boolean zero t held = cc
 held_reference values.Boolean (suc part) t held = absurd (none-some (reference t) held)
 
 -- what an object is that is there from the start
-data IsAtStart (us : List ClassUnit) (o : ObjectAtStart) : Type 0 where
+pub data IsAtStart (us : List ClassUnit) (o : ObjectAtStart) : Type 0 where
   a_class : (c : ℕ) → is_class_number (program_names us) c ≡ true → o ≡ class_object_at_start (program_names us) us c → IsAtStart us o
   the_out : o ≡ object_at_start (system_out_object (program_names us)) PRINT_STREAM 0 [] → IsAtStart us o
   the_thread : o ≡ main_thread_at_start (program_names us) → IsAtStart us o
@@ -109,7 +109,7 @@ module _ (us : List ClassUnit) where
       let number : 0 + n ≡ m = same_Some (0 + n) m (sym (range_at 0 (length (program_names us).strings) n (omega (arith, inside, many))) ∙ at) in
       a_literal m (omega (arith, number, inside, many)) (sym same)
 
-  is_at_start : (i : ℕ) (o : ObjectAtStart) → slice_get (objects_at_start (program_names us) us) i ≡ Some o → IsAtStart us o
+  pub is_at_start : (i : ℕ) (o : ObjectAtStart) → slice_get (objects_at_start (program_names us) us) i ≡ Some o → IsAtStart us o
   is_at_start i o there = elim (cases_lt i (length (classes_at_start us))) [
     | inl within ↦ of_classes i o within (sym (before_at (classes_at_start us) (others_at_start us) i within) ∙ there)
     | inr past ↦ (let place : length (classes_at_start us) + (i - length (classes_at_start us)) ≡ i = omega (arith, past) in

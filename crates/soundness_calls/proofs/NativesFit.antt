@@ -10,12 +10,12 @@ use Rattle.op_core.specs.declared.Line.{Line}
 use Rattle.op_core.specs.declared.Op.TheVariants.{Rewake}
 use Rattle.java_rows.specs.Natives.{notifies_all, waits, not_owner, prints, inherits_priority}
 use Rattle.java_rows.specs.Plan.{notifies, Plan, Use, want, on_done, writes, raises}
-use Rattle.soundness_senses.specs.Senses.{Sense, number}
+use Rattle.soundness_senses.specs.Senses.{Sense}
 use Rattle.soundness_senses.specs.Fits.{Returns, ResultFits, IsMade, PlanFits, anything, UseFits}
 use Rattle.soundness_senses.specs.Knowledge.{Knows}
 use Rattle.soundness_senses.specs.Accepted.{Accepted}
 use Rattle.soundness_calls.proofs.CallsFit.{raises_fit}
-use Rattle.soundness_senses.proofs.Plans.{notifies_fit, waits_fit, rewakes_fit, prints_fit, reads_fit, writes_fit}
+use Rattle.soundness_senses.proofs.Plans.{notifies_fit, waits_fit, rewakes_fit, prints_fit, reads_priority_fit, writes_priority_fit}
 
 pub flag_fits : (b : Bool) → (if b then 1 else 0) < 2 ^ 32
 flag_fits true = omega arith
@@ -52,8 +52,8 @@ module _ {P : Type 0} (know : Sense P) (us : List ClassUnit) (knows : Knows know
     println_fits line = prints_fit know us knows res h line (u.value []) done
 
   -- a new thread has the priority of the thread that makes it
-  pub inherits_fit : (h : P) (res : Option Returns) (t : ℕ) (k : Plan) → know.is_of h me (Class THREAD) → know.is_raw h t (Class THREAD) → ((h' : P) → know.extends h h' → PlanFits know us res anything k h')
+  pub inherits_fit : (h : P) (res : Option Returns) (t : ℕ) (k : Plan) → know.is_of h me (Class THREAD) → know.is_raw h t (Class THREAD) → ((h' : P) → know.extends h h' → know.is_of h' t (Class THREAD) → PlanFits know us res anything k h')
       → PlanFits know us res anything (inherits_priority me t k) h
   inherits_fit h res t k mine raw later =
-      reads_fit know us knows res h me THREAD_PRIORITY number (λ p. writes t THREAD_PRIORITY p k) (knows.priority h me (knows.raw_of h me (Class THREAD) mine)) (λ h' p more fits.
-      writes_fit know us knows res h' t THREAD_PRIORITY p number k (knows.priority h' t (knows.raw_more h h' t (Class THREAD) more raw)) fits (λ h'' more'. later h'' (knows.both h h' h'' more more')))
+      reads_priority_fit know us knows res h me (λ p. writes t THREAD_PRIORITY p k) mine (λ h' p more may.
+      writes_priority_fit know us knows res h' t p k (knows.raw_more h h' t (Class THREAD) more raw) may (λ h'' more' set. later h'' (knows.both h h' h'' more more') set))

@@ -1,6 +1,6 @@
 -- The methods of the built-in classes, one by one.
 use Rattle.std.proofs.Common.{◌≡◌, ◌^◌, ◌%◌, ◌==◌, ◌&&◌, ℕ, Bool, true, false, inl, inr, Option, None, Some, List, [], ◌∷◌, refl, sym, ap, subst, ◌∙◌, arith, nat_le, if◌then◌else◌}
-use Rattle.std.proofs.lemmas.Bool.{eqb-false}
+use Rattle.std.proofs.lemmas.Bool.{eqb-false, and_parts, leb-true}
 use Rattle.std.specs.Int.{w32, w64, cast_signed}
 use Rattle.builtin_world.specs.declared.Native.{Native}
 use Rattle.builtin_world.specs.declared.Native.TheVariants.{ObjectInit, ObjectWait, ObjectNotify, ObjectNotifyAll, ObjectEquals, PrintlnEmpty, PrintlnInt, PrintlnLong, PrintlnChar, PrintlnBoolean, PrintlnString, ThreadInit, ThreadInitTarget, ThreadStart, ThreadRun, ThreadJoin, ThreadSetPriority, ThreadGetPriority, ThreadCurrentThread, ThreadYield, ThrowableInit, ThrowableInitMessage, ThrowableGetMessage, StringLength, StringCharAt, StringEquals, StringConcat, BuilderInit, BuilderInitText, AppendInt, AppendLong, AppendChar, AppendBoolean, AppendString, BuilderLength, BuilderToString}
@@ -14,7 +14,7 @@ use Rattle.op_core.specs.declared.Op.TheVariants.{Start}
 use Rattle.java_rows.specs.Numbers.{long_of, char_of}
 use Rattle.java_rows.specs.Natives.{native, not_owner, prints, prints_string, starts, runs_target, sets_priority, on_started}
 use Rattle.java_rows.specs.Plan.{finds, Use, want, writes, reads, raises, asks_class}
-use Rattle.soundness_senses.specs.Senses.{Sense, IsWord, IsReference, number, reference}
+use Rattle.soundness_senses.specs.Senses.{Sense, IsReference, reference}
 use Rattle.soundness_senses.specs.Fits.{Returns, ResultFits, ValuesFit, IsMade, PlanFits, anything, EndsFit, UseFits}
 use Rattle.soundness_senses.specs.Texts.{char_array}
 use Rattle.soundness_senses.specs.Knowledge.{Knows}
@@ -29,7 +29,7 @@ use Rattle.java_rows.specs.Units.{an_int, a_long, a_char, a_boolean, a_string}
 use Rattle.soundness_calls.proofs.TextsFit.{builder_set}
 use Rattle.soundness_calls.proofs.TextRowsFit.{text_length_fits, text_char_fits, text_equals_fits, text_joins_fits, copies_text_fits, appends_fit, builder_length_fits, tells_text_fits}
 use Rattle.soundness_objects.proofs.ReadValues.{there}
-use Rattle.soundness_senses.proofs.Plans.{prints_fit, notifies_fit, reads_fit, writes_fit, starts_fit, joins_fit, asks_class_fit}
+use Rattle.soundness_senses.proofs.Plans.{prints_fit, notifies_fit, reads_fit, writes_fit, reads_priority_fit, writes_priority_fit, starts_fit, joins_fit, asks_class_fit}
 use Rattle.link_types.specs.declared.types.ValueType.TheVariants as values
 use Rattle.op_core.specs.declared.Line.TheVariants as lines
 
@@ -70,17 +70,19 @@ module _ {P : Type 0} (know : Sense P) (us : List ClassUnit) (knows : Knows know
           by_test h' v more fits true e = done void h' more
           by_test h' v more fits false e = on.again h' (finds v) more void plain (there know us knows accepted me h' v (Class RUNNABLE) (eqb-false v 0 e) fits)
 
-      priority_fits : (void : tells.value ≡ None) (t p : ℕ) → IsWord know p → know.is_of h t (Class THREAD) → PlanFits know us res anything (sets_priority t p u) h
-      priority_fits void t p word of = by_test (nat_le 1 p && nat_le p 10)
+      priority_fits : (void : tells.value ≡ None) (t p : ℕ) → know.is_of h t (Class THREAD) → PlanFits know us res anything (sets_priority t p u) h
+      priority_fits void t p of = by_test (nat_le 1 p && nat_le p 10) refl
         where
-          by_test : (b : Bool) → PlanFits know us res anything (if b then writes t THREAD_PRIORITY p (u.value []) else raises u ILLEGAL_ARGUMENT_EXCEPTION) h
-          by_test true = writes_fit know us knows res h t THREAD_PRIORITY p number (u.value []) (knows.priority h t (knows.raw_of h t (Class THREAD) of)) word (λ h' more. done void h' more)
-          by_test false = refused ILLEGAL_ARGUMENT_EXCEPTION refl h (knows.itself h)
+          by_test : (b : Bool) → (nat_le 1 p && nat_le p 10) ≡ b → PlanFits know us res anything (if b then writes t THREAD_PRIORITY p (u.value []) else raises u ILLEGAL_ARGUMENT_EXCEPTION) h
+          by_test true e =
+              let within = and_parts (nat_le 1 p) (nat_le p 10) e in
+              writes_priority_fit know us knows res h t p (u.value []) (knows.raw_of h t (Class THREAD) of) (knows.priorities p (leb-true 1 p within.0) (leb-true p 10 within.1)) (λ h' more set. done void h' more)
+          by_test false e = refused ILLEGAL_ARGUMENT_EXCEPTION refl h (knows.itself h)
 
       starts_it : (void : tells.value ≡ None) (t : ℕ) → know.is_of h t (Class THREAD) → PlanFits know us res anything (starts t u) h
       starts_it void t of =
-          reads_fit know us knows res h t THREAD_PRIORITY number (λ p. want (Start t (p % 2 ^ 8)) (on_started (u.value []) (raises u ILLEGAL_THREAD_STATE_EXCEPTION))) (knows.priority h t (knows.raw_of h t (Class THREAD) of))
-          (λ h' p more fits. starts_fit know us knows res h' t (p % 2 ^ 8) (u.value []) (raises u ILLEGAL_THREAD_STATE_EXCEPTION) (knows.starts h' t (p % 2 ^ 8) (knows.of_more h h' t (Class THREAD) more of) (omega arith))
+          reads_priority_fit know us knows res h t (λ p. want (Start t (p % 2 ^ 8)) (on_started (u.value []) (raises u ILLEGAL_THREAD_STATE_EXCEPTION))) of
+          (λ h' p more may. starts_fit know us knows res h' t (p % 2 ^ 8) (u.value []) (raises u ILLEGAL_THREAD_STATE_EXCEPTION) (knows.starts h' t p (knows.of_more h h' t (Class THREAD) more of) may)
           (λ h'' more'. done void h'' (knows.both h h' h'' more more')) (λ h'' more'. refused ILLEGAL_THREAD_STATE_EXCEPTION refl h'' (knows.both h h' h'' more more')))
 
       is_thread : (c r : ℕ) → c ≡ THREAD → know.is_of h r (Class c) → know.is_of h r (Class THREAD)
@@ -106,17 +108,17 @@ module _ {P : Type 0} (know : Sense P) (us : List ClassUnit) (knows : Knows know
       by_native PrintlnBoolean c r (b ∷ []) f is of fits void = println_fits know us knows accepted me h res u tells void plain on (lines.Bool (b % 2 == 1))
       by_native PrintlnString c r (s ∷ []) f is of fits void = string_fits void s fits.0
       by_native ThreadInit c r [] f is of fits void =
-          inherits_fit know us knows accepted me h res r (u.value []) mine (knows.raw_of h r (Class THREAD) (is_thread c r is of)) (done void)
+          inherits_fit know us knows accepted me h res r (u.value []) mine (knows.raw_of h r (Class THREAD) (is_thread c r is of)) (λ h' more set. done void h' more)
       by_native ThreadInitTarget c r (target ∷ []) f is of fits void =
           inherits_fit know us knows accepted me h res r (writes r THREAD_TARGET target (u.value [])) mine (knows.raw_of h r (Class THREAD) (is_thread c r is of))
-          (λ h' more. writes_fit know us knows res h' r THREAD_TARGET target (reference (Class RUNNABLE)) (u.value []) (knows.target h' r (knows.raw_of h' r (Class THREAD) (knows.of_more h h' r (Class THREAD) more (is_thread c r is of))))
+          (λ h' more set. writes_fit know us knows res h' r THREAD_TARGET target (reference (Class RUNNABLE)) (u.value []) (knows.target h' r (knows.raw_of h' r (Class THREAD) set))
           (Rattle.soundness_senses.proofs.Basics.reference_more know us knows h h' target (Class RUNNABLE) more fits.0) (λ h'' more'. done void h'' (knows.both h h' h'' more more')))
       by_native ThreadStart c r [] f is of fits void = starts_it void r (is_thread c r is of)
       by_native ThreadRun c r [] f is of fits void = target_fits void r (is_thread c r is of)
       by_native ThreadJoin c r [] f is of fits void = joins_fit know us knows res h r (u.value []) (knows.joins h r (is_thread c r is of)) (done void)
-      by_native ThreadSetPriority c r (p ∷ []) f is of fits void = priority_fits void r p fits.0 (is_thread c r is of)
+      by_native ThreadSetPriority c r (p ∷ []) f is of fits void = priority_fits void r p (is_thread c r is of)
       by_native ThreadGetPriority c r [] f is of fits same =
-          reads_fit know us knows res h r THREAD_PRIORITY number (λ p. u.value (p ∷ [])) (knows.priority h r (knows.raw_of h r (Class THREAD) (is_thread c r is of))) (λ h' p more word. gives (Some values.Int) same h' (p ∷ []) more word)
+          reads_priority_fit know us knows res h r (λ p. u.value (p ∷ [])) (is_thread c r is of) (λ h' p more may. gives (Some values.Int) same h' (p ∷ []) more (knows.priority_words p may))
       by_native ThrowableInit c r [] f is of fits void = (tt, done void h (knows.itself h))
       by_native ThrowableInitMessage c r (message ∷ []) f is of fits void =
           writes_fit know us knows res h r THROWABLE_MESSAGE message (reference (Class STRING)) (u.value []) (knows.message h r (knows.raw_of h r (Class THROWABLE) (knows.up h r (Class c) (Class THROWABLE) of is.1))) fits.0 (done void)
@@ -194,19 +196,19 @@ module _ {P : Type 0} (know : Sense P) (us : List ClassUnit) (knows : Knows know
       raw_at : (h' : P) (d : ℕ) → know.extends h h' → c ≡ d → know.is_raw h' r (Class d)
       raw_at h' d more e = subst (λ x. know.is_raw h' r (Class x)) e (knows.raw_more h h' r (Class c) more raw)
 
-      of_thread : (h' : P) → know.extends h h' → c ≡ THREAD → know.is_of h' r (Class c)
-      of_thread h' more e = subst (λ x. know.is_of h' r (Class x)) (sym e) (knows.made_thread h' r (raw_at h' THREAD more e))
+      of_thread : (h' : P) → c ≡ THREAD → know.is_of h' r (Class THREAD) → know.is_of h' r (Class c)
+      of_thread h' e set = subst (λ x. know.is_of h' r (Class x)) (sym e) set
 
       of_builder : (h' : P) → know.extends h h' → c ≡ STRING_BUILDER → know.is_of h' r (Class c)
       of_builder h' more e = subst (λ x. know.is_of h' r (Class x)) (sym e) (builder_set know us knows accepted me h' r (raw_at h' STRING_BUILDER more e))
 
       by_case : (n : Native) (args : List ℕ) → IsNativeConstructor n → IsNativeOf us n c → ValuesFit know h (native_takes n) args → PlanFits know us res anything (native us me n (r ∷ args) u) h
       by_case ObjectInit [] builds is fits = (tt, ends h (knows.itself h) (subst (λ x. know.is_of h r (Class x)) (sym is) (knows.made_object h r OBJECT (inl refl) (raw_at h OBJECT (knows.itself h) is))))
-      by_case ThreadInit [] builds is fits = inherits_fit know us knows accepted me h res r (u.value []) mine (raw_at h THREAD (knows.itself h) is) (λ h' more. ends h' more (of_thread h' more is))
+      by_case ThreadInit [] builds is fits = inherits_fit know us knows accepted me h res r (u.value []) mine (raw_at h THREAD (knows.itself h) is) (λ h' more set. ends h' more (of_thread h' is set))
       by_case ThreadInitTarget (target ∷ []) builds is fits =
           inherits_fit know us knows accepted me h res r (writes r THREAD_TARGET target (u.value [])) mine (raw_at h THREAD (knows.itself h) is)
-          (λ h' more. writes_fit know us knows res h' r THREAD_TARGET target (reference (Class RUNNABLE)) (u.value []) (knows.target h' r (raw_at h' THREAD more is))
-          (Rattle.soundness_senses.proofs.Basics.reference_more know us knows h h' target (Class RUNNABLE) more fits.0) (λ h'' more'. ends h'' (knows.both h h' h'' more more') (of_thread h'' (knows.both h h' h'' more more') is)))
+          (λ h' more set. writes_fit know us knows res h' r THREAD_TARGET target (reference (Class RUNNABLE)) (u.value []) (knows.target h' r (raw_at h' THREAD more is))
+          (Rattle.soundness_senses.proofs.Basics.reference_more know us knows h h' target (Class RUNNABLE) more fits.0) (λ h'' more'. ends h'' (knows.both h h' h'' more more') (of_thread h'' is (knows.of_more h' h'' r (Class THREAD) more' set))))
       by_case ThrowableInit [] builds is fits = (tt, ends h (knows.itself h) (knows.made_throwable h r c is.0 raw))
       by_case ThrowableInitMessage (message ∷ []) builds is fits =
           writes_fit know us knows res h r THROWABLE_MESSAGE message (reference (Class STRING)) (u.value [])

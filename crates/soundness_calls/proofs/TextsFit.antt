@@ -3,12 +3,11 @@ use Rattle.std.proofs.Common.{◌≡◌, ◌⊎◌, inl, inr, ◌<◌, ◌≤◌
 use Rattle.std.specs.Option.{option_map, option_map_or, unwrap_or}
 use Rattle.std.proofs.lemmas.Bool.{eqb-false, ltb-true, ltb-false, le-leb}
 use Rattle.std.proofs.lemmas.List.{length-append}
-use Rattle.builtin_world.specs.Library.{library}
 use Rattle.builtin_world.specs.declared.number.TheConstants.{OBJECT, STRING, STRING_BUILDER, NEGATIVE_ARRAY_SIZE_EXCEPTION}
 use Rattle.builtin_world.specs.declared.word.TheConstants.{STRING_UNITS, BUILDER_TEXT}
 use Rattle.code_decode.specs.declared.code.ClassUnit.{ClassUnit}
 use Rattle.link_types.specs.declared.types.ObjectType.TheVariants.{Class}
-use Rattle.link_rules.specs.Classes.{classes_of, superclass_of}
+use Rattle.link_rules.specs.Classes.{classes_of}
 use Rattle.link_rules.specs.Names.{program_names, type_named, type_numbered, is_class_number}
 use Rattle.link_rules.specs.Readers.{primitive_array_number}
 use Rattle.link_rules.proofs.Numbers.{class_count_is}
@@ -37,15 +36,6 @@ unit_word [] i words = omega arith
 unit_word (v ∷ units) zero words = words.0
 unit_word (v ∷ units) (suc i) words = unit_word units i words.1
 
--- String is right below Object, as is StringBuilder
-string_super : (us : List ClassUnit) → superclass_of (classes_of us) STRING ≡ OBJECT
-unfolding library
-string_super us = refl
-
-builder_super : (us : List ClassUnit) → superclass_of (classes_of us) STRING_BUILDER ≡ OBJECT
-unfolding library
-builder_super us = refl
-
 string_type : (us : List ClassUnit) → type_numbered (program_names us) STRING ≡ Class STRING
 string_type us =
     let count : length (classes_of us) ≡ 28 + length us = class_count_is us in
@@ -54,10 +44,10 @@ string_type us =
 module _ {P : Type 0} (know : Sense P) (us : List ClassUnit) (knows : Knows know us) (accepted : Accepted us) (me : ℕ) where
   -- a new String and a new StringBuilder are initialized where they are made
   pub string_set : (h : P) (r : ℕ) → know.is_raw h r (Class STRING) → know.is_of h r (Class STRING)
-  string_set h r raw = knows.set h r STRING OBJECT raw (knows.made_object h r STRING (inr (string_super us)) raw)
+  string_set h r raw = knows.set h r STRING OBJECT raw (knows.made_object h r STRING (inr (inl refl)) raw)
 
   pub builder_set : (h : P) (r : ℕ) → know.is_raw h r (Class STRING_BUILDER) → know.is_of h r (Class STRING_BUILDER)
-  builder_set h r raw = knows.set h r STRING_BUILDER OBJECT raw (knows.made_object h r STRING_BUILDER (inr (builder_super us)) raw)
+  builder_set h r raw = knows.set h r STRING_BUILDER OBJECT raw (knows.made_object h r STRING_BUILDER (inr (inr refl)) raw)
 
   -- an object whose class is String
   pub string_known : (h : P) (r n : ℕ) → know.is_of h r (Class OBJECT) → know.is_exactly h r STRING n → know.is_of h r (Class STRING)

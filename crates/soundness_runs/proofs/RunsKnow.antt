@@ -2,6 +2,7 @@
 use Rattle.std.proofs.Common.{◌≡◌, inl, inr, ℕ, suc, ◌<◌, ◌^◌, true, List, [], ◌∷◌, length, Some, sym, ap, subst, ◌∙◌, arith}
 use Rattle.std.proofs.lemmas.Option.{same_Some}
 use Rattle.builtin_world.specs.declared.number.TheConstants.{OBJECT, THREAD, THROWABLE, CLASS, STRING, PRINT_STREAM}
+use Rattle.builtin_world.specs.declared.word.TheConstants.{THREAD_PRIORITY}
 use Rattle.code_decode.specs.declared.code.ClassUnit.{ClassUnit}
 use Rattle.link_types.specs.declared.types.ObjectType.{ObjectType}
 use Rattle.link_types.specs.declared.types.ObjectType.TheVariants.{Class}
@@ -85,6 +86,9 @@ module _ (us : List ClassUnit) (follow : ClassesFollow us) where
   fixed_there : (h : Known us) (r : ℕ) (t : ObjectType) → IsFixed us r t → HasObject us h.objects r t
   fixed_there h r t is = record { object = is.object; there = h.fixed r is.object is.there; fits = is.fits; stands = is.stands }
 
+  priority_there : (h : Known us) (r : ℕ) → HasObject us h.objects r (Class THREAD) → HasWordFor us h.objects r THREAD_PRIORITY number
+  priority_there h r is = let one = follow.priority r is.object is.fits is.stands in record { object = is.object; there = is.there; fits = is.fits; holds = one.holds; within = one.within; spared = one.spared }
+
   -- the object whose class and length were answered is the one that is there
   same_object : (h : Objects) (r c n : ℕ) (t : ObjectType) (of : HasObject us h r t) (is : IsObject (ObjectFits us) h r c n) → of.object ≡ is.object
   same_object h r c n t of is = same_Some of.object is.object (sym of.there ∙ is.there)
@@ -114,7 +118,7 @@ module _ (us : List ClassUnit) (follow : ClassesFollow us) where
     rewakes = λ h r is. is;
     notifies = λ h r is. is;
     prints = λ h line. tt;
-    starts = λ h r p is low. (is, low);
+    starts = λ h r p is may. (is, omega arith);
     joins = λ h r is. is;
     inits = λ h c file. file;
     settles = λ h c ok file. file;
@@ -124,7 +128,7 @@ module _ (us : List ClassUnit) (follow : ClassesFollow us) where
     made_array = λ h c n r can array come. record { object = come.object; there = come.there; fits = come.stands; stands = subst (λ x. MayStandFor us x (type_numbered (program_names us) c)) (sym come.class) (follow.own c can.class) };
     made_object = λ h r c right is. record { object = is.object; there = is.there; fits = is.fits; stands = follow.top is.object.class };
     made_throwable = λ h r c below is. is;
-    made_thread = λ h r is. is;
+    made_thread = λ h r p is may come. is;
     made_thrown = λ h c r throwable come. record { object = come.object; there = come.there; fits = come.stands; class = come.class; can = follow.exceptions c throwable };
     made_exactly = λ h c n r come. come;
     reads = λ h r i k has. (k, has);
@@ -132,11 +136,15 @@ module _ (us : List ClassUnit) (follow : ClassesFollow us) where
     writes = λ h r i v k has fits. (k, has, may_write h r i v k has fits);
     fields = λ h r f is raw. each_word h.objects r f.place raw.object _ h raw.there raw.fits (follow.object_field r raw.object f is raw.fits raw.stands);
     statics = λ h f is. let (fixed, each) = follow.class_field f is in each_word h.objects (class_object (program_names us) f.owner) f.place fixed.object _ h (h.fixed _ fixed.object fixed.there) fixed.fits each;
-    priority = λ h r is. let one = follow.priority r is.object is.fits is.stands in record { object = is.object; there = is.there; fits = is.fits; holds = one.holds; within = one.within; spared = one.spared };
     target = λ h r is. let one = follow.target r is.object is.fits is.stands in record { object = is.object; there = is.there; fits = is.fits; holds = one.holds; within = one.within; spared = one.spared };
     message = λ h r is. let one = follow.message r is.object is.fits is.stands in record { object = is.object; there = is.there; fits = is.fits; holds = one.holds; within = one.within; spared = one.spared };
     units = λ h r is. let one = follow.units r is.object is.fits is.stands in record { object = is.object; there = is.there; fits = is.fits; holds = one.holds; within = one.within; spared = one.spared };
     text = λ h r is. let one = follow.text r is.object is.fits is.stands in record { object = is.object; there = is.there; fits = is.fits; holds = one.holds; within = one.within; spared = one.spared };
+    priorities = λ p low high. omega (arith, high);
+    priority_words = λ p is exact. is;
+    asks_priority = λ h r is. (number, priority_there h r is);
+    priority = λ h r p is come. come.0;
+    sets_priority = λ h r p is may. (number, priority_there h r is, may_write h r THREAD_PRIORITY p number (priority_there h r is) (λ exact. may));
     exactly = λ h r c n come. come;
     length_fits = λ h r c n is exact. omega (arith, is.length, is.stands.length);
     thrown = λ h r c n is exactly.

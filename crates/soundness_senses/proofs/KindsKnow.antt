@@ -43,7 +43,7 @@ module _ (us : List ClassUnit) where
     rewakes = λ h r is. tt;
     notifies = λ h r is. tt;
     prints = λ h line. tt;
-    starts = λ h r p is low. tt;
+    starts = λ h r p is may. tt;
     joins = λ h r is. tt;
     inits = λ h c file. file;
     settles = λ h c ok file. file;
@@ -53,7 +53,7 @@ module _ (us : List ClassUnit) where
     made_array = λ h c n r can array come. tt;
     made_object = λ h r c right is. tt;
     made_throwable = λ h r c below is. tt;
-    made_thread = λ h r is. tt;
+    made_thread = λ h r p is may come. tt;
     made_thrown = λ h c r throwable come. tt;
     made_exactly = λ h c n r come. tt;
     reads = λ h r i k has. tt;
@@ -61,11 +61,15 @@ module _ (us : List ClassUnit) where
     writes = λ h r i v k has fits. tt;
     fields = λ h r f is raw. all_words r f.place (contents_of f.kind);
     statics = λ h f is. all_words (class_object (program_names us) f.owner) f.place (contents_of f.kind);
-    priority = λ h r is. tt;
     target = λ h r is. tt;
     message = λ h r is. tt;
     units = λ h r is. tt;
     text = λ h r is. tt;
+    priorities = λ p low high. tt;
+    priority_words = λ p is exact. absurd exact;
+    asks_priority = λ h r is. tt;
+    priority = λ h r p is come. tt;
+    sets_priority = λ h r p is may. tt;
     exactly = λ h r c n come. tt;
     length_fits = λ h r c n is exact. absurd exact;
     thrown = λ h r c n is exactly. tt;

@@ -1,6 +1,9 @@
 -- One rule for each operation that a plan wants.
 use Rattle.std.proofs.Common.{ℕ, zero, suc, Bool, Option, List, refl}
+use Rattle.builtin_world.specs.declared.number.TheConstants.{THREAD}
+use Rattle.builtin_world.specs.declared.word.TheConstants.{THREAD_PRIORITY}
 use Rattle.code_decode.specs.declared.code.ClassUnit.{ClassUnit}
+use Rattle.link_types.specs.declared.types.ObjectType.TheVariants as types
 use Rattle.op_core.specs.declared.Line.{Line}
 use Rattle.op_core.specs.declared.Op.TheVariants.{ClassOf, Read, Write, New as Make, Enter, Exit, Wait, Rewake, Notify, Print, Start, Join, Init, InitDone, End}
 use Rattle.op_core.specs.declared.Reply.{Reply}
@@ -44,6 +47,23 @@ module _ {P : Type 0} (know : Sense P) (us : List ClassUnit) (knows : Knows know
       go : (h' : P) (reply : Reply) → know.extends h h' → know.may_come h' (Write r i v) reply → PlanFits know us res (after_reply (Write r i v) reply) (on_done k reply) h'
       go h' Done more come = next h' more
       go h' reply more come = absurd (knows.fits h' (Write r i v) reply come)
+
+  -- the priority of an initialized Thread is read
+  pub reads_priority_fit : (r : ℕ) (k : ℕ → Plan) → know.is_of h r (types.Class THREAD) → ((h' : P) (p : ℕ) → know.extends h h' → know.is_priority p → PlanFits know us res anything (k p) h') → PlanFits know us res anything (reads r THREAD_PRIORITY k) h
+  reads_priority_fit r k of next = (tt, knows.asks_priority h r of, go)
+    where
+      go : (h' : P) (reply : Reply) → know.extends h h' → know.may_come h' (Read r THREAD_PRIORITY) reply → PlanFits know us res (after_reply (Read r THREAD_PRIORITY) reply) (on_value k reply) h'
+      go h' (Value p) more come = next h' p more (knows.priority h' r p (knows.of_more h h' r (types.Class THREAD) more of) come)
+      go h' reply more come = absurd (knows.fits h' (Read r THREAD_PRIORITY) reply come)
+
+  -- after a Thread's priority was written it is initialized
+  pub writes_priority_fit : (r p : ℕ) (k : Plan) → know.is_raw h r (types.Class THREAD) → know.is_priority p → ((h' : P) → know.extends h h' → know.is_of h' r (types.Class THREAD) → PlanFits know us res anything k h')
+      → PlanFits know us res anything (writes r THREAD_PRIORITY p k) h
+  writes_priority_fit r p k raw may next = (tt, knows.sets_priority h r p raw may, go)
+    where
+      go : (h' : P) (reply : Reply) → know.extends h h' → know.may_come h' (Write r THREAD_PRIORITY p) reply → PlanFits know us res (after_reply (Write r THREAD_PRIORITY p) reply) (on_done k reply) h'
+      go h' Done more come = next h' more (knows.made_thread h' r p (knows.raw_more h h' r (types.Class THREAD) more raw) may come)
+      go h' reply more come = absurd (knows.fits h' (Write r THREAD_PRIORITY p) reply come)
 
   pub enters_fit : (r : ℕ) (k : Plan) → know.is_there h r → Later k → PlanFits know us res anything (enters r k) h
   enters_fit r k there next = (tt, knows.enters h r there, go)

@@ -20,6 +20,7 @@ abbrev pub kinds : List ClassUnit → Sense (Unit {0})
 kinds us = record {
   extends = λ h h'. Unit {0};
   exact = ⊥;
+  is_priority = λ p. Unit {0};
   is_there = λ h r. Unit {0};
   is_raw = λ h r t. Unit {0};
   is_of = λ h r t. Unit {0};

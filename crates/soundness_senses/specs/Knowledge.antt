@@ -1,5 +1,5 @@
 -- What the rows need to know of objects, of their words and of replies.
-use Rattle.std.specs.Prelude.{◌≡◌, ◌⊎◌, ◌<◌, ◌≤◌, ◌^◌, ◌*◌, ℕ, suc, Bool, true, false, Option, None, Some, List, [], ◌∷◌, length}
+use Rattle.std.specs.Prelude.{◌≡◌, ◌⊎◌, ◌<◌, ◌≤◌, ◌^◌, ◌*◌, ◌%◌, ℕ, suc, Bool, true, false, Option, None, Some, List, [], ◌∷◌, length}
 use Rattle.access_flags.specs.declared.TheConstants.{PRIVATE}
 use Rattle.builtin_world.specs.declared.number.TheConstants.{OBJECT, THROWABLE, THREAD, CLASS, STRING, STRING_BUILDER, PRINT_STREAM, RUNNABLE}
 use Rattle.builtin_world.specs.declared.word.TheConstants.{STRING_UNITS, BUILDER_TEXT, THREAD_PRIORITY, THREAD_TARGET, THROWABLE_MESSAGE}
@@ -110,7 +110,7 @@ pub record Knows {P : Type 0} (know : Sense P) (us : List ClassUnit) : Type 0 wh
   pub rewakes : (h : P) (r : ℕ) → know.is_there h r → know.may_want h (Rewake r)
   pub notifies : (h : P) (r : ℕ) → know.is_there h r → know.may_want h (Notify r)
   pub prints : (h : P) (line : Line) → know.may_want h (Print line)
-  pub starts : (h : P) (r p : ℕ) → know.is_of h r (Class THREAD) → p < 2 ^ 8 → know.may_want h (Start r p)
+  pub starts : (h : P) (r p : ℕ) → know.is_of h r (Class THREAD) → know.is_priority p → know.may_want h (Start r (p % 2 ^ 8))
   pub joins : (h : P) (r : ℕ) → know.is_of h r (Class THREAD) → know.may_want h (Join r)
   pub inits : (h : P) (c : ℕ) → is_of_file us c ≡ true → know.may_want h (Init c)
   pub settles : (h : P) (c : ℕ) (ok : Bool) → is_of_file us c ≡ true → know.may_want h (InitDone c ok)
@@ -118,12 +118,12 @@ pub record Knows {P : Type 0} (know : Sense P) (us : List ClassUnit) : Type 0 wh
   -- objects that are made
   pub makes : (h : P) (c n : ℕ) → CanBeMade us c n → know.may_want h (New c n)
   pub made : (h : P) (c n r : ℕ) → CanBeMade us c n → know.may_come h (New c n) (replies.Made r) → know.is_raw h r (type_numbered (program_names us) c)
-  -- An array needs no initialization. What a constructor of a built-in class leaves is initialized; that of Object is
-  -- called on objects of Object and of classes right below it alone.
+  -- An array needs no initialization, and neither does an object of Object, a String or a StringBuilder. What a constructor
+  -- of Throwable leaves is initialized, and so is a Thread after its priority was written.
   pub made_array : (h : P) (c n r : ℕ) → CanBeMade us c n → length (classes_of us) < c → know.may_come h (New c n) (replies.Made r) → know.is_of h r (type_numbered (program_names us) c)
-  pub made_object : (h : P) (r c : ℕ) → (c ≡ OBJECT) ⊎ (superclass_of (classes_of us) c ≡ OBJECT) → know.is_raw h r (Class c) → know.is_of h r (Class OBJECT)
+  pub made_object : (h : P) (r c : ℕ) → (c ≡ OBJECT) ⊎ ((c ≡ STRING) ⊎ (c ≡ STRING_BUILDER)) → know.is_raw h r (Class c) → know.is_of h r (Class OBJECT)
   pub made_throwable : (h : P) (r c : ℕ) → is_subclass us c THROWABLE ≡ true → know.is_raw h r (Class c) → know.is_of h r (Class c)
-  pub made_thread : (h : P) (r : ℕ) → know.is_raw h r (Class THREAD) → know.is_of h r (Class THREAD)
+  pub made_thread : (h : P) (r p : ℕ) → know.is_raw h r (Class THREAD) → know.is_priority p → know.may_come h (Write r THREAD_PRIORITY p) replies.Done → know.is_of h r (Class THREAD)
   pub made_thrown : (h : P) (c r : ℕ) → is_throwable c ≡ true → know.may_come h (New c 0) (replies.Made r) → know.is_thrown h r c
   pub made_exactly : (h : P) (c n r : ℕ) → know.may_come h (New c n) (replies.Made r) → know.is_exactly h r c n
   -- words
@@ -132,11 +132,16 @@ pub record Knows {P : Type 0} (know : Sense P) (us : List ClassUnit) : Type 0 wh
   pub writes : (h : P) (r i v : ℕ) (k : Content) → know.has_word h r i k → WordFits know h v k → know.may_want h (Write r i v)
   pub fields : (h : P) (r : ℕ) (f : FieldOperand) → IsField us false f → know.is_raw h r (Class f.owner) → HasWords know h r f.place (contents_of f.kind)
   pub statics : (h : P) (f : FieldOperand) → IsField us true f → HasWords know h (class_object (program_names us) f.owner) f.place (contents_of f.kind)
-  pub priority : (h : P) (r : ℕ) → know.is_raw h r (Class THREAD) → know.has_word h r THREAD_PRIORITY number
   pub target : (h : P) (r : ℕ) → know.is_raw h r (Class THREAD) → know.has_word h r THREAD_TARGET (reference (Class RUNNABLE))
   pub message : (h : P) (r : ℕ) → know.is_raw h r (Class THROWABLE) → know.has_word h r THROWABLE_MESSAGE (reference (Class STRING))
   pub units : (h : P) (r : ℕ) → know.is_raw h r (Class STRING) → know.has_word h r STRING_UNITS (reference char_array)
   pub text : (h : P) (r : ℕ) → know.is_raw h r (Class STRING_BUILDER) → know.has_word h r BUILDER_TEXT (reference (Class STRING))
+  -- the priority of a Thread: it may be written before the Thread is initialized, and is read after that alone
+  pub priorities : (p : ℕ) → 1 ≤ p → p ≤ 10 → know.is_priority p
+  pub priority_words : (p : ℕ) → know.is_priority p → know.exact → p < 2 ^ 32
+  pub asks_priority : (h : P) (r : ℕ) → know.is_of h r (Class THREAD) → know.may_want h (Read r THREAD_PRIORITY)
+  pub priority : (h : P) (r p : ℕ) → know.is_of h r (Class THREAD) → know.may_come h (Read r THREAD_PRIORITY) (replies.Value p) → know.is_priority p
+  pub sets_priority : (h : P) (r p : ℕ) → know.is_raw h r (Class THREAD) → know.is_priority p → know.may_want h (Write r THREAD_PRIORITY p)
   -- the class of an object
   pub exactly : (h : P) (r c n : ℕ) → know.may_come h (ClassOf r) (replies.Class c n) → know.is_exactly h r c n
   pub length_fits : (h : P) (r c n : ℕ) → know.is_exactly h r c n → know.exact → n < 2 ^ 32

@@ -143,6 +143,7 @@ abbrev pub runs : (us : List ClassUnit) → Sense (Known us)
 runs us = record {
   extends = λ h h'. Extends h.objects h'.objects;
   exact = Unit {0};
+  is_priority = λ p. p < 2 ^ 32;
   is_there = λ h r. HasAny us h.objects r;
   is_raw = λ h r t. HasObject us h.objects r t;
   is_of = λ h r t. HasObject us h.objects r t;

@@ -14,6 +14,8 @@ pub record Sense (P : Type 0) : Type 1 where
   pub extends : P → P → Type 0
   -- words are known to be numbers of 32 bits
   pub exact : Type 0
+  -- an initialized Thread may have this priority
+  pub is_priority : ℕ → Type 0
   pub is_there : P → ℕ → Type 0
   -- an object of the type, initialized or not
   pub is_raw : P → ℕ → ObjectType → Type 0

@@ -1,0 +1,5 @@
+mod ThreadClasses
+mod SeenKnow
+mod StepsSeen
+mod StartsSeen
+pub mod Whole
