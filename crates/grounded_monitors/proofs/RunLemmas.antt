@@ -14,7 +14,7 @@ use Rattle.first_law.specs.InPlace.{IsSeenRun}
 use Rattle.first_law.specs.Grounded.{MonitorsFitAlong}
 use Rattle.first_law.proofs.GroundedLemmas.{from_take, grounded_runs_are_seen, grounded_runs_are_in_place}
 use Rattle.grounded_monitors.specs.Waits.{WaitsAreKnown}
-use Rattle.grounded_monitors.specs.Free.{IsFreeRun, FreeRunsHoldMonitors, WaitsStayKnown, FreeRunsFit, FreeRunsAreInPlace}
+use Rattle.grounded_monitors.specs.Free.{IsFreeRun, FreeRunsFitObjects, FreeRunsHoldMonitors, WaitsStayKnown, FreeRunsFit, FreeRunsAreInPlace}
 use Rattle.grounded_monitors.proofs.ApartLemmas.{lie_apart}
 use Rattle.grounded_monitors.proofs.FitLemmas.{known_at}
 use Rattle.grounded_monitors.proofs.PlaceLemmas.{monitors_fit}
@@ -92,6 +92,9 @@ module _ {S : Type 0} (code : Code S) (b : Bounds) (is_thread : ℕ → Bool) (f
 
     pub fits : MonitorsFitAlong code c acts
     fits k within = fits_below (length acts) (omega arith) k within
+
+pub free_runs_fit_objects : {S : Type 0} (code : Code S) → FreeRunsFitObjects code
+free_runs_fit_objects code b is_thread first classes c acts run = laid code b is_thread first classes c acts run (fits code b is_thread first classes c acts run)
 
 pub free_runs_hold_monitors : {S : Type 0} (code : Code S) → FreeRunsHoldMonitors code
 free_runs_hold_monitors code b is_thread first classes c acts run = holds_monitors code b is_thread first classes c acts run (fits code b is_thread first classes c acts run)

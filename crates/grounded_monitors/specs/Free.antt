@@ -8,6 +8,7 @@ use Rattle.core_runs.specs.Cores.{Core}
 use Rattle.core_runs.specs.Acts.{Act}
 use Rattle.core_runs.specs.Entries.{ShowFrom}
 use Rattle.core_runs.specs.Reading.{ordinary}
+use Rattle.run_layout.specs.Layout.{IsLaidRun}
 use Rattle.run_monitors.specs.Monitors.{IsObject, IsMonitorRun}
 use Rattle.first_law.specs.Monitors.{MonitorsFit}
 use Rattle.first_law.specs.Grounded.{IsGroundedRun}
@@ -21,6 +22,11 @@ pub record IsFreeRun {S : Type 0} (code : Code S) (b : Bounds) (is_thread : ℕ 
   -- with no thread that waits, and with none of the number 0
   pub awake : (t : ℕ) → (c 0).words (Area.Wait t) ≡ 0
   pub from_one : (c 0).threads 0 ≡ None
+
+-- what its threads want fits the objects
+abbrev pub FreeRunsFitObjects : {S : Type 0} → Code S → Type 0
+FreeRunsFitObjects {S} code = (b : Bounds) (is_thread : ℕ → Bool) (first : S) (classes : ℕ) (c : ℕ → Core S) (acts : List Act) → IsFreeRun code b is_thread first classes c acts
+    → IsLaidRun code b is_thread c acts
 
 -- the monitors of objects lie apart from all other words of objects
 abbrev pub FreeRunsHoldMonitors : {S : Type 0} → Code S → Type 0

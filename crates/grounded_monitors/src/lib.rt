@@ -3,9 +3,14 @@
 //! Each function does nothing: its contract is the law.
 #![tactic(auto)]
 
-ghost use Rattle.grounded_monitors.specs.Free.{FreeRunsHoldMonitors, WaitsStayKnown, FreeRunsFit, FreeRunsAreInPlace};
+ghost use Rattle.grounded_monitors.specs.Free.{FreeRunsFitObjects, FreeRunsHoldMonitors, WaitsStayKnown, FreeRunsFit, FreeRunsAreInPlace};
 
 use op_core::ThreadCode;
+
+/// What threads want is in range, names objects and words that are there, and leaves start words alone.
+pub fn free_runs_fit_objects<C: ThreadCode>()
+    ensures { FreeRunsFitObjects C.code }
+{}
 
 /// The monitors of objects lie apart from all other words of objects.
 pub fn free_runs_hold_monitors<C: ThreadCode>()
