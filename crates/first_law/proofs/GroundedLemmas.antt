@@ -26,16 +26,16 @@ use Rattle.run_layout.specs.Layout.{FitsObjects, IsLaidRun}
 use Rattle.run_layout.proofs.RunLemmas as layouts
 use Rattle.run_bits.proofs.BitLemmas.{runs_are_in_bits}
 use Rattle.first_law.specs.InPlace.{IsSeenRun}
-use Rattle.first_law.specs.Grounded.{IsGroundedRun, GroundedRunsAreSeen, GroundedRunsAreInPlace}
+use Rattle.first_law.specs.Grounded.{IsGroundedRun, MonitorsFitAlong, GroundedRunsAreSeen, GroundedRunsAreInPlace}
 use Rattle.first_law.proofs.ListLemmas.{runs_are_in_place}
 use Rattle.first_law.proofs.RestLemmas.{Rests, rests_first, act_rests}
 
-from_take : {S : Type 0} (code : Code S) (b : Bounds) (c : ℕ → Core S) (acts : List Act) (n k : ℕ) → ActFrom code b c k acts → ActFrom code b c k (take n acts)
+pub from_take : {S : Type 0} (code : Code S) (b : Bounds) (c : ℕ → Core S) (acts : List Act) (n k : ℕ) → ActFrom code b c k acts → ActFrom code b c k (take n acts)
 from_take code b c acts zero k leads = tt
 from_take code b c [] (suc n) k leads = tt
 from_take code b c (x ∷ acts) (suc n) k leads = (leads.0, from_take code b c acts n (suc k) leads.1)
 
-module _ {S : Type 0} (code : Code S) (b : Bounds) (is_thread : ℕ → Bool) (first : S) (classes : ℕ) (c : ℕ → Core S) (acts : List Act) (run : IsGroundedRun code b is_thread first classes c acts) where
+module _ {S : Type 0} (code : Code S) (b : Bounds) (is_thread : ℕ → Bool) (first : S) (classes : ℕ) (c : ℕ → Core S) (acts : List Act) (run : IsGroundedRun code b is_thread first classes c acts) (fit : MonitorsFitAlong code c acts) where
   -- what threads want fits the objects, at place k
   abbrev WantsAt : ℕ → Type 0
   WantsAt k = (t : ℕ) (th : ThreadState S) (op : Op) → (c k).threads t ≡ Some th → code.next th.local ≡ Want op → FitsObjects is_thread (c k).objects op
@@ -72,7 +72,7 @@ module _ {S : Type 0} (code : Code S) (b : Bounds) (is_thread : ℕ → Bool) (f
       class_words = run.class_words;
       wants = λ k t th op within stands is. wants k (subst (λ m. k < m) size within) t th op stands is;
       threads = λ k r o within there thread. run.threads k r o (up k within) there thread;
-      monitors = λ k within. run.monitors k (let is = size in omega (arith, within, is, low));
+      monitors = λ k within. fit k (let is = size in omega (arith, within, is, low));
     }
 
     -- the state at its end is sound, and what threads want there leaves start words alone
@@ -172,12 +172,12 @@ module _ {S : Type 0} (code : Code S) (b : Bounds) (is_thread : ℕ → Bool) (f
         class_words = run.class_words;
         wants = λ k t th op within stands is. wants k within t th op stands is;
         threads = run.threads;
-        monitors = run.monitors;
+        monitors = fit;
       }
 
 pub grounded_runs_are_seen : {S : Type 0} (code : Code S) → GroundedRunsAreSeen code
-grounded_runs_are_seen code b is_thread first classes c acts run = seen_whole code b is_thread first classes c acts run
+grounded_runs_are_seen code b is_thread first classes c acts run fit = seen_whole code b is_thread first classes c acts run fit
 
 pub grounded_runs_are_in_place : {S : Type 0} (code : Code S) → GroundedRunsAreInPlace code
-grounded_runs_are_in_place code b is_thread first classes c acts run =
-    runs_are_in_place code b is_thread first classes c acts (seen_whole code b is_thread first classes c acts run)
+grounded_runs_are_in_place code b is_thread first classes c acts run fit =
+    runs_are_in_place code b is_thread first classes c acts (seen_whole code b is_thread first classes c acts run fit)

@@ -38,14 +38,17 @@ pub record IsGroundedRun {S : Type 0} (code : Code S) (b : Bounds) (is_thread : 
   pub class_words : (d : ℕ) → class_state ((c 0).words (Area.Class d)) ≤ 3
   -- each thread object has a start word
   pub threads : (k r : ℕ) (o : Object) → k ≤ length acts → (c k).objects r ≡ Some o → is_thread o.class ≡ true → 1 < o.words
-  pub monitors : (k : ℕ) → k < length acts → MonitorsFit code (c k)
 
--- what its threads want fits the objects, and its words are in range
+-- its monitors and waits are as they have to be
+abbrev pub MonitorsFitAlong : {S : Type 0} → Code S → (ℕ → Core S) → List Act → Type 0
+MonitorsFitAlong code c acts = (k : ℕ) → k < length acts → MonitorsFit code (c k)
+
+-- then what its threads want fits the objects, and its words are in range
 abbrev pub GroundedRunsAreSeen : {S : Type 0} → Code S → Type 0
 GroundedRunsAreSeen {S} code = (b : Bounds) (is_thread : ℕ → Bool) (first : S) (classes : ℕ) (c : ℕ → Core S) (acts : List Act) → IsGroundedRun code b is_thread first classes c acts
-    → IsSeenRun code b is_thread first classes c acts
+    → MonitorsFitAlong code c acts → IsSeenRun code b is_thread first classes c acts
 
 -- so it is an in-place list
 abbrev pub GroundedRunsAreInPlace : {S : Type 0} → Code S → Type 0
 GroundedRunsAreInPlace {S} code = (b : Bounds) (is_thread : ℕ → Bool) (first : S) (classes : ℕ) (c : ℕ → Core S) (acts : List Act) → IsGroundedRun code b is_thread first classes c acts
-    → (es : List Entry) × (length es ≡ length acts) × ShowFrom code b c 0 acts es × IsInPlaceList code (λ k. ordinary code is_thread (c k)) es
+    → MonitorsFitAlong code c acts → (es : List Entry) × (length es ≡ length acts) × ShowFrom code b c 0 acts es × IsInPlaceList code (λ k. ordinary code is_thread (c k)) es

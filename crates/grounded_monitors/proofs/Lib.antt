@@ -1,0 +1,10 @@
+pub mod ApartLemmas
+pub mod WordLemmas
+pub mod TurnLemmas
+pub mod LookLemmas
+pub mod SaysLemmas
+pub mod WaitLemmas
+pub mod PassLemmas
+pub mod FitLemmas
+pub mod PlaceLemmas
+pub mod RunLemmas

@@ -1,0 +1,5 @@
+use Rattle.noted_words.proofs.RunLemmas.{noted_words_are_own}
+use Rattle.noted_words.proofs.noted_words_are_own.Goals as goal
+
+pub returns : goal.returns
+returns g c = noted_words_are_own g.C.ThreadCode.code
