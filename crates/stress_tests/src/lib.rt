@@ -1,0 +1,5 @@
+//! Tests of the generated load over public calls.
+#![tactic(auto)]
+
+#[cfg(test)]
+mod classes;
