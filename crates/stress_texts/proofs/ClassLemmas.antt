@@ -9,4 +9,4 @@ pub are_classes : (n : ℕ) (stress worker : List ℕ) (first second : Vec ℕ G
     → AreClasses (stress_texts n) (map (λ (file : Vec ℕ Global). file.items) files)
 are_classes n stress worker first second files both p q h k =
     subst (λ (all : List (Vec ℕ Global)). AreClasses (stress_texts n) (map (λ (file : Vec ℕ Global). file.items) all)) (sym both)
-        (subst (λ (t : List ℕ). IsAssembled t (Ok first.items)) p h, (subst (λ (t : List ℕ). IsAssembled t (Ok second.items)) q k, tt))
+    (subst (λ (t : List ℕ). IsAssembled t (Ok first.items)) p h, (subst (λ (t : List ℕ). IsAssembled t (Ok second.items)) q k, tt))
