@@ -31,7 +31,6 @@ use Rattle.stress_texts.specs.declared.classes.TheConstants.{STRESS_MAIN}
 use Rattle.jr_ports.specs.Folder.{File, AreDifferent, names_of}
 use Rattle.program_input.specs.Folder.{AreRead}
 use Rattle.program_accept.specs.declared.refusal.Refusal.{Refusal}
-use Rattle.program_accept.specs.declared.refusal.AcceptRefusal.{AcceptRefusal}
 use Rattle.program_accept.specs.declared.refusal.AcceptRefusal.TheVariants.{NoMain, Refused}
 use Rattle.program_accept.specs.Accepted.{Accepted}
 use Rattle.program_answers.specs.declared.answer.Answer.{Answer}
@@ -39,8 +38,7 @@ use Rattle.encoded_texts.specs.Encoded.{encoded_text}
 use Rattle.command_words.specs.declared.request.Request.{Request}
 use Rattle.command_words.specs.declared.request.Request.TheVariants.{Pick, Trace, Run, Check, Load, Make, Migrate, Stress, Help, Version}
 use Rattle.jrev_top.specs.Answers.{IsJudged, IsMade, IsJournalText, IsMigrated, Counts, Runs, Traces, Checks, checked_answer, IsSecond, RunsTwice, IsStressed, second_answer, seeded, stress_limits, refused, given, not_made, not_execution}
-use Rattle.jrev_top.specs.Folder.{AreListed}
-use Rattle.jrev_top.specs.Headline.{Outside, IsText, IsOfProgram, IsAnswerTo, IsAnswer}
+use Rattle.jrev_top.specs.Headline.{Outside, IsText, IsOfProgram, IsAnswerTo}
 use Rattle.answer_laws.specs.OneAnswer.{Tells, RequestsHaveOneAnswer}
 use Rattle.answer_laws.proofs.Sorted.{one_order}
 use Rattle.answer_laws.proofs.Files.{one_content}
@@ -173,6 +171,10 @@ one_journal input told text is of = subst (λ (o : Option (List ℕ)). IsJournal
 -- the files of some texts are one thing
 one_class : (ts files others : List (List ℕ)) → AreClasses ts files → AreClasses ts others → others ≡ files
 one_class [] [] [] are others = refl
+one_class [] [] (other ∷ others) are are_too = absurd are_too
+one_class [] (file ∷ files) others are are_too = absurd are
+one_class (text ∷ ts) [] others are are_too = absurd are
+one_class (text ∷ ts) (file ∷ files) [] are are_too = absurd are_too
 one_class (text ∷ ts) (file ∷ files) (other ∷ others) are are_too =
     ap (λ f. f ∷ others) (same_ok file other (texts.one_answer text (Ok file) (Ok other) are.0 are_too.0)) ∙ ap (λ fs. file ∷ fs) (one_class ts files others are.1 are_too.1)
 
@@ -185,8 +187,8 @@ twice_once number count program answer other (first, runs, rest) (another, runs_
     second (inl (well, one, again, is)) (inl (well_too, two, again_too, is_too)) =
         is_too ∙ ap (second_answer first) (runs_once (seeded ((number + 1) % 2 ^ 64)) stress_limits count program one two again again_too) ∙ sym is
     second (inr (ill, is)) (inr (ill_too, is_too)) = is_too ∙ sym is
-    second (inl (well, _)) (inr (ill, _)) = absurd (ill well)
-    second (inr (ill, _)) (inl (well, _)) = absurd (ill well)
+    second (inl (well, one, again, is)) (inr (ill, is_too)) = absurd (ill well)
+    second (inr (ill, is)) (inl (well, two, again, is_too)) = absurd (ill well)
 
 one_stress : (number : ℕ) (answer other : Answer) → IsStressed number answer → IsStressed number other → other ≡ answer
 one_stress number answer other (files, are, judged) (others, are_too, judged_too) =

@@ -1,5 +1,5 @@
 -- A journal that trace wrote is accepted by check.
-use Rattle.std.proofs.Common.{◌≡◌, ◌≤◌, ◌+◌, inr, ℕ, suc, List, [], ◌∷◌, ◌++◌, map, length, take, Option, Some, IfSome, Result, Ok, refl, sym, ◌∙◌, ap, subst, arith, rules}
+use Rattle.std.proofs.Common.{◌≡◌, ◌≤◌, ◌+◌, inr, ℕ, zero, suc, List, [], ◌∷◌, ◌++◌, map, length, take, Option, Some, IfSome, Ok, refl, sym, ◌∙◌, ap, subst, arith}
 use Rattle.std.specs.List.{AllByRecursion, concat}
 use Rattle.std.specs.Fmt.{decimal}
 use Rattle.op_core.specs.declared.Event.{Event}
@@ -83,7 +83,10 @@ journal_text es =
     ∙ ap (λ n. concat (map ended (head_line 2 ∷ map spelled (items_of es) ++ end_line n ∷ []))) (merged_events 0 es)
 
 take_all : (n : ℕ) (xs : List ℕ) → length xs ≤ n → xs ≡ take n xs
-take_all n xs fits = search rules
+take_all zero [] fits = refl
+take_all (suc n) [] fits = refl
+take_all zero (x ∷ xs) fits = absurd (omega (arith, fits))
+take_all (suc n) (x ∷ xs) fits = ap (λ ys. x ∷ ys) (take_all n xs (omega (arith, fits)))
 
 few : (events : Option (List Event)) (es : List Event) → events ≡ Some es → IfSome events (λ all. length all ≤ MOST_EVENTS) → length es ≤ MOST_EVENTS
 few events es is all = subst (λ (o : Option (List Event)). IfSome o (λ all. length all ≤ MOST_EVENTS)) is all

@@ -1,5 +1,5 @@
 -- A journal that trace wrote is accepted by check.
-use Rattle.std.specs.Prelude.{ℕ, List, [], map, Some}
+use Rattle.std.specs.Prelude.{ℕ, [], map, Some}
 use Rattle.std.specs.List.{AllByRecursion, concat}
 use Rattle.op_core.specs.declared.Limits.{Limits}
 use Rattle.schedules.specs.declared.order.Schedule.{Schedule}

@@ -1,12 +1,12 @@
 -- A run of a program that was accepted.
-use Rattle.std.proofs.Common.{◌≡◌, ℕ, Some, List, Option, sym, ◌∙◌, subst, refl}
+use Rattle.std.proofs.Common.{◌≡◌, Some, List, Option, sym, ◌∙◌, subst, refl}
 use Rattle.code_decode.specs.declared.code.ClassUnit.{ClassUnit}
 use Rattle.link_types.specs.declared.operands.MethodId.{MethodId}
 use Rattle.op_core.specs.declared.Event.{Event}
 use Rattle.op_core.specs.declared.Limits.{Limits}
 use Rattle.op_core.specs.declared.Outcome.{Outcome}
 use Rattle.schedules.specs.declared.order.Schedule.{Schedule}
-use Rattle.ordinary_runs.specs.ScheduledRun.{Keeping, all_steps, a_journal, IsOutcome}
+use Rattle.ordinary_runs.specs.ScheduledRun.{all_steps, a_journal, IsOutcome}
 use Rattle.ordinary_runs.specs.Laws.{IsExecuted, RunsAreExecutions}
 use Rattle.java_rows.specs.Thread.{java_code}
 use Rattle.waiting_runs.specs.Waiting.{EndsWaiting, StuckRunsWait}

@@ -1,6 +1,5 @@
 -- How a run may end.
 use Rattle.std.proofs.Common.{◌≡◌, inl, inr, ℕ, List, [], ◌∷◌, ◌||◌, length, Bool, true, false, Option, None, Some, Result, Ok, Err, IfOk, ◌+◌, ◌%◌, ◌^◌, ◌<◌, ◌↔◌, arith, refl, sym, ◌∙◌, ap, subst, codes}
-use Rattle.std.specs.Prelude.{◌⊎◌}
 use Rattle.std.specs.Result.{OnOk}
 use Rattle.op_core.specs.declared.How.{How}
 use Rattle.op_core.specs.declared.How.TheVariants as how

@@ -1,4 +1,4 @@
-use Rattle.std.proofs.Common.{rules, ◌≡◌, ◌<◌, ◌++◌, ◌∷◌, [], None, length, filter_map, get_or, sym, ap, ◌∙◌}
+use Rattle.std.proofs.Common.{rules, ◌<◌, ◌++◌, ◌∷◌, [], None, length, filter_map, get_or, sym, ap, ◌∙◌}
 use Rattle.std.proofs.lemmas.Option.{slice_get-get_or}
 use Rattle.java_machine.specs.Ends.{died_line}
 use Rattle.op_core.specs.declared.ThreadEnd.{ThreadEnd}

@@ -1,4 +1,4 @@
-use Rattle.std.proofs.Common.{◌≡◌, ap, ◌∙◌}
+use Rattle.std.proofs.Common.{ap, ◌∙◌}
 use Rattle.std.proofs.lemmas.Result.{IfOk-weaker}
 use Rattle.java_run.specs.Run.{journal_answer, machine_at_start}
 use Rattle.java_run.proofs.RunLemmas.{is_traced}

@@ -2,7 +2,7 @@ use Rattle.std.proofs.Common.{◌≡◌, length, map, rules, string_bytes}
 use Rattle.std.proofs.lemmas.Result.{IfOk-weaker}
 use Rattle.std.proofs.lemmas.List.{length-map}
 use Rattle.encoded_texts.specs.Encoded.{encoded_text}
-use Rattle.jrev_top.proofs.Answered.{judged_program, judged_other}
+use Rattle.jrev_top.proofs.Answered.{judged_program}
 use Rattle.jrev_top.proofs.loading.answer_to_files.Goals as goal
 
 pub returns-in-Program : goal.returns-in-Program

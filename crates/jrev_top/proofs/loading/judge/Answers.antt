@@ -1,4 +1,4 @@
-use Rattle.std.proofs.Common.{◌≡◌, inl, inr, map, subst, ◌∙◌, ℕ, List}
+use Rattle.std.proofs.Common.{inl, inr, map, subst, ◌∙◌, ℕ, List}
 use Rattle.program_accept.specs.declared.refusal.AcceptRefusal.TheVariants.{NoMain, Refused}
 use Rattle.program_accept.specs.Accepted.{program_rules}
 use Rattle.jrev_top.specs.Answers.{AreProgram, RefuseOnly}
