@@ -1,5 +1,5 @@
 //! Type soundness of Java programs, from three hypotheses on their classes, operands and numbers (`Accepted`, `HasRoom`,
-//! `ClassesFollow`), of which the last is still owed: that linking and verification give it isn't proved yet. Laws alone.
+//! `ClassesFollow`), which linking and verification give (`linked_operands`, `sound_programs`, `sound_objects`). Laws alone.
 #![tactic(auto)]
 
 mod laws;
