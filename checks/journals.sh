@@ -32,8 +32,8 @@ if javac -version >/dev/null 2>&1; then
             echo "failed $name, its journal is accepted: seeds$differs"
         fi
     done
-    "$program" trace "$folder/classes" Handover --seed=1 >"$folder/journal" 2>/dev/null
-    python3 checks/journals/changed.py "$program" "$folder/classes" Handover "$folder/journal"
+    "$program" trace "$folder/classes" Starting --seed=1 >"$folder/journal" 2>/dev/null
+    python3 checks/journals/changed.py "$program" "$folder/classes" Starting "$folder/journal"
     sed '1s/2/1/' "$folder/journal" >"$folder/first"
     if "$program" migrate <"$folder/first" | cmp -s - "$folder/journal"; then
         echo "ok a journal of the first version is migrated"
