@@ -373,3 +373,176 @@ fn the_journal_of_a_run_that_a_limit_ends_is_accepted(rt: HostRuntime) -> Result
     }
     Ok(())
 }
+
+/// Starts Writer and Reader, which share a long.
+const LONG: &str = "class Main
+field 8 v J
+method 9 main ([Ljava/lang/String;)V stack 2 locals 1
+new Writer
+dup
+invokespecial Writer <init> ()V
+invokevirtual Writer start ()V
+new Reader
+dup
+invokespecial Reader <init> ()V
+invokevirtual Reader start ()V
+return
+end
+";
+
+/// Writes -1 to the long.
+const WRITER: &str = "class Writer
+super java/lang/Thread
+method 1 <init> ()V stack 1 locals 1
+aload_0
+invokespecial java/lang/Thread <init> ()V
+return
+end
+method 1 run ()V stack 2 locals 1
+ldc2_w -1
+putstatic Main v J
+return
+end
+";
+
+/// Prints the long.
+const READER: &str = "class Reader
+super java/lang/Thread
+method 1 <init> ()V stack 1 locals 1
+aload_0
+invokespecial java/lang/Thread <init> ()V
+return
+end
+method 1 run ()V stack 3 locals 1
+getstatic java/lang/System out Ljava/io/PrintStream;
+getstatic Main v J
+invokevirtual java/io/PrintStream println (J)V
+return
+end
+";
+
+/// Sets x to 5 under the lock, and starts Six, Shows and Nine.
+const WORD: &str = "class Main
+field 8 lock Ljava/lang/Object;
+field 8 x I
+method 9 main ([Ljava/lang/String;)V stack 2 locals 1
+new java/lang/Object
+dup
+invokespecial java/lang/Object <init> ()V
+putstatic Main lock Ljava/lang/Object;
+getstatic Main lock Ljava/lang/Object;
+monitorenter
+iconst_5
+putstatic Main x I
+getstatic Main lock Ljava/lang/Object;
+monitorexit
+new Six
+dup
+invokespecial Six <init> ()V
+invokevirtual Six start ()V
+new Shows
+dup
+invokespecial Shows <init> ()V
+invokevirtual Shows start ()V
+new Nine
+dup
+invokespecial Nine <init> ()V
+invokevirtual Nine start ()V
+return
+end
+";
+
+/// Sets x to 6 under the lock.
+const SIX: &str = "class Six
+super java/lang/Thread
+method 1 <init> ()V stack 1 locals 1
+aload_0
+invokespecial java/lang/Thread <init> ()V
+return
+end
+method 1 run ()V stack 1 locals 1
+getstatic Main lock Ljava/lang/Object;
+monitorenter
+bipush 6
+putstatic Main x I
+getstatic Main lock Ljava/lang/Object;
+monitorexit
+return
+end
+";
+
+/// Prints x under the lock.
+const SHOWS: &str = "class Shows
+super java/lang/Thread
+method 1 <init> ()V stack 1 locals 1
+aload_0
+invokespecial java/lang/Thread <init> ()V
+return
+end
+method 1 run ()V stack 2 locals 1
+getstatic Main lock Ljava/lang/Object;
+monitorenter
+getstatic java/lang/System out Ljava/io/PrintStream;
+getstatic Main x I
+invokevirtual java/io/PrintStream println (I)V
+getstatic Main lock Ljava/lang/Object;
+monitorexit
+return
+end
+";
+
+/// Sets x to 9, without the lock.
+const NINE: &str = "class Nine
+super java/lang/Thread
+method 1 <init> ()V stack 1 locals 1
+aload_0
+invokespecial java/lang/Thread <init> ()V
+return
+end
+method 1 run ()V stack 1 locals 1
+bipush 9
+putstatic Main x I
+return
+end
+";
+
+/// Programs whose lines depend on whose turn it is: a long that is read after the first of its two words was written (JLS 17.7),
+/// and a word that is written without the lock while another thread has it. Each with an order of turns and its line.
+const RACES: [(&[File], &str, &[u8]); 2] = [
+    (
+        &[
+            File::Text("Main.class", LONG),
+            File::Text("Writer.class", WRITER),
+            File::Text("Reader.class", READER),
+        ],
+        "--order=1*200,2*5,3*50",
+        b"4294967295\n",
+    ),
+    (
+        &[
+            File::Text("Main.class", WORD),
+            File::Text("Six.class", SIX),
+            File::Text("Shows.class", SHOWS),
+            File::Text("Nine.class", NINE),
+        ],
+        "--order=1*200,2*8,4*50,2*20,3*50",
+        b"9\n",
+    ),
+];
+
+#[test]
+fn the_journal_of_a_race_is_accepted(rt: HostRuntime) -> Result<(), Fail> {
+    let alloc = rt.alloc();
+    let none = (0, 0, 0, 0);
+    for (files, order, lines) in &RACES {
+        let words = &["trace", "D", "Main", order];
+        let traced = run_over(&rt, alloc, words, owned_files(&rt, alloc, files)?, "", none)?;
+        assert!(rt; traced.status == 0);
+        let journal = String::from_utf8_lossy(alloc, traced.out.as_slice())?;
+        let words = &["check", "D", "Main"];
+        let files = owned_files(&rt, alloc, files)?;
+        let checked = run_over(&rt, alloc, words, files, journal.as_str(), none)?;
+        assert!(rt; checked.status == 0 && checked.out.as_slice() == *lines);
+    }
+    Ok(())
+}
