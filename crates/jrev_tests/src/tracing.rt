@@ -28,101 +28,92 @@ const FIRST_VERSION: &str = "jrev-trace 1
 end 4
 ";
 
-const fn traced(
+/// The words, the status, and what is written on both streams, over the class One.
+const TRACED: [(&[&str], u8, &str, &str); 3] = [
+    (&["trace", "D", "One"], 0, ONE_JOURNAL, ""),
+    (
+        &["trace", "D", "One", "--turns=1"],
+        6,
+        "jrev-trace 2\n1 0 init 29 claimed\nend 1\n",
+        "limit: turns thread 1\n",
+    ),
+    (&["trace", "D", "Two"], 4, "", "no main\n"),
+];
+
+fn over_one(
     words: &'static [&'static str],
+    input: &'static str,
     status: u8,
-    out: &'static [u8],
+    out: &'static str,
     err: &'static str,
 ) -> Case {
     Case {
         words,
         files: ONE,
-        input: "",
+        input,
         faults: (0, 0, 0, 0),
         status,
-        out,
+        out: out.as_bytes(),
         err,
     }
 }
 
-const TRACED: [Case; 3] = [
-    traced(&["trace", "D", "One"], 0, ONE_JOURNAL.as_bytes(), ""),
-    traced(
-        &["trace", "D", "One", "--turns=1"],
-        6,
-        b"jrev-trace 2\n1 0 init 29 claimed\nend 1\n",
-        "limit: turns thread 1\n",
-    ),
-    traced(&["trace", "D", "Two"], 4, b"", "no main\n"),
-];
-
 #[test]
 fn trace_writes_the_journal_of_the_run(rt: HostRuntime) -> Result<(), Fail> {
-    for case in &TRACED {
-        assert!(rt; is_as_wanted(&rt, rt.alloc(), case)?);
+    for (words, status, out, err) in TRACED {
+        assert!(rt; is_as_wanted(&rt, rt.alloc(), &over_one(words, "", status, out, err))?);
     }
     Ok(())
 }
 
-const fn checked(input: &'static str, status: u8, out: &'static [u8], err: &'static str) -> Case {
-    Case {
-        words: &["check", "D", "One"],
-        files: ONE,
-        input,
-        faults: (0, 0, 0, 0),
-        status,
-        out,
-        err,
-    }
-}
-
 /// Journals of the class One in both versions, with an undone level, with a faulty one, with an event that is no step, without
 /// the last line, of a version that there isn't, and with a fault of the text after an event that is no step.
-const CHECKED: [Case; 8] = [
-    checked(ONE_JOURNAL, 0, b"5\n", ""),
-    checked(FIRST_VERSION, 0, b"5\n", ""),
-    checked(
+const CHECKED: [(&str, u8, &str, &str); 8] = [
+    (ONE_JOURNAL, 0, "5\n", ""),
+    (FIRST_VERSION, 0, "5\n", ""),
+    (
         "jrev-trace 2\n1 0 init 29 claimed\nundone 1 1 0\n1 0 done 29 ok\n1 5 print\n1 1 end\nend 4\n",
         0,
-        b"5\n",
+        "5\n",
         "",
     ),
-    checked(
+    (
         "jrev-trace 2\n1 0 init 29 claimed\nundone 1 0 0\n1 0 done 29 ok\n1 5 print\n1 1 end\nend 4\n",
         10,
-        b"",
+        "",
         "not an execution: line 3\n",
     ),
-    checked(
+    (
         "jrev-trace 2\n1 0 init 29 claimed\n1 0 done 29 ok\n1 4 print\n1 1 end\nend 4\n",
         10,
-        b"",
+        "",
         "not an execution: line 4\n",
     ),
-    checked(
+    (
         "jrev-trace 2\n1 0 init 29 claimed\n1 0 done 29 ok\n1 5 print\n1 1 end\n",
         10,
-        b"",
+        "",
         "not an execution: line 6\n",
     ),
-    checked(
+    (
         "jrev-trace 9\n1 0 init 29 claimed\n1 0 done 29 ok\n1 5 print\n1 1 end\nend 4\n",
         10,
-        b"",
+        "",
         "not an execution: line 1\n",
     ),
-    checked(
+    (
         "jrev-trace 2\n1 0 init 29 claimed\n1 0 done 29 ok\n1 4 print\n1 1 end\nend 3\n",
         10,
-        b"",
+        "",
         "not an execution: line 6\n",
     ),
 ];
 
 #[test]
 fn check_says_whether_a_text_is_the_journal_of_an_execution(rt: HostRuntime) -> Result<(), Fail> {
-    for case in &CHECKED {
-        assert!(rt; is_as_wanted(&rt, rt.alloc(), case)?);
+    let words = &["check", "D", "One"];
+    for (input, status, out, err) in CHECKED {
+        assert!(rt; is_as_wanted(&rt, rt.alloc(), &over_one(words, input, status, out, err))?);
     }
     Ok(())
 }
@@ -189,41 +180,35 @@ fn a_cut_journal_is_none_at_the_line_that_is_cut(rt: HostRuntime) -> Result<(), 
     Ok(())
 }
 
-const fn migrated(input: &'static str, status: u8, out: &'static [u8], err: &'static str) -> Case {
-    Case {
-        words: &["migrate"],
-        files: &[],
-        input,
-        faults: (0, 0, 0, 0),
-        status,
-        out,
-        err,
-    }
-}
-
 /// Journals of both versions, a text that is none, one of a version that there isn't, and an undone level in version 1.
-const MIGRATED: [Case; 5] = [
-    migrated(FIRST_VERSION, 0, ONE_JOURNAL.as_bytes(), ""),
-    migrated(ONE_JOURNAL, 0, ONE_JOURNAL.as_bytes(), ""),
-    migrated("", 10, b"", "not an execution: line 1\n"),
-    migrated(
+const MIGRATED: [(&str, u8, &str, &str); 5] = [
+    (FIRST_VERSION, 0, ONE_JOURNAL, ""),
+    (ONE_JOURNAL, 0, ONE_JOURNAL, ""),
+    ("", 10, "", "not an execution: line 1\n"),
+    (
         "jrev-trace 3\nend 0\n",
         10,
-        b"",
+        "",
         "not an execution: line 1\n",
     ),
-    migrated(
+    (
         "jrev-trace 1\nundone 1 1 0\nend 0\n",
         10,
-        b"",
+        "",
         "not an execution: line 2\n",
     ),
 ];
 
 #[test]
 fn migrate_writes_a_journal_in_the_newest_version(rt: HostRuntime) -> Result<(), Fail> {
-    for case in &MIGRATED {
-        assert!(rt; is_as_wanted(&rt, rt.alloc(), case)?);
+    for (input, status, out, err) in MIGRATED {
+        assert!(rt;
+            is_as_wanted(
+                &rt,
+                rt.alloc(),
+                &over_one(&["migrate"], input, status, out, err)
+            )?
+        );
     }
     Ok(())
 }
