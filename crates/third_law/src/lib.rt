@@ -1,0 +1,23 @@
+//! What is left of a run without the levels that are undone: the conditions of a clean cut. Laws alone.
+//!
+//! Each function does nothing: its contract is the law.
+#![tactic(auto)]
+
+ghost use Rattle.third_law.specs.CleanCuts.{UndoneIsCut, UndoingsNest, CutIsCovered};
+
+use op_core::ThreadCode;
+
+/// What a thread did since the place to which it goes back is cut.
+pub fn undone_is_cut<C: ThreadCode>()
+    ensures { UndoneIsCut C.code }
+{}
+
+/// Since the place to which a thread goes back it went back no further.
+pub fn undoings_nest<C: ThreadCode>()
+    ensures { UndoingsNest C.code }
+{}
+
+/// What is cut is gone back over later, or all that its thread does later is cut.
+pub fn cut_is_covered<C: ThreadCode>()
+    ensures { CutIsCovered C.code }
+{}
