@@ -1,8 +1,10 @@
 -- The conditions of a clean cut, of the acts that are made with a level open that is to be undone.
 use Rattle.std.specs.Prelude.{◌≡◌, ◌<◌, ◌≤◌, ◌⊎◌, ℕ, Bool, true, Some, List, slice_get}
+use Rattle.op_core.specs.declared.Op.{Op}
+use Rattle.op_core.specs.declared.Reply.{Reply}
 use Rattle.op_core.specs.ThreadCode.{Code}
-use Rattle.op_core.specs.InPlaceList.{Entry, go_back}
-use Rattle.op_core.specs.CleanCut.{IsStepOf, IsGoneBackOver}
+use Rattle.op_core.specs.InPlaceList.{Entry, event, go_back}
+use Rattle.op_core.specs.CleanCut.{IsStepOf, IsGoneBackOver, CanBeCut}
 use Rattle.thread_automaton.specs.declared.Bounds.{Bounds}
 use Rattle.core_runs.specs.Cores.{Core}
 use Rattle.core_runs.specs.Acts.{Act}
@@ -33,3 +35,8 @@ abbrev pub CutIsCovered : {S : Type 0} → Code S → Type 0
 CutIsCovered {S} code = (b : Bounds) (first : S) (classes : ℕ) (c : ℕ → Core S) (acts : List Act) (es : List Entry) (doomed : ℕ → Bool) → IsShownRun code b first classes c acts es doomed
     → (i t : ℕ) → is_cut_by doomed c acts i ≡ true → IsStepOf t (slice_get es i)
     → IsGoneBackOver es t i ⊎ ((j : ℕ) → i < j → IsStepOf t (slice_get es j) → is_cut_by doomed c acts j ≡ true)
+
+-- no event is cut that makes something known to other threads that can't be put back
+abbrev pub CutIsAllowed : {S : Type 0} → Code S → Type 0
+CutIsAllowed {S} code = (b : Bounds) (first : S) (classes : ℕ) (c : ℕ → Core S) (acts : List Act) (es : List Entry) (doomed : ℕ → Bool) → IsShownRun code b first classes c acts es doomed
+    → (i t : ℕ) (op : Op) (reply : Reply) → is_cut_by doomed c acts i ≡ true → slice_get es i ≡ Some (event t op reply) → CanBeCut op reply

@@ -3,7 +3,7 @@
 //! Each function does nothing: its contract is the law.
 #![tactic(auto)]
 
-ghost use Rattle.third_law.specs.CleanCuts.{UndoneIsCut, UndoingsNest, CutIsCovered};
+ghost use Rattle.third_law.specs.CleanCuts.{UndoneIsCut, UndoingsNest, CutIsCovered, CutIsAllowed};
 
 use op_core::ThreadCode;
 
@@ -20,4 +20,9 @@ pub fn undoings_nest<C: ThreadCode>()
 /// What is cut is gone back over later, or all that its thread does later is cut.
 pub fn cut_is_covered<C: ThreadCode>()
     ensures { CutIsCovered C.code }
+{}
+
+/// No event is cut that makes something known to other threads that can't be put back.
+pub fn cut_is_allowed<C: ThreadCode>()
+    ensures { CutIsAllowed C.code }
 {}
