@@ -1,3 +1,4 @@
 pub mod EntryLemmas
 pub mod LevelLemmas
 pub mod AllowedLemmas
+pub mod ViewLemmas
