@@ -2,3 +2,4 @@ pub mod EntryLemmas
 pub mod LevelLemmas
 pub mod AllowedLemmas
 pub mod ViewLemmas
+pub mod CleanLemmas

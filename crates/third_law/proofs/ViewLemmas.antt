@@ -371,3 +371,11 @@ module _ {S : Type 0} (code : Code S) (b : Bounds) (is_thread : ℕ → Bool) (f
         by_entry (give_back t r n) is later = goes_on later (λ ev. subst IsEvent is ev) (ap (λ (s : OrdinaryState S). s.waiting) (fits_at k (give_back t r n) (at ∙ ap Some is)))
         by_entry (go_back t p) is later = goes_on later (λ ev. subst IsEvent is ev) (ap (λ (s : OrdinaryState S). s.waiting) (fits_at k (go_back t p) (at ∙ ap Some is)).leads)
         by_entry unseen is later = goes_on later (λ ev. subst IsEvent is ev) (ap (λ (s : OrdinaryState S). s.waiting) (fits_at k unseen (at ∙ ap Some is)))
+
+    -- beginning with what is there at first
+    pub agree_all : ((r : ℕ) → (states 0).monitors r ≡ free) → AgreeFrom cut states 0 (view_of (states 0)) es
+    agree_all first_free = subst (λ v. AgreeFrom cut states 0 v es) (view_ext (fun_ext (λ r. fun_ext (λ i. refl))) (fun_ext (λ r. sym (first_free r))) refl)
+        (agree_from es 0 (λ j. ap (slice_get es) (from_zero j)))
+      where
+        from_zero : (j : ℕ) → j ≡ 0 + j
+        from_zero j = omega arith

@@ -4,6 +4,7 @@
 #![tactic(auto)]
 
 ghost use Rattle.third_law.specs.CleanCuts.{UndoneIsCut, UndoingsNest, CutIsCovered, CutIsAllowed};
+ghost use Rattle.third_law.specs.CutLaw.{EventsLeftAgree, CutsAreClean};
 
 use op_core::ThreadCode;
 
@@ -25,4 +26,14 @@ pub fn cut_is_covered<C: ThreadCode>()
 /// No event is cut that makes something known to other threads that can't be put back.
 pub fn cut_is_allowed<C: ThreadCode>()
     ensures { CutIsAllowed C.code }
+{}
+
+/// Each event that is left finds what the events left before it make of the words and monitors.
+pub fn events_left_agree<C: ThreadCode>()
+    ensures { EventsLeftAgree C.code }
+{}
+
+/// What is made with a level open that is to be undone is a clean cut of the run.
+pub fn cuts_are_clean<C: ThreadCode>()
+    ensures { CutsAreClean C.code }
 {}
