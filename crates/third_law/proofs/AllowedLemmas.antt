@@ -12,7 +12,7 @@ use Rattle.op_core.specs.declared.Next.{Next}
 use Rattle.op_core.specs.declared.Next.TheVariants.{Silent, Want, Ended}
 use Rattle.op_core.specs.ThreadCode.{Code}
 use Rattle.op_core.specs.Orderly.{IsRewake}
-use Rattle.op_core.specs.InPlaceList.{Entry, event, unseen}
+use Rattle.op_core.specs.InPlaceList.{Entry, event}
 use Rattle.op_core.specs.CleanCut.{CanBeCut}
 use Rattle.section_state.specs.SectionWord.{revoke_of}
 use Rattle.monitor_core.specs.Monitors.{monitor_depth}
@@ -29,7 +29,7 @@ use Rattle.thread_automaton.specs.declared.Attempt.TheVariants.{Fixed, Undoing}
 use Rattle.thread_automaton.specs.ThreadState.{ThreadState, is_open}
 use Rattle.thread_automaton.specs.NextMove.{own_pin}
 use Rattle.thread_automaton.specs.Monitors.{take_for, entry, monitor_wanted}
-use Rattle.thread_automaton.specs.Changes.{Change, goes, replies, takes, deepens}
+use Rattle.thread_automaton.specs.Changes.{Change, goes, takes, deepens}
 use Rattle.thread_automaton.specs.Checks.{behind_pin, to_pin}
 use Rattle.thread_automaton.specs.Told.{Told, probed, advanced, born, blocked, shown, told_of, told}
 use Rattle.automaton_rows.specs.Rows.{Row, NeedsOwner, is_lost, monitor_taken, entered_again, not_owner, exits_one, wait_begins, wait_made, notify_begins, none_waits, waiter_woken, line_printed, start_begins, is_started, thread_ended, is_unready, class_claimed, class_settled}
@@ -40,7 +40,6 @@ use Rattle.core_runs.specs.Acts.{Act, quiet, did, beside, DidAt, mover}
 use Rattle.core_runs.specs.Entries.{event_told, go_back_to, back_to, monitor_shows, StepShows, Shows}
 use Rattle.settled_lists.specs.Settled.{to_undo}
 use Rattle.section_laws.proofs.RunLemmas.{act_at, facts_at}
-use Rattle.held_levels.specs.HeldLevels.{RewakesInLevels}
 use Rattle.held_levels.proofs.StandLemmas.{rewakes_are_in_levels}
 use Rattle.settled_monitors.proofs.DoomedLemmas.{doomed_open}
 use Rattle.doomed_cuts.specs.Cuts.{is_cut_by}

@@ -1,7 +1,7 @@
 -- The cut of a run is clean.
 use Rattle.std.proofs.Common.{◌≡◌, ℕ, Bool, Option, None, Some, List, refl, ◌∙◌, ap}
 use Rattle.op_core.specs.ThreadCode.{Code}
-use Rattle.op_core.specs.OrdinaryState.{Object, OrdinaryState, free, view_of}
+use Rattle.op_core.specs.OrdinaryState.{Object, free, view_of}
 use Rattle.op_core.specs.InPlaceList.{Entry}
 use Rattle.op_core.specs.CleanCut.{AgreeFrom}
 use Rattle.thread_automaton.specs.declared.Bounds.{Bounds}

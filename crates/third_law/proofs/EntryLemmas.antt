@@ -1,11 +1,11 @@
 -- Which acts show that a thread goes back, or a step of a thread.
-use Rattle.std.proofs.Common.{◌≡◌, ℕ, zero, suc, ◌+◌, ◌-◌, ◌<◌, ◌≤◌, Option, None, Some, List, [], ◌∷◌, length, refl, sym, ◌∙◌, ap, subst, arith}
+use Rattle.std.proofs.Common.{◌≡◌, ℕ, zero, suc, ◌+◌, ◌-◌, Option, None, Some, List, [], ◌∷◌, length, refl, sym, ◌∙◌, ap, subst, arith}
 use Rattle.std.specs.Prelude.{slice_get}
-use Rattle.std.proofs.lemmas.Option.{same_Some, slice_get_within}
+use Rattle.std.proofs.lemmas.Option.{same_Some}
 use Rattle.op_core.specs.declared.Next.{Next}
 use Rattle.op_core.specs.declared.Next.TheVariants.{Silent, Want, Ended}
 use Rattle.op_core.specs.ThreadCode.{Code}
-use Rattle.op_core.specs.InPlaceList.{Entry, silent, event, put_back, give_back, go_back, unseen}
+use Rattle.op_core.specs.InPlaceList.{Entry, go_back, unseen}
 use Rattle.op_core.specs.CleanCut.{IsStepOf}
 use Rattle.section_state.specs.SectionWord.{revoke_of}
 use Rattle.monitor_core.specs.Monitors.{monitor_depth}
@@ -19,8 +19,8 @@ use Rattle.thread_automaton.specs.declared.Attempt.TheVariants.{Undoing}
 use Rattle.thread_automaton.specs.ThreadState.{ThreadState}
 use Rattle.thread_automaton.specs.Told.{Told, probed, advanced, born, blocked, told}
 use Rattle.core_runs.specs.Cores.{Core}
-use Rattle.core_runs.specs.Acts.{Act, quiet, did, beside, mover}
-use Rattle.core_runs.specs.Entries.{event_told, go_back_to, back_to, monitor_shows, IsPutBack, StepShows, Shows, ShowFrom}
+use Rattle.core_runs.specs.Acts.{Act}
+use Rattle.core_runs.specs.Entries.{event_told, go_back_to, back_to, monitor_shows, StepShows, Shows, ShowFrom}
 use Rattle.section_levels.proofs.RowLemmas.{IsOpening}
 use Rattle.first_law.proofs.EntryLemmas.{no_event}
 

@@ -3,11 +3,10 @@ use Rattle.std.proofs.Common.{◌≡◌, ◌⊎◌, inl, inr, ℕ, zero, suc, �
 use Rattle.std.specs.Prelude.{nat_lt, slice_get}
 use Rattle.std.proofs.lemmas.Option.{same_Some, slice_get_within}
 use Rattle.op_core.specs.ThreadCode.{Code}
-use Rattle.op_core.specs.InPlaceList.{Entry, silent, go_back, unseen}
+use Rattle.op_core.specs.InPlaceList.{Entry, go_back}
 use Rattle.op_core.specs.CleanCut.{IsStepOf, IsGoneBackOver}
 use Rattle.section_state.specs.SectionWord.{revoke_of, undone_of}
 use Rattle.step_port.specs.declared.answer.StepAnswer.{StepAnswer}
-use Rattle.step_port.specs.declared.step.Step.{Step}
 use Rattle.step_port.specs.declared.step.Step.TheVariants.{MarkUndone}
 use Rattle.step_port.specs.Words.{answer_of}
 use Rattle.thread_automaton.specs.declared.Bounds.{Bounds}
@@ -15,7 +14,7 @@ use Rattle.thread_automaton.specs.declared.Attempt.{Attempt}
 use Rattle.thread_automaton.specs.declared.Attempt.TheVariants.{Undoing}
 use Rattle.thread_automaton.specs.ThreadState.{ThreadState}
 use Rattle.core_runs.specs.Cores.{Core}
-use Rattle.core_runs.specs.Acts.{Act, quiet, did, beside, DidAt, ActAt, mover}
+use Rattle.core_runs.specs.Acts.{Act, quiet, did, beside, DidAt, mover}
 use Rattle.core_runs.specs.Entries.{back_to, go_back_to, Shows}
 use Rattle.core_runs.specs.Revoked.{RevokesAt, levels_from}
 use Rattle.level_runs.specs.LevelRun.{is_undone, In, IsDoomedAt, GoesBackAt}

@@ -1,14 +1,14 @@
 -- What the events that are left make of the view, act by act.
-use Rattle.std.proofs.Common.{◌≡◌, ℕ, zero, suc, ◌+◌, ◌<◌, ◌≤◌, Bool, true, false, Option, None, Some, List, [], ◌∷◌, length, nat_eq, refl, sym, ◌∙◌, ap, subst, arith}
+use Rattle.std.proofs.Common.{◌≡◌, ℕ, zero, suc, ◌+◌, Bool, true, false, Option, None, Some, List, [], ◌∷◌, nat_eq, refl, sym, ◌∙◌, ap, subst, arith}
 use Rattle.std.specs.Prelude.{nat_lt, slice_get, if◌then◌else◌}
 use Rattle.std.proofs.Math.Path.{fun_ext}
 use Rattle.std.proofs.lemmas.Grind.{common_steps}
 use Rattle.std.proofs.lemmas.Bool.Decides.{nat_tests}
-use Rattle.std.proofs.lemmas.Option.{same_Some, slice_get_within}
+use Rattle.std.proofs.lemmas.Option.{same_Some}
 use Rattle.op_core.specs.declared.Op.{Op}
-use Rattle.op_core.specs.declared.Op.TheVariants.{Read, New, Enter, Exit, Wait, Rewake, Print, Start, Init, InitDone, End}
+use Rattle.op_core.specs.declared.Op.TheVariants.{Read, New, Enter, Exit, Wait, Rewake}
 use Rattle.op_core.specs.declared.Reply.{Reply}
-use Rattle.op_core.specs.declared.Reply.TheVariants.{Value, Made, NotOwner, Woken, Number, Claimed}
+use Rattle.op_core.specs.declared.Reply.TheVariants.{Value, Made, NotOwner, Woken}
 use Rattle.op_core.specs.declared.Next.{Next}
 use Rattle.op_core.specs.declared.Next.TheVariants.{Silent, Want, Ended}
 use Rattle.op_core.specs.ThreadCode.{Code}
@@ -45,7 +45,7 @@ use Rattle.noted_words.specs.Noted.{IsTaggedRun}
 use Rattle.doomed_cuts.specs.Cuts.{is_cut_by}
 use Rattle.third_law.specs.CleanCuts.{IsShownRun}
 use Rattle.third_law.proofs.EntryLemmas.{shown_at}
-use Rattle.third_law.proofs.AllowedLemmas.{IsTold, event_is_told, cut_is_allowed}
+use Rattle.third_law.proofs.AllowedLemmas.{event_is_told, cut_is_allowed}
 
 abbrev IsEvent : Entry → Type 0
 IsEvent (event t op reply) = Unit {0}
