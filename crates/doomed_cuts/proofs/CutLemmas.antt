@@ -12,18 +12,18 @@ use Rattle.section_levels.proofs.LevelLemmas.{level_in}
 use Rattle.settled_monitors.proofs.DoomedLemmas.{outermost_of, some_in}
 use Rattle.doomed_cuts.specs.Cuts.{TestedActsAreCut}
 
-in_of : (p : ℕ) (levels : List ℕ) → Contains levels p → In p levels
+pub in_of : (p : ℕ) (levels : List ℕ) → Contains levels p → In p levels
 in_of p [] there = none_there p there
 in_of p (q ∷ levels) there = elim (in_front q p levels there) [ inl is ↦ inl (sym is) | inr rest ↦ inr (in_of p levels rest) ]
 
-contains_of : (p : ℕ) (levels : List ℕ) → In p levels → Contains levels p
+pub contains_of : (p : ℕ) (levels : List ℕ) → In p levels → Contains levels p
 contains_of p [] is = absurd is
 contains_of p (q ∷ levels) is = elim is [ inl here ↦ subst (Contains (q ∷ levels)) (sym here) (0, omega arith, refl) | inr more ↦ behind_front q p levels (contains_of p levels more) ]
 
-some_is : (n : ℕ) → nat_lt 0 n ≡ true → 0 < n
+pub some_is : (n : ℕ) → nat_lt 0 n ≡ true → 0 < n
 some_is n is = grind (arith, common_steps, nat_tests)
 
-is_some : (n : ℕ) → 0 < n → nat_lt 0 n ≡ true
+pub is_some : (n : ℕ) → 0 < n → nat_lt 0 n ≡ true
 is_some n some = grind (arith, common_steps, nat_tests)
 
 pub tested_acts_are_cut : (S : Type 0) → TestedActsAreCut S

@@ -1,0 +1,5 @@
+pub mod EntryLemmas
+pub mod LevelLemmas
+pub mod AllowedLemmas
+pub mod ViewLemmas
+pub mod CleanLemmas

@@ -1,0 +1,2 @@
+pub mod CleanCuts
+pub mod CutLaw
