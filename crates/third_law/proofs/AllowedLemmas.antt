@@ -207,7 +207,6 @@ module _ {S : Type 0} (code : Code S) (b : Bounds) (first : S) (classes : ℕ) (
       low : i ≤ length acts
       low = let is = within in omega (arith, is)
 
-
       is : IsTold u t (code.next shows.0.local) (told code b shows.0 step a) op reply
       is = event_is_told code b (c i) u t shows.0 op reply step a shows.2
 

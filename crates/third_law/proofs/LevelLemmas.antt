@@ -302,9 +302,14 @@ module _ {S : Type 0} (code : Code S) (b : Bounds) (first : S) (classes : ℕ) (
 
         over : (k n q : ℕ) → i ≤ k → GoesBackAt (levels_in c acts t) (runs t).act k n q → q ≤ out.place → IsGoneBackOver es t i
         over k n q later goes_back deep =
-            let there = back_shown k t n q goes_back in
-            (k, q, after i k later (λ same. subst (IsStepOf t) (ap (slice_get es) same ∙ there) is), under i out.place q deep
-            (below i out.place (levels_in c acts t i) (falls (levels_in c acts t) (revoked_in c acts t) (runs t).act (runs t).is_run i) open_there), there)
+            let there = back_shown k t n q goes_back in (
+              k,
+              q,
+              after i k later (λ same. subst (IsStepOf t) (ap (slice_get es) same ∙ there) is),
+              under i out.place q deep
+                  (below i out.place (levels_in c acts t i) (falls (levels_in c acts t) (revoked_in c acts t) (runs t).act (runs t).is_run i) open_there),
+              there,
+            )
           where
             after : (i k : ℕ) → i ≤ k → (i ≡ k → ⊥) → i < k
             after zero zero later other = absurd (other refl)
