@@ -5,7 +5,8 @@ usage: bench/journal.py [RUNS]     at the top of the repository, after `./jrev` 
 
 The program of the journal writes and reads a field without end, so `trace` ends at the limit of a journal's events. Each command
 runs RUNS times (3), by turns. What is printed is the median of the seconds of a processor, and the most memory that a run had
-at one time. For `check` the memory of `pick` of the same program with few turns stands beside it: that is the program's machine.
+at one time. The memory of `pick` of the same program with few turns is that of the
+program's machine.
 """
 import os
 import statistics
