@@ -22,8 +22,8 @@ ErasedRunsAreExecutions {S} code = (b : Bounds) (is_thread : ℕ → Bool) (firs
     → IsExecution code (ordinary code is_thread (c 0)) (kept_by (is_cut_by doomed c acts) es)
 
 -- What is left of a run: the entries that its acts show, and the state to which the events that are left lead. Its classes,
--- the threads that have ended and how, and those that wait are those of the run's last ordinary state (`IsKeptOf` of
--- `op_core`), and so are its lines, which those events print.
+-- the threads that were started, that wait, and that have ended and how, are those of the run's last ordinary state
+-- (`IsKeptOf` of `op_core`), and so are its lines, which those events print.
 pub record Erased {S : Type 0} (code : Code S) (b : Bounds) (is_thread : ℕ → Bool) (c : ℕ → Core S) (acts : List Act) (doomed : ℕ → Bool) : Type 0 where
   pub entries : List Entry
   pub last : OrdinaryState S
@@ -33,8 +33,8 @@ pub record Erased {S : Type 0} (code : Code S) (b : Bounds) (is_thread : ℕ →
   pub kept : IsKeptOf code (ordinary code is_thread (c 0)) entries (is_cut_by doomed c acts) (ordinary code is_thread (c (length acts))) last
   pub lines : (c (length acts)).lines ≡ (c 0).lines ++ printed (kept_by (is_cut_by doomed c acts) entries)
 
--- so something is left of each run that begins as it has to and whose tags have room for the numbers of its sections, where a
--- test says which acts opened levels that are revoked, then or later
+-- Each run has such entries and such a last state, if it is one as `grounded_monitors` has them, if tags have room for the
+-- numbers of its sections, and if a test says which acts opened levels that are revoked at any place of the run.
 abbrev pub RunsAreErased : {S : Type 0} → Code S → Type 0
 RunsAreErased {S} code = (b : Bounds) (is_thread : ℕ → Bool) (first : S) (classes : ℕ) (c : ℕ → Core S) (acts : List Act) → IsFreeRun code b is_thread first classes c acts → b.limits.sections < 2 ^ 24
     → (doomed : ℕ → Bool) → IsDoomedTest c acts doomed → Erased code b is_thread c acts doomed
