@@ -20,7 +20,7 @@ use Rattle.thread_automaton.specs.Told.{after_answer}
 pub record Core (S : Type 0) : Type 0 where
   pub words : Words
   pub threads : ℕ → Option (ThreadState S)
-  -- the threads that are started and not handed out yet, each with the local state in which it begins
+  -- by thread: the local state in which it begins, once it is started; what is here stays once the thread is handed out
   pub starting : ℕ → Option S
   pub objects : ℕ → Option Object
   -- by thread: the places of the acts that opened the levels which it has open, the innermost first

@@ -16,7 +16,7 @@ use Rattle.settled_lists.specs.Settled.{to_undo}
 use Rattle.settled_lists.specs.SettledMonitors.{depth_back, SettledMonitors}
 use Rattle.run_monitors.specs.Monitors.{IsMonitorRun}
 
--- `doomed` is the test of the acts that opened levels which are revoked, then or later
+-- `doomed` is the test of the acts that opened levels which are revoked at any place of the run
 abbrev pub IsDoomedTest : {S : Type 0} → (ℕ → Core S) → List Act → (ℕ → Bool) → Type 0
 IsDoomedTest c acts doomed = (p : ℕ) → (doomed p ≡ true → IsDoomed c acts p) × (IsDoomed c acts p → doomed p ≡ true)
 

@@ -24,7 +24,7 @@ IsThreadObject is_thread objects r = (o : Object) × (objects r ≡ Some o) × (
 abbrev pub start_word_of : {S : Type 0} → Core S → ℕ → ℕ
 start_word_of c r = c.words (Area.Object (r + 3))
 
--- thread n has begun, or is started and is about to begin
+-- thread n is started, and may have been handed out
 abbrev pub IsStarted : {S : Type 0} → Core S → ℕ → Type 0
 IsStarted {S} c n = ((th : ThreadState S) × (c.threads n ≡ Some th)) ⊎ ((l : S) × (c.starting n ≡ Some l))
 

@@ -13,7 +13,7 @@ use Rattle.section_levels.specs.Levels.{IsLevelledRun}
 use Rattle.settled_monitors.specs.SettledRuns.{IsDoomedTest}
 use Rattle.doomed_cuts.specs.Cuts.{is_cut_by}
 
--- A run with the entry that each act shows, and a test of the acts that opened levels which are revoked, then or later. What is
+-- A run with the entry that each act shows, and a test of the acts that opened levels which are revoked at any place. What is
 -- cut are the entries of the acts that threads make with such a level open (`is_cut_by`).
 pub record IsShownRun {S : Type 0} (code : Code S) (b : Bounds) (first : S) (classes : ℕ) (c : ℕ → Core S) (acts : List Act) (es : List Entry) (doomed : ℕ → Bool) : Type 0 where
   pub levelled : IsLevelledRun code b first classes c acts

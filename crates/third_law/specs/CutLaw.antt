@@ -14,7 +14,7 @@ use Rattle.grounded_monitors.specs.Free.{IsFreeRun}
 use Rattle.doomed_cuts.specs.Cuts.{is_cut_by}
 
 -- A run that begins as it has to, with the entries that its acts show, and a test of the acts that opened levels which are
--- revoked, then or later.
+-- revoked at any place of the run.
 pub record IsCutRun {S : Type 0} (code : Code S) (b : Bounds) (is_thread : ℕ → Bool) (first : S) (classes : ℕ) (c : ℕ → Core S) (acts : List Act) (es : List Entry) (doomed : ℕ → Bool) : Type 0 where
   pub free : IsFreeRun code b is_thread first classes c acts
   -- tags have room for the numbers of its sections
