@@ -1,1 +1,3 @@
+pub mod RevokedLemmas
+pub mod EntryLemmas
 pub mod ErasureLemmas

@@ -1,1 +1,2 @@
+pub mod RevokedLevels
 pub mod Erasure

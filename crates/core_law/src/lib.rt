@@ -3,17 +3,28 @@
 //! Each function does nothing: its contract is the law.
 #![tactic(auto)]
 
-ghost use Rattle.core_law.specs.Erasure.{ErasedRunsAreExecutions, RunsAreErased};
+ghost use Rattle.core_law.specs.Erasure.{ErasedRunsAreExecutions, RunsAreErased, ErasuresAreOne};
+ghost use Rattle.core_law.specs.RevokedLevels.{RevokedLevelsAreTold};
 
 use op_core::ThreadCode;
+
+/// Which acts opened levels that are revoked at any place of a run is computed from the run.
+pub fn revoked_levels_are_told<C: ThreadCode>()
+    ensures { RevokedLevelsAreTold C.code }
+{}
 
 /// The events that are left are an execution of the ordinary machine, from the ordinary state in which the run begins.
 pub fn erased_runs_are_executions<C: ThreadCode>()
     ensures { ErasedRunsAreExecutions C.code }
 {}
 
-/// Each run has such entries, and the execution that is left leads to a state with the lines, the ends of threads and the
-/// classes of the run's last ordinary state.
+/// Of each run an execution is left that leads to a state with the lines, the ends of threads and the classes of the run's last
+/// ordinary state, and with its words and monitors once every thread has undone what it is to undo.
 pub fn runs_are_erased<C: ThreadCode>()
     ensures { RunsAreErased C.code }
+{}
+
+/// The events that are left are the same for all entries that the acts of the run show.
+pub fn erasures_are_one<C: ThreadCode>()
+    ensures { ErasuresAreOne C.code }
 {}

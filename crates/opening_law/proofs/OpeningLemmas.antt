@@ -41,7 +41,7 @@ class_at_first false = refl
 
 -- ---- the words of an object
 
-behind_word : (o : FixedObject) (k i : ℕ) → k ≡ 2 + i → word_behind o k ≡ pack (first_value o i) 0
+pub behind_word : (o : FixedObject) (k i : ℕ) → k ≡ 2 + i → word_behind o k ≡ pack (first_value o i) 0
 behind_word o k i is =
     let first : nat_eq k 0 ≡ false = grind (arith, nat_tests) in
     let second : nat_eq k 1 ≡ false = grind (arith, nat_tests) in
@@ -49,14 +49,14 @@ behind_word o k i is =
     subst (λ t. cond t (pack_header o.class o.length) (cond (nat_eq k 1) 0 (pack (first_value o (k - 2)) 0)) ≡ pack (first_value o i) 0) (sym first)
     (subst (λ t. cond t 0 (pack (first_value o (k - 2)) 0) ≡ pack (first_value o i) 0) (sym second) (ap (λ j. pack (first_value o j) 0) third))
 
-not_started : (o : FixedObject) (i : ℕ) → (nat_eq i 1 && nat_lt 0 o.started) ≡ false → first_value o i ≡ slice_index o.words i
+pub not_started : (o : FixedObject) (i : ℕ) → (nat_eq i 1 && nat_lt 0 o.started) ≡ false → first_value o i ≡ slice_index o.words i
 not_started o i is = ap (λ t. cond t o.started (slice_index o.words i)) is
 
 is_one : (a : Bool) (i : ℕ) → (a && nat_eq i 1) ≡ true → i ≡ 1
 is_one true i both = grind (arith, nat_tests)
 is_one false i both = absurd cc
 
-is_inside : (xs : List ℕ) (i x : ℕ) → slice_get xs i ≡ Some x → i < length xs
+pub is_inside : (xs : List ℕ) (i x : ℕ) → slice_get xs i ≡ Some x → i < length xs
 is_inside xs i x is = elim (slice_get_cases xs i).1 [
   | inl inside ↦ inside.1
   | inr past ↦ absurd cc
@@ -69,19 +69,19 @@ module _ (opening : Opening) (limits : Limits) (is_thread : ℕ → Bool) (place
   words = opening_words opening
 
   module _ (r : ℕ) (o : FixedObject) (found : fixed_at opening.objects r ≡ Some o) where
-    own_range : HasRanges o
+    pub own_range : HasRanges o
     own_range = all_found HasRanges (λ x. r == x.reference) opening.objects o ranges found
 
-    own_threads : TellsThreads is_thread o
+    pub own_threads : TellsThreads is_thread o
     own_threads = all_found (TellsThreads is_thread) (λ x. r == x.reference) opening.objects o threads found
 
-    own_reference : r ≡ o.reference
+    pub own_reference : r ≡ o.reference
     own_reference =
         let same : nat_eq r o.reference ≡ true = passes (λ x. r == x.reference) (reverse opening.objects) o found in
         grind (arith, nat_tests)
 
     -- the word k places after the reference
-    word_at : (p k : ℕ) → p ≡ r + k → k < 2 + length o.words → words (Area.Object p) ≡ word_behind o k
+    pub word_at : (p k : ℕ) → p ≡ r + k → k < 2 + length o.words → words (Area.Object p) ≡ word_behind o k
     word_at p k is below =
         let behind : p - o.reference ≡ k = omega (arith, is, own_reference) in
         ap (word_over 0 p) (is_over opening.objects r p o place.objects.apart found (omega (arith, is)) (omega (arith, is, below)))

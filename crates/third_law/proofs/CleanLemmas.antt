@@ -1,5 +1,5 @@
 -- The cut of a run is clean.
-use Rattle.std.proofs.Common.{◌≡◌, ℕ, Bool, Option, None, Some, List, refl, ◌∙◌, ap}
+use Rattle.std.proofs.Common.{◌≡◌, ℕ, suc, Bool, Option, None, Some, List, [], ◌∷◌, length, refl, ◌∙◌, ap}
 use Rattle.op_core.specs.ThreadCode.{Code}
 use Rattle.op_core.specs.OrdinaryState.{Object, free, view_of}
 use Rattle.op_core.specs.InPlaceList.{Entry}
@@ -8,15 +8,22 @@ use Rattle.thread_automaton.specs.declared.Bounds.{Bounds}
 use Rattle.ordinary_words.specs.Reading.{monitor_of, monitor_in}
 use Rattle.core_runs.specs.Cores.{Core}
 use Rattle.core_runs.specs.Acts.{Act}
+use Rattle.core_runs.specs.Entries.{ShowFrom}
 use Rattle.core_runs.specs.Reading.{ordinary}
 use Rattle.grounded_monitors.proofs.RunLemmas.{free_runs_fit_objects, free_runs_hold_monitors}
 use Rattle.noted_words.specs.Noted.{IsTaggedRun}
 use Rattle.doomed_cuts.specs.Cuts.{is_cut_by}
 use Rattle.third_law.specs.CleanCuts.{IsShownRun}
-use Rattle.third_law.specs.CutLaw.{IsCutRun, EventsLeftAgree, CutsAreClean}
+use Rattle.third_law.specs.CutLaw.{IsCutRun, EventsLeftAgree, CutsAreClean, EventsLeftSettle}
 use Rattle.third_law.proofs.LevelLemmas.{undone_is_cut, undoings_nest, cut_is_covered}
 use Rattle.third_law.proofs.AllowedLemmas.{cut_is_allowed}
-use Rattle.third_law.proofs.ViewLemmas.{agree_all}
+use Rattle.third_law.proofs.ViewLemmas.{agree_all, words_end, monitors_end}
+
+same_size : {S : Type 0} (code : Code S) (b : Bounds) (c : ℕ → Core S) (k : ℕ) (acts : List Act) (es : List Entry) → ShowFrom code b c k acts es → length es ≡ length acts
+same_size code b c k [] [] shows = refl
+same_size code b c k [] (e ∷ es) shows = absurd shows
+same_size code b c k (x ∷ acts) [] shows = absurd shows
+same_size code b c k (x ∷ acts) (e ∷ es) shows = ap suc (same_size code b c (suc k) acts es shows.1)
 
 module _ {S : Type 0} (code : Code S) (b : Bounds) (is_thread : ℕ → Bool) (first : S) (classes : ℕ) (c : ℕ → Core S) (acts : List Act) (es : List Entry) (doomed : ℕ → Bool)
     (run : IsCutRun code b is_thread first classes c acts es doomed) where
@@ -51,3 +58,11 @@ cuts_are_clean code b is_thread first classes c acts es doomed run = record {
   allowed = cut_is_allowed code b first classes c acts es doomed (shown code b is_thread first classes c acts es doomed run);
   agree = events_left_agree code b is_thread first classes c acts es doomed run;
 }
+
+pub events_left_settle : {S : Type 0} (code : Code S) → EventsLeftSettle code
+events_left_settle code b is_thread first classes c acts es doomed run = (
+  words_end code b is_thread first classes c acts es doomed (shown code b is_thread first classes c acts es doomed run) run.in_place (tagged code b is_thread first classes c acts es doomed run)
+      (first_free code b is_thread first classes c acts es doomed run) (same_size code b c 0 acts es run.shows),
+  monitors_end code b is_thread first classes c acts es doomed (shown code b is_thread first classes c acts es doomed run) run.in_place (tagged code b is_thread first classes c acts es doomed run)
+      (first_free code b is_thread first classes c acts es doomed run) (same_size code b c 0 acts es run.shows),
+)

@@ -28,7 +28,7 @@ use Rattle.section_levels.proofs.LevelLemmas.{at_place, in_drop, level_in, runs_
 use Rattle.settled_monitors.proofs.DoomedLemmas.{Outermost, outermost_of, some_in}
 use Rattle.doomed_cuts.specs.Cuts.{is_cut_by}
 use Rattle.doomed_cuts.proofs.CutLemmas.{some_is, is_some, contains_of}
-use Rattle.third_law.specs.CleanCuts.{IsShownRun, UndoneIsCut, UndoingsNest, CutIsCovered}
+use Rattle.third_law.specs.CleanCuts.{IsShownRun, UndoneIsCut, UndoingsNest, CutIsCovered, RestedThreadsHaveGoneBack}
 use Rattle.third_law.proofs.EntryLemmas.{IsGoBack, GoesBackBy, goes_back_by, step_is_own, opening_is_unseen, shown_at, entry_at}
 
 abbrev seen_word : Attempt → ℕ
@@ -335,6 +335,24 @@ module _ {S : Type 0} (code : Code S) (b : Bounds) (first : S) (classes : ℕ) (
         far : {n : ℕ} (i j : ℕ) → j < n → j ≤ n + i
         far i j within = omega (arith, within)
 
+    -- where its thread has nothing left to undo, it is gone back over
+    gone_back : to_undo doomed ((c (length acts)).levels t) ≡ 0 → IsGoneBackOver es t i
+    gone_back none = elim (open_for (length acts)) [
+      | inr gone ↦ gone
+      | inl still ↦ absurd (not_both (to_undo doomed ((c (length acts)).levels t)) none
+          (some_in doomed out.place ((c (length acts)).levels t) (subst (λ (core : Core S). In out.place (core.levels t)) (place_is (length acts) (as_far (length acts)))
+          (still (length acts) low_i (more (length acts) i))) out.so))
+    ]
+      where
+        not_both : (n : ℕ) → n ≡ 0 → 0 < n → ⊥
+        not_both n none some = omega (arith, none, some)
+
+        as_far : (n : ℕ) → n ≤ n
+        as_far n = omega arith
+
+        more : (n i : ℕ) → n ≤ n + i
+        more n i = omega arith
+
 pub undone_is_cut : {S : Type 0} (code : Code S) → UndoneIsCut code
 undone_is_cut code b first classes c acts es doomed shown j t p at i low less is = undone_here code b first classes c acts es doomed shown j t p at i low less is
 
@@ -343,3 +361,6 @@ undoings_nest code b first classes c acts es doomed shown j t p at i q low less 
 
 pub cut_is_covered : {S : Type 0} (code : Code S) → CutIsCovered code
 cut_is_covered code b first classes c acts es doomed shown i t cut is = covered_here code b first classes c acts es doomed shown i t cut is
+
+pub rested_threads_have_gone_back : {S : Type 0} (code : Code S) → RestedThreadsHaveGoneBack code
+rested_threads_have_gone_back code b first classes c acts es doomed shown t none i cut is = gone_back code b first classes c acts es doomed shown i t cut is none

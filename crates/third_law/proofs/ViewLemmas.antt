@@ -1,43 +1,34 @@
 -- What the events that are left make of the view, act by act.
-use Rattle.std.proofs.Common.{◌≡◌, ℕ, zero, suc, ◌+◌, Bool, true, false, Option, None, Some, List, [], ◌∷◌, nat_eq, refl, sym, ◌∙◌, ap, subst, arith}
+use Rattle.std.proofs.Common.{◌≡◌, ℕ, zero, suc, ◌+◌, Bool, true, false, Option, None, Some, List, [], ◌∷◌, length, refl, sym, ◌∙◌, ap, subst, arith}
 use Rattle.std.specs.Prelude.{nat_lt, slice_get, if◌then◌else◌}
 use Rattle.std.proofs.Math.Path.{fun_ext}
 use Rattle.std.proofs.lemmas.Grind.{common_steps}
 use Rattle.std.proofs.lemmas.Bool.Decides.{nat_tests}
 use Rattle.std.proofs.lemmas.Option.{same_Some}
 use Rattle.op_core.specs.declared.Op.{Op}
-use Rattle.op_core.specs.declared.Op.TheVariants.{Read, New, Enter, Exit, Wait, Rewake}
 use Rattle.op_core.specs.declared.Reply.{Reply}
-use Rattle.op_core.specs.declared.Reply.TheVariants.{Value, Made, NotOwner, Woken}
-use Rattle.op_core.specs.declared.Next.{Next}
-use Rattle.op_core.specs.declared.Next.TheVariants.{Silent, Want, Ended}
+use Rattle.op_core.specs.declared.Next.TheVariants.{Want}
 use Rattle.op_core.specs.ThreadCode.{Code}
-use Rattle.op_core.specs.OrdinaryState.{set_at, Monitor, free, held, Waiting, awake, waits, notified, OrdinaryState, View, view_of, count_of, saved_count}
-use Rattle.op_core.specs.OrdinaryStep.{monitors_after, waiting_after}
+use Rattle.op_core.specs.OrdinaryState.{Monitor, free, OrdinaryState, View, view_of, saved_count}
+use Rattle.op_core.specs.OrdinaryStep.{waiting_after}
 use Rattle.op_core.specs.InPlaceList.{Entry, silent, event, put_back, give_back, go_back, unseen, FitsAt, FitFrom, IsInPlaceList}
-use Rattle.op_core.specs.CleanCut.{CanBeCut, written_after, view_after, Agrees, AgreeFrom}
+use Rattle.op_core.specs.CleanCut.{written_after, view_after, Agrees, AgreeFrom, view_from}
 use Rattle.heap_words.specs.declared.areas.Area.{Area}
-use Rattle.heap_words.specs.Words.{wait_object, wait_state}
-use Rattle.monitor_core.specs.Monitors.{monitor_depth}
 use Rattle.step_port.specs.declared.answer.StepAnswer.{StepAnswer}
-use Rattle.step_port.specs.declared.answer.StepAnswer.TheVariants.{Found, Lost}
 use Rattle.step_port.specs.declared.step.Step.{Step}
-use Rattle.step_port.specs.declared.step.Step.TheVariants.{RestoreWord, SetDepth, Release, MarkUndone}
 use Rattle.thread_automaton.specs.declared.Bounds.{Bounds}
-use Rattle.thread_automaton.specs.declared.Attempt.{Attempt}
-use Rattle.thread_automaton.specs.declared.Attempt.TheVariants.{Undoing}
 use Rattle.thread_automaton.specs.ThreadState.{ThreadState}
-use Rattle.thread_automaton.specs.Changes.{Change}
-use Rattle.thread_automaton.specs.Answers.{undone_at}
-use Rattle.thread_automaton.specs.Monitors.{let_go, depth_set}
-use Rattle.thread_automaton.specs.Told.{Told, probed, advanced, born, blocked, shown, told_of, told}
+use Rattle.thread_automaton.specs.Told.{advanced, told}
 use Rattle.core_runs.specs.Cores.{Core}
 use Rattle.core_runs.specs.Acts.{Act, quiet, did, beside, mover}
-use Rattle.core_runs.specs.Entries.{event_told, monitor_shows, StepShows, Shows}
+use Rattle.core_runs.specs.Entries.{StepShows, Shows}
 use Rattle.core_runs.specs.Reading.{waiting_in, ordinary}
 use Rattle.settled_lists.specs.Settled.{to_undo}
-use Rattle.settled_monitors.specs.SettledRuns.{monitors_by, SettlesBy, AreSettled}
-use Rattle.settled_words.specs.SettledWords.{words_by, SettlesWordsBy, AreSettledWords}
+use Rattle.settled_lists.specs.SettledMonitors.{SettledMonitors}
+use Rattle.settled_monitors.specs.SettledRuns.{monitors_by, SettlesBy, AreSettled, held_in, back_in}
+use Rattle.settled_monitors.proofs.RunLemmas.{monitors_settle}
+use Rattle.settled_words.specs.SettledWords.{words_by, SettlesWordsBy, AreSettledWords, WordsAreSettled}
+use Rattle.settled_words.proofs.RunLemmas.{words_settle}
 use Rattle.settled_words.proofs.ReadLemmas.{reads_agree}
 use Rattle.agreed_monitors.specs.Agreed.{AgreesOnMonitors}
 use Rattle.agreed_monitors.proofs.RunLemmas.{monitors_agree}
@@ -46,134 +37,7 @@ use Rattle.doomed_cuts.specs.Cuts.{is_cut_by}
 use Rattle.third_law.specs.CleanCuts.{IsShownRun}
 use Rattle.third_law.proofs.EntryLemmas.{shown_at}
 use Rattle.third_law.proofs.AllowedLemmas.{event_is_told, cut_is_allowed}
-
-abbrev IsEvent : Entry → Type 0
-IsEvent (event t op reply) = Unit {0}
-IsEvent entry = ⊥
-
--- ---- what is reported is shown
-
-abbrev IsSeen : Told → Type 0
-IsSeen (advanced (Some reply)) = Unit {0}
-IsSeen told = ⊥
-
-event_is : (u : ℕ) (next : Next) (told : Told) (op : Op) (reply : Reply) → next ≡ Want op → told ≡ advanced (Some reply) → event_told u next told ≡ event u op reply
-event_is u next told op reply wants so = ap (λ n. event_told u n told) wants ∙ ap (event_told u (Want op)) so
-
-module _ {S : Type 0} (code : Code S) (b : Bounds) (core : Core S) (u : ℕ) (th : ThreadState S) (e : Entry) (op : Op) (reply : Reply) (wants : code.next th.local ≡ Want op) where
-  abbrev As : Step → Change → Told
-  As step change = told_of (code.next th.local) step StepAnswer.Done change (shown change)
-
-  mark_event : (s w : ℕ) (g : Attempt) → As (MarkUndone s w) (undone_at g) ≡ advanced (Some reply) → e ≡ event u op reply
-  mark_event s w (Undoing v) so = absurd (subst IsSeen (sym so) tt)
-  mark_event s w g so = absurd (subst IsSeen (sym so) tt)
-
-  release_event : (r : ℕ) (g : Attempt) → e ≡ monitor_shows u g r 0 (event_told u (code.next th.local) (As (Release r) (let_go th (code.next th.local) g r)))
-      → As (Release r) (let_go th (code.next th.local) g r) ≡ advanced (Some reply) → e ≡ event u op reply
-  release_event r (Undoing w) shows so = absurd (subst IsSeen (sym so) tt)
-  release_event r g shows so = shows ∙ event_is u (code.next th.local) (As (Release r) (let_go th (code.next th.local) g r)) op reply wants so
-
-  depth_event : (r new : ℕ) (g : Attempt) → e ≡ monitor_shows u g r (monitor_depth new) (event_told u (code.next th.local) (As (SetDepth r new) (depth_set g r (monitor_depth new))))
-      → As (SetDepth r new) (depth_set g r (monitor_depth new)) ≡ advanced (Some reply) → e ≡ event u op reply
-  depth_event r new (Undoing w) shows so = absurd (subst IsSeen (sym so) tt)
-  depth_event r new g shows so = shows ∙ event_is u (code.next th.local) (As (SetDepth r new) (depth_set g r (monitor_depth new))) op reply wants so
-
-  told_shows : (step : Step) (a : StepAnswer) → StepShows code b core u th step a e → told code b th step a ≡ advanced (Some reply) → e ≡ event u op reply
-  told_shows (RestoreWord at old) StepAnswer.Done shows so = absurd (subst IsSeen (sym so) tt)
-  told_shows (RestoreWord at old) (Found w) shows so = absurd (subst IsSeen (sym so) tt)
-  told_shows (RestoreWord at old) (Lost w) shows so = absurd (subst IsSeen (sym so) tt)
-  told_shows (MarkUndone s w) StepAnswer.Done shows so = mark_event s w th.attempt so
-  told_shows (MarkUndone s w) (Found v) shows so = absurd (subst IsSeen (sym so) tt)
-  told_shows (MarkUndone s w) (Lost v) shows so = absurd (subst IsSeen (sym so) tt)
-  told_shows (Release r) StepAnswer.Done shows so = release_event r th.attempt shows so
-  told_shows (Release r) (Found v) shows so = absurd (subst IsSeen (sym so) tt)
-  told_shows (Release r) (Lost v) shows so = absurd (subst IsSeen (sym so) tt)
-  told_shows (SetDepth r new) StepAnswer.Done shows so = depth_event r new th.attempt shows so
-  told_shows (SetDepth r new) (Found v) shows so = absurd (subst IsSeen (sym so) tt)
-  told_shows (SetDepth r new) (Lost v) shows so = absurd (subst IsSeen (sym so) tt)
-  told_shows step a shows so = shows ∙ event_is u (code.next th.local) (told code b th step a) op reply wants so
-
--- ---- turns that are no events
-
-abbrev NoEvent : Next → Told → Type 0
-NoEvent next told = (op : Op) (reply : Reply) → next ≡ Want op → told ≡ advanced (Some reply) → ⊥
-
-words_stay : (next : Next) (told : Told) (old : ℕ → ℕ → ℕ) → NoEvent next told → words_by told next old ≡ old
-words_stay Silent (advanced (Some reply)) old none = refl
-words_stay Ended (advanced (Some reply)) old none = refl
-words_stay (Want op) (advanced (Some reply)) old none = absurd (none op reply refl refl)
-words_stay next (advanced None) old none = refl
-words_stay next probed old none = refl
-words_stay next born old none = refl
-words_stay next (Told.lost v) old none = refl
-words_stay next (blocked why) old none = refl
-
-monitors_stay : (t : ℕ) (next : Next) (told : Told) (depth : ℕ) (old : ℕ → Monitor) → NoEvent next told → monitors_by t told next depth old ≡ old
-monitors_stay t Silent (advanced (Some reply)) depth old none = refl
-monitors_stay t Ended (advanced (Some reply)) depth old none = refl
-monitors_stay t (Want op) (advanced (Some reply)) depth old none = absurd (none op reply refl refl)
-monitors_stay t next (advanced None) depth old none = refl
-monitors_stay t next probed depth old none = refl
-monitors_stay t next born depth old none = refl
-monitors_stay t next (Told.lost v) depth old none = refl
-monitors_stay t next (blocked why) depth old none = refl
-
--- ---- what events make
-
-monitors_same : (t : ℕ) (op : Op) (reply : Reply) (depth : ℕ) (view : View) → saved_count (view.waiting t) ≡ depth → (r : ℕ)
-    → monitors_after t op reply (record { words = λ q i. 0; monitors = view.monitors; waiting = λ u. waits 0 depth }) r ≡ monitors_after t op reply view r
-monitors_same t (Rewake q) Reply.Done depth view is r = ap (λ n. set_at view.monitors q (held t n) r) (sym is)
-monitors_same t (New c n) (Made q) depth view is r = refl
-monitors_same t (Enter q) Reply.Done depth view is r = refl
-monitors_same t (Exit q) Reply.Done depth view is r = refl
-monitors_same t (Wait q) Reply.Done depth view is r = refl
-monitors_same t op reply depth view is r = refl
-
-waiting_same : (t : ℕ) (op : Op) (reply : Reply) (view : View) (words : ℕ → ℕ → ℕ) (monitors : ℕ → Monitor) → AgreesOnMonitors view.monitors monitors t op reply
-    → waiting_after t op reply view ≡ waiting_after t op reply (record { words = words; monitors = monitors; waiting = view.waiting })
-waiting_same t (Wait r) Reply.Done view words monitors on = ap (λ m. set_at view.waiting t (waits r (count_of m))) on
-waiting_same t (Rewake r) Reply.Done view words monitors on = refl
-waiting_same t (Op.Notify r) (Woken zero) view words monitors on = refl
-waiting_same t (Op.Notify r) (Woken (suc n)) view words monitors on = refl
-waiting_same t op reply view words monitors on = refl
-
-waiting_stays : (t : ℕ) (op : Op) (reply : Reply) (view : View) → CanBeCut op reply → waiting_after t op reply view ≡ view.waiting
-waiting_stays t (Wait r) Reply.Done view can = absurd can
-waiting_stays t (Rewake r) reply view can = absurd can
-waiting_stays t (Op.Notify r) (Woken n) view can = absurd can
-waiting_stays t op reply view can = refl
-
-agrees_of : {S : Type 0} (s : OrdinaryState S) (view : View) (t : ℕ) (op : Op) (reply : Reply) → AgreesOnMonitors s.monitors view.monitors t op reply
-    → ((r i v : ℕ) → op ≡ Read r i → reply ≡ Value v → v ≡ view.words r i) → Agrees s view t op reply
-agrees_of s view t (Read r i) (Value v) on reads = reads r i v refl refl
-agrees_of s view t (Enter r) Reply.Done on reads = on
-agrees_of s view t (Rewake r) Reply.Done on reads = on
-agrees_of s view t (Exit r) Reply.Done on reads = on
-agrees_of s view t (Wait r) Reply.Done on reads = on
-agrees_of s view t (Op.Notify r) (Woken n) on reads = on
-agrees_of s view t (Exit r) NotOwner on reads = on
-agrees_of s view t (Wait r) NotOwner on reads = on
-agrees_of s view t (Op.Notify r) NotOwner on reads = on
-agrees_of s view t op reply on reads = tt
-
-saved_is : {S : Type 0} (th : ThreadState S) (w : ℕ) → saved_count (waiting_in (Some th) w) ≡ th.depth
-saved_is th w = by_depth (nat_eq th.depth 0) refl (nat_eq (wait_state w) 2) refl
-  where
-    is_zero : (n : ℕ) → nat_eq n 0 ≡ true → 0 ≡ n
-    is_zero n is = grind (arith, common_steps, nat_tests)
-
-    by_depth : (z : Bool) → nat_eq th.depth 0 ≡ z → (y : Bool) → nat_eq (wait_state w) 2 ≡ y → saved_count (waiting_in (Some th) w) ≡ th.depth
-    by_depth true is y two = ap (λ n. saved_count (if n then awake else (if nat_eq (wait_state w) 2 then notified (wait_object w) th.depth else waits (wait_object w) th.depth))) is ∙ is_zero th.depth is
-    by_depth false is true two = ap (λ n. saved_count (if n then awake else (if nat_eq (wait_state w) 2 then notified (wait_object w) th.depth else waits (wait_object w) th.depth))) is
-        ∙ ap (λ n. saved_count (if n then notified (wait_object w) th.depth else waits (wait_object w) th.depth)) two
-    by_depth false is false two = ap (λ n. saved_count (if n then awake else (if nat_eq (wait_state w) 2 then notified (wait_object w) th.depth else waits (wait_object w) th.depth))) is
-        ∙ ap (λ n. saved_count (if n then notified (wait_object w) th.depth else waits (wait_object w) th.depth)) two
-
-abbrev view_by : (ℕ → ℕ → ℕ) → (ℕ → Monitor) → (ℕ → Waiting) → View
-view_by w m x = record { words = w; monitors = m; waiting = x }
-
-view_ext : {w v : ℕ → ℕ → ℕ} {m n : ℕ → Monitor} {x y : ℕ → Waiting} → w ≡ v → m ≡ n → x ≡ y → view_by w m x ≡ view_by v n y
-view_ext {w} {v} {m} {n} {x} {y} words monitors waiting = ap (λ a. view_by a m x) words ∙ ap (λ a. view_by v a x) monitors ∙ ap (λ a. view_by v n a) waiting
+use Rattle.third_law.proofs.EventLemmas.{IsEvent, NoEvent, told_shows, words_stay, monitors_stay, monitors_same, waiting_same, waiting_stays, agrees_of, saved_is, view_ext}
 
 -- ---- along a run
 
@@ -347,35 +211,94 @@ module _ {S : Type 0} (code : Code S) (b : Bounds) (is_thread : ℕ → Bool) (f
 
     -- ---- the list
 
-    pub agree_from : (rest : List Entry) (k : ℕ) → ((j : ℕ) → slice_get rest j ≡ slice_get es (k + j)) → AgreeFrom cut states k (view_at k) rest
-    agree_from [] k same = tt
-    agree_from (e ∷ rest) k same = by_entry e refl (agree_from rest (suc k) (λ j. same (suc j) ∙ ap (slice_get es) (shift k j)))
+    -- what an entry makes of the view where the acts before number k were made
+    abbrev made_by : ℕ → Entry → View
+    made_by k (event t op reply) = if cut k then view_at k else view_after t op reply (view_at k)
+    made_by k entry = view_at k
+
+    entry_goes : (k : ℕ) (x : Entry) → slice_get es k ≡ Some x → made_by k x ≡ view_at (suc k)
+    entry_goes k (event t op reply) at = view_goes k t op reply at
+    entry_goes k (silent t) at = sym (stays_at k (silent t) at (λ none. none) (ap (λ (s : OrdinaryState S). s.waiting) (fits_at k (silent t) at).leads))
+    entry_goes k (put_back r i v) at = sym (stays_at k (put_back r i v) at (λ none. none) (ap (λ (s : OrdinaryState S). s.waiting) (fits_at k (put_back r i v) at).leads))
+    entry_goes k (give_back t r n) at = sym (stays_at k (give_back t r n) at (λ none. none) (ap (λ (s : OrdinaryState S). s.waiting) (fits_at k (give_back t r n) at)))
+    entry_goes k (go_back t p) at = sym (stays_at k (go_back t p) at (λ none. none) (ap (λ (s : OrdinaryState S). s.waiting) (fits_at k (go_back t p) at).leads))
+    entry_goes k unseen at = sym (stays_at k unseen at (λ none. none) (ap (λ (s : OrdinaryState S). s.waiting) (fits_at k unseen at)))
+
+    -- the rest of the entries from number k on
+    abbrev IsRest : List Entry → ℕ → Type 0
+    IsRest rest k = (j : ℕ) → slice_get rest j ≡ slice_get es (k + j)
+
+    rest_head : (k : ℕ) (e : Entry) (rest : List Entry) → IsRest (e ∷ rest) k → slice_get es k ≡ Some e
+    rest_head k e rest same = ap (slice_get es) (plus_zero k) ∙ sym (same 0)
+      where
+        plus_zero : (k : ℕ) → k ≡ k + 0
+        plus_zero k = omega arith
+
+    rest_tail : (k : ℕ) (e : Entry) (rest : List Entry) → IsRest (e ∷ rest) k → IsRest rest (suc k)
+    rest_tail k e rest same j = same (suc j) ∙ ap (slice_get es) (shift k j)
       where
         shift : (k j : ℕ) → k + suc j ≡ suc k + j
         shift k j = omega arith
 
-        at : slice_get es k ≡ Some e
-        at = ap (slice_get es) (plus_zero k) ∙ sym (same 0)
-          where
-            plus_zero : (k : ℕ) → k ≡ k + 0
-            plus_zero k = omega arith
-
-        goes_on : AgreeFrom cut states (suc k) (view_at (suc k)) rest → (IsEvent e → ⊥) → (states (suc k)).waiting ≡ (states k).waiting → AgreeFrom cut states (suc k) (view_at k) rest
-        goes_on later other waiting = subst (λ v. AgreeFrom cut states (suc k) v rest) (stays_at k e at other waiting) later
-
-        by_entry : (x : Entry) → e ≡ x → AgreeFrom cut states (suc k) (view_at (suc k)) rest → AgreeFrom cut states k (view_at k) (x ∷ rest)
-        by_entry (event t op reply) is later =
-            (λ left. agrees_at k t op reply (at ∙ ap Some is) left, subst (λ v. AgreeFrom cut states (suc k) v rest) (sym (view_goes k t op reply (at ∙ ap Some is))) later)
-        by_entry (silent t) is later = goes_on later (λ ev. subst IsEvent is ev) (ap (λ (s : OrdinaryState S). s.waiting) (fits_at k (silent t) (at ∙ ap Some is)).leads)
-        by_entry (put_back r i v) is later = goes_on later (λ ev. subst IsEvent is ev) (ap (λ (s : OrdinaryState S). s.waiting) (fits_at k (put_back r i v) (at ∙ ap Some is)).leads)
-        by_entry (give_back t r n) is later = goes_on later (λ ev. subst IsEvent is ev) (ap (λ (s : OrdinaryState S). s.waiting) (fits_at k (give_back t r n) (at ∙ ap Some is)))
-        by_entry (go_back t p) is later = goes_on later (λ ev. subst IsEvent is ev) (ap (λ (s : OrdinaryState S). s.waiting) (fits_at k (go_back t p) (at ∙ ap Some is)).leads)
-        by_entry unseen is later = goes_on later (λ ev. subst IsEvent is ev) (ap (λ (s : OrdinaryState S). s.waiting) (fits_at k unseen (at ∙ ap Some is)))
-
-    -- beginning with what is there at first
-    pub agree_all : ((r : ℕ) → (states 0).monitors r ≡ free) → AgreeFrom cut states 0 (view_of (states 0)) es
-    agree_all first_free = subst (λ v. AgreeFrom cut states 0 v es) (view_ext (fun_ext (λ r. fun_ext (λ i. refl))) (fun_ext (λ r. sym (first_free r))) refl)
-        (agree_from es 0 (λ j. ap (slice_get es) (from_zero j)))
+    all_rest : IsRest es 0
+    all_rest j = ap (slice_get es) (from_zero j)
       where
         from_zero : (j : ℕ) → j ≡ 0 + j
         from_zero j = omega arith
+
+    pub agree_from : (rest : List Entry) (k : ℕ) → IsRest rest k → AgreeFrom cut states k (view_at k) rest
+    agree_from [] k same = tt
+    agree_from (e ∷ rest) k same = by_entry e (rest_head k e rest same) (agree_from rest (suc k) (rest_tail k e rest same))
+      where
+        by_entry : (x : Entry) → slice_get es k ≡ Some x → AgreeFrom cut states (suc k) (view_at (suc k)) rest → AgreeFrom cut states k (view_at k) (x ∷ rest)
+        by_entry (event t op reply) at later = (λ left. agrees_at k t op reply at left, subst (λ v. AgreeFrom cut states (suc k) v rest) (sym (entry_goes k (event t op reply) at)) later)
+        by_entry (silent t) at later = subst (λ v. AgreeFrom cut states (suc k) v rest) (sym (entry_goes k (silent t) at)) later
+        by_entry (put_back r i v) at later = subst (λ z. AgreeFrom cut states (suc k) z rest) (sym (entry_goes k (put_back r i v) at)) later
+        by_entry (give_back t r n) at later = subst (λ v. AgreeFrom cut states (suc k) v rest) (sym (entry_goes k (give_back t r n) at)) later
+        by_entry (go_back t p) at later = subst (λ v. AgreeFrom cut states (suc k) v rest) (sym (entry_goes k (go_back t p) at)) later
+        by_entry unseen at later = subst (λ v. AgreeFrom cut states (suc k) v rest) (sym (entry_goes k unseen at)) later
+
+    -- what the events that are left make from number k on
+    view_rest : (rest : List Entry) (k : ℕ) → IsRest rest k → view_from cut k (view_at k) rest ≡ view_at (k + length rest)
+    view_rest [] k same = ap view_at (plus_none k)
+      where
+        plus_none : (k : ℕ) → k ≡ k + 0
+        plus_none k = omega arith
+    view_rest (e ∷ rest) k same = by_entry e (rest_head k e rest same) (view_rest rest (suc k) (rest_tail k e rest same)) ∙ ap view_at (one_more k (length rest))
+      where
+        one_more : (k n : ℕ) → suc k + n ≡ k + suc n
+        one_more k n = omega arith
+
+        by_entry : (x : Entry) → slice_get es k ≡ Some x → view_from cut (suc k) (view_at (suc k)) rest ≡ view_at (suc k + length rest) → view_from cut k (view_at k) (x ∷ rest) ≡ view_at (suc k + length rest)
+        by_entry (event t op reply) at later = ap (λ v. view_from cut (suc k) v rest) (entry_goes k (event t op reply) at) ∙ later
+        by_entry (silent t) at later = ap (λ v. view_from cut (suc k) v rest) (entry_goes k (silent t) at) ∙ later
+        by_entry (put_back r i v) at later = ap (λ z. view_from cut (suc k) z rest) (entry_goes k (put_back r i v) at) ∙ later
+        by_entry (give_back t r n) at later = ap (λ v. view_from cut (suc k) v rest) (entry_goes k (give_back t r n) at) ∙ later
+        by_entry (go_back t p) at later = ap (λ v. view_from cut (suc k) v rest) (entry_goes k (go_back t p) at) ∙ later
+        by_entry unseen at later = ap (λ v. view_from cut (suc k) v rest) (entry_goes k unseen at) ∙ later
+
+    -- beginning with what is there at first
+    first_view : ((r : ℕ) → (states 0).monitors r ≡ free) → view_at 0 ≡ view_of (states 0)
+    first_view first_free = view_ext (fun_ext (λ r. fun_ext (λ i. refl))) (fun_ext (λ r. sym (first_free r))) refl
+
+    pub agree_all : ((r : ℕ) → (states 0).monitors r ≡ free) → AgreeFrom cut states 0 (view_of (states 0)) es
+    agree_all first_free = subst (λ v. AgreeFrom cut states 0 v es) (first_view first_free) (agree_from es 0 all_rest)
+
+    -- and all of it is settled at the end
+    view_ends : ((r : ℕ) → (states 0).monitors r ≡ free) → view_from cut 0 (view_of (states 0)) es ≡ view_at (length es)
+    view_ends first_free = ap (λ v. view_from cut 0 v es) (sym (first_view first_free)) ∙ view_rest es 0 all_rest ∙ ap view_at (zero_plus (length es))
+      where
+        zero_plus : (n : ℕ) → 0 + n ≡ n
+        zero_plus n = omega arith
+
+    pub words_end : ((r : ℕ) → (states 0).monitors r ≡ free) → length es ≡ length acts
+        → WordsAreSettled is_thread doomed (c (length acts)) (view_from cut 0 (view_of (states 0)) es).words
+    words_end first_free size = subst (WordsAreSettled is_thread doomed (c (length acts))) (sym (ap (λ (v : View). v.words) (view_ends first_free ∙ ap view_at size)))
+        (words_settle code b is_thread first classes c acts tagged doomed run.tells words_at are_words (length acts) (omega arith))
+
+    pub monitors_end : ((r : ℕ) → (states 0).monitors r ≡ free) → length es ≡ length acts
+        → SettledMonitors (view_from cut 0 (view_of (states 0)) es).monitors (λ t. held_in ((c (length acts)).threads t)) (λ t r. back_in doomed ((c (length acts)).levels t) ((c (length acts)).threads t) r)
+    monitors_end first_free size =
+        subst (λ m. SettledMonitors m (λ t. held_in ((c (length acts)).threads t)) (λ t r. back_in doomed ((c (length acts)).levels t) ((c (length acts)).threads t) r))
+        (sym (ap (λ (v : View). v.monitors) (view_ends first_free ∙ ap view_at size)))
+        (monitors_settle code b first classes c acts tagged.monitors doomed run.tells monitors_at are_monitors (length acts) (omega arith))

@@ -1,5 +1,5 @@
 -- The conditions of a clean cut, of the acts that are made with a level open that is to be undone.
-use Rattle.std.specs.Prelude.{◌≡◌, ◌<◌, ◌≤◌, ◌⊎◌, ℕ, Bool, true, Some, List, slice_get}
+use Rattle.std.specs.Prelude.{◌≡◌, ◌<◌, ◌≤◌, ◌⊎◌, ℕ, Bool, true, Some, List, length, slice_get}
 use Rattle.op_core.specs.declared.Op.{Op}
 use Rattle.op_core.specs.declared.Reply.{Reply}
 use Rattle.op_core.specs.ThreadCode.{Code}
@@ -9,6 +9,7 @@ use Rattle.thread_automaton.specs.declared.Bounds.{Bounds}
 use Rattle.core_runs.specs.Cores.{Core}
 use Rattle.core_runs.specs.Acts.{Act}
 use Rattle.core_runs.specs.Entries.{ShowFrom}
+use Rattle.settled_lists.specs.Settled.{to_undo}
 use Rattle.section_levels.specs.Levels.{IsLevelledRun}
 use Rattle.settled_monitors.specs.SettledRuns.{IsDoomedTest}
 use Rattle.doomed_cuts.specs.Cuts.{is_cut_by}
@@ -40,3 +41,8 @@ CutIsCovered {S} code = (b : Bounds) (first : S) (classes : ℕ) (c : ℕ → Co
 abbrev pub CutIsAllowed : {S : Type 0} → Code S → Type 0
 CutIsAllowed {S} code = (b : Bounds) (first : S) (classes : ℕ) (c : ℕ → Core S) (acts : List Act) (es : List Entry) (doomed : ℕ → Bool) → IsShownRun code b first classes c acts es doomed
     → (i t : ℕ) (op : Op) (reply : Reply) → is_cut_by doomed c acts i ≡ true → slice_get es i ≡ Some (event t op reply) → CanBeCut op reply
+
+-- if a thread has nothing left to undo where the run ends, what is cut of it is all gone back over
+abbrev pub RestedThreadsHaveGoneBack : {S : Type 0} → Code S → Type 0
+RestedThreadsHaveGoneBack {S} code = (b : Bounds) (first : S) (classes : ℕ) (c : ℕ → Core S) (acts : List Act) (es : List Entry) (doomed : ℕ → Bool) → IsShownRun code b first classes c acts es doomed
+    → (t : ℕ) → to_undo doomed ((c (length acts)).levels t) ≡ 0 → (i : ℕ) → is_cut_by doomed c acts i ≡ true → IsStepOf t (slice_get es i) → IsGoneBackOver es t i

@@ -1,15 +1,17 @@
 -- The third law: the cut of a run is a clean cut.
-use Rattle.std.specs.Prelude.{◌<◌, ◌^◌, ℕ, Bool, List}
+use Rattle.std.specs.Prelude.{◌<◌, ◌^◌, ℕ, Bool, List, length}
 use Rattle.op_core.specs.ThreadCode.{Code}
-use Rattle.op_core.specs.OrdinaryState.{view_of}
+use Rattle.op_core.specs.OrdinaryState.{Monitor, view_of}
 use Rattle.op_core.specs.InPlaceList.{Entry, IsInPlaceList}
-use Rattle.op_core.specs.CleanCut.{AgreeFrom, IsCleanCut}
+use Rattle.op_core.specs.CleanCut.{AgreeFrom, IsCleanCut, view_from}
 use Rattle.thread_automaton.specs.declared.Bounds.{Bounds}
 use Rattle.core_runs.specs.Cores.{Core}
 use Rattle.core_runs.specs.Acts.{Act}
 use Rattle.core_runs.specs.Entries.{ShowFrom}
 use Rattle.core_runs.specs.Reading.{ordinary}
-use Rattle.settled_monitors.specs.SettledRuns.{IsDoomedTest}
+use Rattle.settled_lists.specs.SettledMonitors.{SettledMonitors}
+use Rattle.settled_monitors.specs.SettledRuns.{IsDoomedTest, held_in, back_in}
+use Rattle.settled_words.specs.SettledWords.{WordsAreSettled}
 use Rattle.grounded_monitors.specs.Free.{IsFreeRun}
 use Rattle.doomed_cuts.specs.Cuts.{is_cut_by}
 
@@ -24,6 +26,10 @@ pub record IsCutRun {S : Type 0} (code : Code S) (b : Bounds) (is_thread : ℕ �
   pub in_place : IsInPlaceList code (λ k. ordinary code is_thread (c k)) es
   pub tells : IsDoomedTest c acts doomed
 
+-- the monitors are those that threads will hold once they have undone what they are to undo
+abbrev pub MonitorsAreSettled : {S : Type 0} → (ℕ → Bool) → Core S → (ℕ → Monitor) → Type 0
+MonitorsAreSettled doomed core settled = SettledMonitors settled (λ t. held_in (core.threads t)) (λ t r. back_in doomed (core.levels t) (core.threads t) r)
+
 -- each event that is left finds what the events left before it make of the words and monitors
 abbrev pub EventsLeftAgree : {S : Type 0} → Code S → Type 0
 EventsLeftAgree {S} code = (b : Bounds) (is_thread : ℕ → Bool) (first : S) (classes : ℕ) (c : ℕ → Core S) (acts : List Act) (es : List Entry) (doomed : ℕ → Bool) → IsCutRun code b is_thread first classes c acts es doomed
@@ -33,3 +39,10 @@ EventsLeftAgree {S} code = (b : Bounds) (is_thread : ℕ → Bool) (first : S) (
 abbrev pub CutsAreClean : {S : Type 0} → Code S → Type 0
 CutsAreClean {S} code = (b : Bounds) (is_thread : ℕ → Bool) (first : S) (classes : ℕ) (c : ℕ → Core S) (acts : List Act) (es : List Entry) (doomed : ℕ → Bool) → IsCutRun code b is_thread first classes c acts es doomed
     → IsCleanCut (λ k. ordinary code is_thread (c k)) es (is_cut_by doomed c acts)
+
+-- What the events that are left make of words and monitors, beginning with those of the run's first ordinary state, is settled
+-- where the run ends: each is as it will be once every thread has undone what it is to undo.
+abbrev pub EventsLeftSettle : {S : Type 0} → Code S → Type 0
+EventsLeftSettle {S} code = (b : Bounds) (is_thread : ℕ → Bool) (first : S) (classes : ℕ) (c : ℕ → Core S) (acts : List Act) (es : List Entry) (doomed : ℕ → Bool) → IsCutRun code b is_thread first classes c acts es doomed
+    → WordsAreSettled is_thread doomed (c (length acts)) (view_from (is_cut_by doomed c acts) 0 (view_of (ordinary code is_thread (c 0))) es).words
+    × MonitorsAreSettled doomed (c (length acts)) (view_from (is_cut_by doomed c acts) 0 (view_of (ordinary code is_thread (c 0))) es).monitors

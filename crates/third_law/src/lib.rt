@@ -3,8 +3,8 @@
 //! Each function does nothing: its contract is the law.
 #![tactic(auto)]
 
-ghost use Rattle.third_law.specs.CleanCuts.{UndoneIsCut, UndoingsNest, CutIsCovered, CutIsAllowed};
-ghost use Rattle.third_law.specs.CutLaw.{EventsLeftAgree, CutsAreClean};
+ghost use Rattle.third_law.specs.CleanCuts.{UndoneIsCut, UndoingsNest, CutIsCovered, CutIsAllowed, RestedThreadsHaveGoneBack};
+ghost use Rattle.third_law.specs.CutLaw.{EventsLeftAgree, CutsAreClean, EventsLeftSettle};
 
 use op_core::ThreadCode;
 
@@ -28,6 +28,11 @@ pub fn cut_is_allowed<C: ThreadCode>()
     ensures { CutIsAllowed C.code }
 {}
 
+/// If a thread has nothing left to undo where the run ends, what is cut of it is all gone back over.
+pub fn rested_threads_have_gone_back<C: ThreadCode>()
+    ensures { RestedThreadsHaveGoneBack C.code }
+{}
+
 /// Each event that is left finds what the events left before it make of the words and monitors.
 pub fn events_left_agree<C: ThreadCode>()
     ensures { EventsLeftAgree C.code }
@@ -36,4 +41,10 @@ pub fn events_left_agree<C: ThreadCode>()
 /// What is made with a level open that is to be undone is a clean cut of the run.
 pub fn cuts_are_clean<C: ThreadCode>()
     ensures { CutsAreClean C.code }
+{}
+
+/// Where the run ends, what the events that are left make of words and monitors is as it will be once every thread has undone
+/// what it is to undo.
+pub fn events_left_settle<C: ThreadCode>()
+    ensures { EventsLeftSettle C.code }
 {}
