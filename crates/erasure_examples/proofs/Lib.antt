@@ -1,0 +1,3 @@
+pub mod ScheduledLemmas
+pub mod PremiseLemmas
+pub mod ExampleLemmas

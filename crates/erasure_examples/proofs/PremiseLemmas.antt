@@ -1,0 +1,161 @@
+-- The script and its opening are as the erasure law asks.
+use Rattle.std.proofs.Common.{◌≡◌, ◌⊎◌, inl, inr, ℕ, zero, suc, ◌+◌, ◌<◌, ◌≤◌, ◌^◌, Bool, true, false, true≢false, Option, None, Some, List, [], ◌∷◌, length, refl, sym, ◌∙◌, ap, subst, arith}
+use Rattle.std.specs.Prelude.{nat_eq, slice_get}
+use Rattle.std.specs.List.{All, AllByRecursion, AllPairs}
+use Rattle.std.proofs.lemmas.List.Kept.{AllPairs-cons}
+use Rattle.std.proofs.lemmas.Option.{same_Some}
+use Rattle.op_core.specs.declared.Op.{Op}
+use Rattle.op_core.specs.declared.Op.TheVariants.{New}
+use Rattle.op_core.specs.declared.script.ScriptStep.{ScriptStep}
+use Rattle.op_core.specs.declared.script.ScriptStep.TheVariants.{Pass, Call, Return, Operation}
+use Rattle.op_core.specs.InPlaceList.{IsAllThere, IsInRange, IsGrounded}
+use Rattle.op_core.specs.Orderly.{IsOrderly, KeepsStartWord, StartWordsAreKept}
+use Rattle.op_core.specs.OrderlyLaws.{IsOrderlyStep, IsOrderlyScript}
+use Rattle.op_core.specs.OrdinaryState.{Object, OrdinaryState, set_at, unused, live}
+use Rattle.op_core.specs.Script.{ScriptState, script_code}
+use Rattle.op_core.specs.ScriptLaws.{AllExecute, NamesWhatIsThere}
+use Rattle.op_core.proofs.PointwiseLemmas.{set_at-hit, set_at-other, same_or_other}
+use Rattle.fixed_objects.specs.declared.FixedObject.{FixedObject}
+use Rattle.fixed_objects.specs.Opening.{opening_state, StartsMain}
+use Rattle.plain_words.specs.Opening.{EndsBelow, LiesBehind, KeepsStartWord as KeepsItsStartWord, HasPlace}
+use Rattle.opening_law.specs.Laws.{HasRanges, TellsThreads}
+use Rattle.opening_cores.specs.Openings.{CanBegin}
+use Rattle.erasure_examples.specs.Example.{steps, first, is_thread, objects, opening, bounds}
+
+-- ---- the script
+
+-- each operation of a script is so
+abbrev EachIs : (Op → Type 0) → List ScriptStep → Type 0
+EachIs P [] = Unit {0}
+EachIs P (Operation op ∷ rest) = P op × EachIs P rest
+EachIs P (step ∷ rest) = EachIs P rest
+
+each_at : (P : Op → Type 0) (script : List ScriptStep) → EachIs P script → (i : ℕ) (op : Op) → slice_get script i ≡ Some (Operation op) → P op
+each_at P [] all i op at = absurd cc
+each_at P (Operation x ∷ rest) all zero op at = subst P (same_op x op at) all.0
+  where
+    same_op : (x op : Op) → Some (Operation x) ≡ Some (Operation op) → x ≡ op
+    same_op x op is = cc
+each_at P (Pass ∷ rest) all zero op at = absurd cc
+each_at P (Call ∷ rest) all zero op at = absurd cc
+each_at P (Return ∷ rest) all zero op at = absurd cc
+each_at P (Operation x ∷ rest) all (suc i) op at = each_at P rest all.1 i op at
+each_at P (Pass ∷ rest) all (suc i) op at = each_at P rest all i op at
+each_at P (Call ∷ rest) all (suc i) op at = each_at P rest all i op at
+each_at P (Return ∷ rest) all (suc i) op at = each_at P rest all i op at
+
+pub orderly : IsOrderlyScript steps 4
+orderly = record { each = each_at (IsOrderlyStep 4 13) steps (omega arith, (tt, (tt, (tt, (tt, (tt, (tt, (tt, (tt, (tt, (tt, (tt, (tt, tt))))))))))))); last = λ i is. (None, ap (slice_get steps) (twelve i is)) }
+  where
+    twelve : (i : ℕ) → i + 1 ≡ 13 → i ≡ 12
+    twelve i is = omega (arith, is)
+
+abbrev pub start : OrdinaryState ScriptState
+start = opening_state opening first
+
+pub all_execute : AllExecute steps start
+all_execute t l at = elim (same_or_other t 1) [
+  | inl own ↦ ap (λ (x : ScriptState). x.steps) (sym (same_live first l (sym (ap (set_at (λ n. unused) 1 (live first)) own ∙ set_at-hit (λ n. unused) 1 (live first)) ∙ at)))
+  | inr other ↦ absurd (no_live l (sym (set_at-other (λ n. unused) 1 (live first) t other) ∙ at))
+]
+  where
+    same_live : (x y : ScriptState) → live x ≡ live y → x ≡ y
+    same_live x y is = cc
+
+    no_live : (y : ScriptState) → unused ≡ live y → ⊥
+    no_live y is = cc
+
+pub names_there : NamesWhatIsThere steps start
+names_there i op at = each_at (λ op. IsAllThere start.objects op × IsInRange op) steps
+    ((refl, (omega arith, omega arith)), ((refl, omega arith), ((refl, omega arith), ((omega arith, (omega arith, omega arith, omega arith)), ((refl, omega arith), ((refl, omega arith), ((tt, tt), ((tt, tt), ((refl, omega arith), ((refl, omega arith), ((refl, omega arith), ((refl, omega arith), ((tt, tt), tt)))))))))))))
+    i op at
+
+pub keep_start_words : (i : ℕ) (op : Op) → slice_get steps i ≡ Some (Operation op) → KeepsStartWord is_thread start.objects op
+keep_start_words i op at = each_at (KeepsStartWord is_thread start.objects) steps ((refl, omega arith), (tt, (tt, ((λ no one. absurd (true≢false (sym no))), (tt, (tt, (tt, (tt, (tt, (tt, (tt, (tt, (tt, tt))))))))))))) i op at
+
+abbrev IsNoNew : Op → Type 0
+IsNoNew (New c n) = ⊥
+IsNoNew op = Unit {0}
+
+pub makes_none : (i c n : ℕ) → slice_get steps i ≡ Some (Operation (New c n)) → ⊥
+makes_none i c n at = each_at IsNoNew steps (tt, (tt, (tt, (tt, (tt, (tt, (tt, (tt, (tt, (tt, (tt, (tt, (tt, tt))))))))))))) i (New c n) at
+
+-- ---- the opening
+
+all_of : {X : Type 0} (P : X → Type 0) (xs : List X) → AllByRecursion P xs → All P xs
+all_of P [] all k d within = absurd (none k within)
+  where
+    none : (k : ℕ) → k < 0 → ⊥
+    none k within = omega (arith, within)
+all_of P (x ∷ xs) all zero d within = all.0
+all_of P (x ∷ xs) all (suc k) d within = all_of P xs all.1 k d (omega (arith, within))
+
+none_apart : AllPairs LiesBehind []
+none_apart i j d less within = absurd (none i j less within)
+  where
+    none : (i j : ℕ) → i < j → j < 0 → ⊥
+    none i j less within = omega (arith, less, within)
+
+-- each object lies after those that are listed before it
+abbrev Apart : List FixedObject → Type 0
+Apart [] = Unit {0}
+Apart (x ∷ xs) = AllByRecursion (LiesBehind x) xs × Apart xs
+
+apart_of : (xs : List FixedObject) → Apart xs → AllPairs LiesBehind xs
+apart_of [] all = none_apart
+apart_of (x ∷ xs) all = AllPairs-cons LiesBehind x xs (all_of (LiesBehind x) xs all.0) (apart_of xs all.1)
+
+pub can_begin : CanBegin is_thread bounds opening
+can_begin = record {
+  place = record {
+    first = omega arith;
+    heap = omega arith;
+    objects = record {
+      below = all_of (EndsBelow 20) objects ((omega arith, omega arith), ((omega arith, omega arith), ((omega arith, omega arith), ((omega arith, omega arith), ((omega arith, omega arith), tt)))));
+      apart = apart_of objects ((omega arith, (omega arith, (omega arith, (omega arith, tt)))), ((omega arith, (omega arith, (omega arith, tt))), ((omega arith, (omega arith, tt)), ((omega arith, tt), (tt, tt)))));
+      starts = all_of KeepsItsStartWord objects ((λ some. refl), ((λ some. refl), ((λ some. absurd (zero_some some)), ((λ some. absurd (zero_some some)), ((λ some. absurd (zero_some some)), tt)))));
+    };
+    ready = all_of _ [] tt;
+  };
+  first = refl;
+  ranges = all_of HasRanges objects (
+    record { class = omega arith; size = omega arith; words = all_of (λ v. v < 2 ^ 32) (5 ∷ 0 ∷ 0 ∷ []) (omega arith, (omega arith, (omega arith, tt))); started = omega arith },
+    (
+      record { class = omega arith; size = omega arith; words = all_of (λ v. v < 2 ^ 32) (9 ∷ 0 ∷ 0 ∷ []) (omega arith, (omega arith, (omega arith, tt))); started = omega arith },
+      (
+        record { class = omega arith; size = omega arith; words = all_of (λ v. v < 2 ^ 32) ([]) tt; started = omega arith },
+        (
+          record { class = omega arith; size = omega arith; words = all_of (λ v. v < 2 ^ 32) ([]) tt; started = omega arith },
+          (
+            record { class = omega arith; size = omega arith; words = all_of (λ v. v < 2 ^ 32) (0 ∷ []) (omega arith, tt); started = omega arith },
+            tt,
+          ),
+        ),
+      ),
+    ),
+  );
+  threads = all_of (TellsThreads is_thread) objects (
+    record { thread = λ is. refl; other = λ no. absurd (true≢false no) },
+    (
+      record { thread = λ is. refl; other = λ no. refl },
+      (
+        record { thread = λ is. absurd (true≢false (sym is)); other = λ no. refl },
+        (
+          record { thread = λ is. absurd (true≢false (sym is)); other = λ no. refl },
+          (
+            record { thread = λ is. absurd (true≢false (sym is)); other = λ no. refl },
+            tt,
+          ),
+        ),
+      ),
+    ),
+  );
+  main = record {
+    main = refl;
+    others = all_of (λ (o : FixedObject). (o.reference ≡ 1) ⊎ (o.started ≡ 0)) objects (inl refl, (inr refl, (inr refl, (inr refl, (inr refl, tt)))));
+  };
+  sections = omega arith;
+}
+  where
+    zero_some : 0 < 0 → ⊥
+    zero_some some = omega (arith, some)
