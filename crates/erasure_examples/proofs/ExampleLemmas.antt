@@ -1,20 +1,17 @@
 -- The run is one as the erasure law asks, and something is left of it.
-use Rattle.std.proofs.Common.{◌≡◌, ◌≢◌, ◌⊎◌, inl, inr, ℕ, ◌+◌, ◌<◌, ◌≤◌, ◌^◌, Bool, true, Option, None, Some, List, [], ◌∷◌, ◌++◌, length, refl, sym, ◌∙◌, ap, subst, arith}
+use Rattle.std.proofs.Common.{◌≡◌, ◌≢◌, inl, ℕ, ◌+◌, ◌<◌, ◌≤◌, ◌^◌, true, Option, None, Some, [], ◌∷◌, ◌++◌, length, refl, sym, ◌∙◌, ap, subst, arith}
 use Rattle.std.specs.Prelude.{slice_get}
-use Rattle.op_core.specs.declared.Event.{Event}
-use Rattle.op_core.specs.declared.Line.{Line}
 use Rattle.op_core.specs.declared.Line.TheVariants.{Empty}
 use Rattle.op_core.specs.declared.Op.{Op}
-use Rattle.op_core.specs.declared.Op.TheVariants.{New, Write, Start}
+use Rattle.op_core.specs.declared.Op.TheVariants.{New}
 use Rattle.op_core.specs.declared.Next.TheVariants.{Want}
-use Rattle.op_core.specs.declared.Reply.{Reply}
 use Rattle.op_core.specs.declared.script.ScriptStep.{ScriptStep}
 use Rattle.op_core.specs.declared.script.ScriptStep.TheVariants.{Pass, Call, Return, Operation}
 use Rattle.op_core.specs.CleanCut.{kept_by}
 use Rattle.op_core.specs.Execution.{printed}
 use Rattle.op_core.specs.InPlaceList.{IsGrounded}
-use Rattle.op_core.specs.Orderly.{IsOrderly, IsEnd, StartWordsAreKept}
-use Rattle.op_core.specs.OrdinaryState.{Object, OrdinaryState, live, OnlyObjectsHaveWords}
+use Rattle.op_core.specs.Orderly.{StartWordsAreKept}
+use Rattle.op_core.specs.OrdinaryState.{Object}
 use Rattle.op_core.specs.Script.{ScriptState, next_at, script_code}
 use Rattle.op_core.proofs.ScriptLawLemmas.{scripts_grounded}
 use Rattle.op_core.proofs.PremiseLemmas.{scripts_orderly, scripts_keep}
@@ -25,7 +22,7 @@ use Rattle.monitor_core.specs.Monitors.{monitor_word, monitor_section, monitor_d
 use Rattle.core_runs.specs.Cores.{Core}
 use Rattle.core_runs.specs.Reading.{ordinary}
 use Rattle.core_runs.specs.Revoked.{RevokesAt}
-use Rattle.kept_states.specs.Kept.{Objects, Extends, IsTrueReply, Keeps, IsKeptState}
+use Rattle.kept_states.specs.Kept.{Objects, Keeps, IsKeptState}
 use Rattle.grounded_monitors.specs.Free.{IsFreeRun}
 use Rattle.kept_cores.specs.KeptCores.{IsBegunRun, KeepsFitting}
 use Rattle.kept_cores.proofs.CoreLemmas.{cores_keep}

@@ -1,23 +1,22 @@
 -- The script and its opening are as the erasure law asks.
-use Rattle.std.proofs.Common.{◌≡◌, ◌⊎◌, inl, inr, ℕ, zero, suc, ◌+◌, ◌<◌, ◌≤◌, ◌^◌, Bool, true, false, true≢false, Option, None, Some, List, [], ◌∷◌, length, refl, sym, ◌∙◌, ap, subst, arith}
-use Rattle.std.specs.Prelude.{nat_eq, slice_get}
+use Rattle.std.proofs.Common.{◌≡◌, ◌⊎◌, inl, inr, ℕ, zero, suc, ◌+◌, ◌<◌, ◌^◌, true≢false, None, Some, List, [], ◌∷◌, refl, sym, ◌∙◌, ap, subst, arith}
+use Rattle.std.specs.Prelude.{slice_get}
 use Rattle.std.specs.List.{All, AllByRecursion, AllPairs}
 use Rattle.std.proofs.lemmas.List.Kept.{AllPairs-cons}
-use Rattle.std.proofs.lemmas.Option.{same_Some}
 use Rattle.op_core.specs.declared.Op.{Op}
 use Rattle.op_core.specs.declared.Op.TheVariants.{New}
 use Rattle.op_core.specs.declared.script.ScriptStep.{ScriptStep}
 use Rattle.op_core.specs.declared.script.ScriptStep.TheVariants.{Pass, Call, Return, Operation}
-use Rattle.op_core.specs.InPlaceList.{IsAllThere, IsInRange, IsGrounded}
-use Rattle.op_core.specs.Orderly.{IsOrderly, KeepsStartWord, StartWordsAreKept}
+use Rattle.op_core.specs.InPlaceList.{IsAllThere, IsInRange}
+use Rattle.op_core.specs.Orderly.{KeepsStartWord}
 use Rattle.op_core.specs.OrderlyLaws.{IsOrderlyStep, IsOrderlyScript}
-use Rattle.op_core.specs.OrdinaryState.{Object, OrdinaryState, set_at, unused, live}
-use Rattle.op_core.specs.Script.{ScriptState, script_code}
+use Rattle.op_core.specs.OrdinaryState.{OrdinaryState, set_at, unused, live}
+use Rattle.op_core.specs.Script.{ScriptState}
 use Rattle.op_core.specs.ScriptLaws.{AllExecute, NamesWhatIsThere}
 use Rattle.op_core.proofs.PointwiseLemmas.{set_at-hit, set_at-other, same_or_other}
 use Rattle.fixed_objects.specs.declared.FixedObject.{FixedObject}
-use Rattle.fixed_objects.specs.Opening.{opening_state, StartsMain}
-use Rattle.plain_words.specs.Opening.{EndsBelow, LiesBehind, KeepsStartWord as KeepsItsStartWord, HasPlace}
+use Rattle.fixed_objects.specs.Opening.{opening_state}
+use Rattle.plain_words.specs.Opening.{EndsBelow, LiesBehind, KeepsStartWord as KeepsItsStartWord}
 use Rattle.opening_law.specs.Laws.{HasRanges, TellsThreads}
 use Rattle.opening_cores.specs.Openings.{CanBegin}
 use Rattle.erasure_examples.specs.Example.{steps, first, is_thread, objects, opening, bounds}

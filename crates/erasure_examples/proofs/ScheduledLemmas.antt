@@ -1,5 +1,5 @@
 -- Acts in which threads move in a given order lead on.
-use Rattle.std.proofs.Common.{◌≡◌, ℕ, zero, suc, ◌+◌, Option, None, Some, List, [], ◌∷◌, refl, sym, ◌∙◌, ap, subst, arith}
+use Rattle.std.proofs.Common.{◌≡◌, ℕ, suc, ◌+◌, Option, None, Some, List, [], ◌∷◌, refl, sym, ◌∙◌, ap, subst, arith}
 use Rattle.std.specs.Option.{option_map_or}
 use Rattle.op_core.specs.ThreadCode.{Code, quiet_step}
 use Rattle.op_core.specs.OrdinaryState.{set_at}
@@ -11,7 +11,7 @@ use Rattle.thread_automaton.specs.ThreadState.{ThreadState}
 use Rattle.thread_automaton.specs.NextMove.{next_move}
 use Rattle.thread_automaton.specs.Told.{after_quiet}
 use Rattle.core_runs.specs.Cores.{Core, core_after}
-use Rattle.core_runs.specs.Acts.{Act, ActAt, ActFrom}
+use Rattle.core_runs.specs.Acts.{ActAt, ActFrom}
 use Rattle.erasure_examples.specs.Scheduled.{Moved, moved_quietly, moved_by, moved_from, moved, or_later, acts_in, core_in}
 
 module _ {S : Type 0} (code : Code S) (b : Bounds) where

@@ -1,6 +1,5 @@
 -- A run of two threads in which first an inner level is undone and then the outermost one.
 use Rattle.std.specs.Prelude.{◌≡◌, ◌≢◌, ℕ, zero, suc, nat_eq, Bool, None, Some, List, [], ◌∷◌, length, slice_get}
-use Rattle.op_core.specs.declared.Line.{Line}
 use Rattle.op_core.specs.declared.Line.TheVariants.{Empty}
 use Rattle.op_core.specs.declared.Op.TheVariants.{Write, Enter, Exit, Print, Start, End}
 use Rattle.op_core.specs.declared.script.ScriptStep.{ScriptStep}
