@@ -1,0 +1,36 @@
+-- Runs of a program on shared words, with sections that are undone, from the words with which the program begins.
+use Rattle.std.specs.Prelude.{◌≡◌, ◌<◌, ◌≤◌, ◌+◌, ◌^◌, ℕ, List}
+use Rattle.code_decode.specs.declared.code.ClassUnit.{ClassUnit}
+use Rattle.link_types.specs.declared.operands.MethodId.{MethodId}
+use Rattle.link_rules.specs.FixedObjects.{first_free}
+use Rattle.link_rules.specs.Names.{program_names}
+use Rattle.op_core.specs.CleanCut.{kept_by}
+use Rattle.op_core.specs.Execution.{Leads}
+use Rattle.java_rows.specs.Start.{opening_of, start_of_program}
+use Rattle.java_rows.specs.Thread.{Local, java_code, first_state}
+use Rattle.thread_automaton.specs.declared.Bounds.{Bounds}
+use Rattle.core_runs.specs.Cores.{Core}
+use Rattle.core_runs.specs.Acts.{Act, ActFrom}
+use Rattle.soundness_senses.specs.Runs.{IsThread, MayStand, ObjectFits, RunsLocal}
+use Rattle.kept_cores.specs.KeptCores.{CoresAreKept}
+use Rattle.core_law.specs.Erasure.{is_left_out, Erasure}
+use Rattle.opening_cores.specs.Openings.{opening_core}
+
+-- The acts lead on from the words with which the program begins. Its heap lies after its fixed objects, below 2^32, and the
+-- numbers of sections have 24 bits.
+pub record IsProgramRun (us : List ClassUnit) (main : MethodId) (b : Bounds) (c : ℕ → Core Local) (acts : List Act) : Type 0 where
+  pub first : b.first ≡ first_free (program_names us)
+  pub heap : b.first + b.limits.heap ≤ 2 ^ 32
+  pub sections : b.limits.sections < 2 ^ 24
+  pub begins : c 0 ≡ opening_core (opening_of us) (first_state us main)
+  pub leads : ActFrom java_code b c 0 acts
+
+-- What is left of such a run is an execution of the program, and each place of the run fits the program as threads see it.
+pub record IsErasedRun (us : List ClassUnit) (main : MethodId) (b : Bounds) (classes : ℕ) (c : ℕ → Core Local) (acts : List Act) : Type 0 where
+  pub erasure : Erasure java_code b (IsThread us) c acts
+  pub execution : Leads java_code (start_of_program us main) (kept_by (is_left_out c acts) erasure.entries) erasure.last
+  pub kept : CoresAreKept java_code b (IsThread us) (first_state us main) classes c acts (RunsLocal us) (MayStand us) (ObjectFits us)
+
+-- so it is with each run of the program
+abbrev pub ProgramRunsAreErased : List ClassUnit → MethodId → Type 0
+ProgramRunsAreErased us main = (b : Bounds) (c : ℕ → Core Local) (acts : List Act) → IsProgramRun us main b c acts → (classes : ℕ) × IsErasedRun us main b classes c acts
