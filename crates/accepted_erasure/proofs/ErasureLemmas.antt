@@ -1,5 +1,8 @@
 -- What is left of a run of a program is an execution of it.
-use Rattle.std.proofs.Common.{◌≡◌, ◌<◌, ◌≤◌, ◌^◌, ℕ, suc, List, length, ◌∙◌, ap, subst, arith}
+use Rattle.std.specs.Prelude.{slice_get, if◌then◌else◌}
+use Rattle.std.specs.List.{AllByRecursion}
+use Rattle.std.proofs.lemmas.Option.{same_Some}
+use Rattle.std.proofs.Common.{sym, refl, ◌≡◌, Bool, true, false, true≢false, zero, ◌+◌, Some, [], ◌∷◌, ◌<◌, ◌≤◌, ◌^◌, ℕ, suc, List, length, ◌∙◌, ap, subst, arith}
 use Rattle.code_decode.specs.declared.code.ClassUnit.{ClassUnit}
 use Rattle.link_types.specs.declared.operands.MethodId.{MethodId}
 use Rattle.link_rules.specs.Classes.{classes_of}
@@ -8,7 +11,14 @@ use Rattle.link_rules.specs.LinkRules.{link_rules}
 use Rattle.link_rules.specs.Names.{program_names}
 use Rattle.link_rules.specs.Units.{AreUnits}
 use Rattle.linker.specs.Tables.{HasOrder}
-use Rattle.op_core.specs.CleanCut.{kept_by}
+use Rattle.op_core.specs.declared.Event.{Event}
+use Rattle.op_core.specs.declared.Op.{Op}
+use Rattle.op_core.specs.declared.Op.TheVariants.{Start}
+use Rattle.op_core.specs.declared.Reply.{Reply}
+use Rattle.op_core.specs.declared.Reply.TheVariants.{Number}
+use Rattle.op_core.specs.OrdinaryState.{set_at}
+use Rattle.op_core.specs.InPlaceList.{Entry, silent, event, put_back, give_back, go_back, unseen}
+use Rattle.op_core.specs.CleanCut.{kept_from, kept_by}
 use Rattle.op_core.specs.Execution.{Leads}
 use Rattle.java_rows.specs.Start.{opening_of, start_of_program}
 use Rattle.java_rows.specs.Thread.{Local, java_code, first_state}
@@ -21,7 +31,10 @@ use Rattle.linked_operands.specs.Sound.{IsSound}
 use Rattle.sound_programs.specs.Programs.{IsMainMethod}
 use Rattle.program_accept.specs.Accepted.{Accepted, IsProgram}
 use Rattle.accepted_programs.proofs.MainMethods.{is_sound}
+use Rattle.sound_priorities.specs.Priorities.{StartsInRange}
+use Rattle.sound_priorities.proofs.Whole.{fit_from_start}
 use Rattle.java_cores.proofs.Whole.{core_states_fit}
+use Rattle.sound_priorities.specs.Seen.{IsPriority}
 use Rattle.kept_cores.specs.KeptCores.{CoresAreKept}
 use Rattle.core_law.specs.Erasure.{is_left_out, Erasure}
 use Rattle.core_law.proofs.ErasureLemmas.{runs_are_erased}
@@ -29,6 +42,39 @@ use Rattle.opening_cores.specs.Openings.{CanBegin}
 use Rattle.opening_cores.proofs.OpeningLemmas.{openings_begin_runs, openings_are_ordinary}
 use Rattle.accepted_erasure.specs.Runs.{IsProgramRun, IsErasedRun, ProgramRunsAreErased}
 use Rattle.accepted_erasure.proofs.OpeningLemmas.{can_begin}
+
+-- ---- events that are left
+
+-- what is so of each event that is left is so of each that isn't cut
+left_is : (P : Op → Type 0) (cut : ℕ → Bool) (es : List Entry) (k : ℕ) (silents : ℕ → ℕ) → AllByRecursion (λ (e : Event). P e.op) (kept_from cut k silents es)
+    → (j t : ℕ) (op : Op) (reply : Reply) → slice_get es j ≡ Some (event t op reply) → cut (k + j) ≡ false → P op
+left_is P cut [] k silents all j t op reply at left = absurd cc
+left_is P cut (event u o r ∷ es) k silents all j t op reply at left = by_place j at left (cut k) refl all (left_is P cut es (suc k))
+  where
+    same_op : event u o r ≡ event t op reply → o ≡ op
+    same_op is = cc
+
+    by_place : (j : ℕ) → slice_get (event u o r ∷ es) j ≡ Some (event t op reply) → cut (k + j) ≡ false → (z : Bool) → cut k ≡ z
+        → AllByRecursion (λ (e : Event). P e.op) (if z then kept_from cut (suc k) silents es else (record { thread = u; silent = silents u; op = o; reply = r } ∷ kept_from cut (suc k) (set_at silents u 0) es))
+        → ((z : ℕ → ℕ) → AllByRecursion (λ (e : Event). P e.op) (kept_from cut (suc k) z es) → (j t : ℕ) (op : Op) (reply : Reply) → slice_get es j ≡ Some (event t op reply) → cut (suc k + j) ≡ false → P op)
+        → P op
+    by_place zero at left true is all later = absurd (true≢false (sym is ∙ ap cut (omega arith) ∙ left))
+    by_place zero at left false is all later = subst P (same_op (same_Some (event u o r) (event t op reply) at)) all.0
+    by_place (suc j) at left true is all later = later silents all j t op reply at (ap cut (omega arith) ∙ left)
+    by_place (suc j) at left false is all later = later (set_at silents u 0) all.1 j t op reply at (ap cut (omega arith) ∙ left)
+left_is P cut (silent u ∷ es) k silents all zero t op reply at left = absurd cc
+left_is P cut (silent u ∷ es) k silents all (suc j) t op reply at left =
+    left_is P cut es (suc k) (if cut k then silents else set_at silents u (suc (silents u))) all j t op reply at (ap cut (omega arith) ∙ left)
+left_is P cut (put_back r i v ∷ es) k silents all zero t op reply at left = absurd cc
+left_is P cut (put_back r i v ∷ es) k silents all (suc j) t op reply at left = left_is P cut es (suc k) silents all j t op reply at (ap cut (omega arith) ∙ left)
+left_is P cut (give_back u r n ∷ es) k silents all zero t op reply at left = absurd cc
+left_is P cut (give_back u r n ∷ es) k silents all (suc j) t op reply at left = left_is P cut es (suc k) silents all j t op reply at (ap cut (omega arith) ∙ left)
+left_is P cut (go_back u p ∷ es) k silents all zero t op reply at left = absurd cc
+left_is P cut (go_back u p ∷ es) k silents all (suc j) t op reply at left = left_is P cut es (suc k) silents all j t op reply at (ap cut (omega arith) ∙ left)
+left_is P cut (unseen ∷ es) k silents all zero t op reply at left = absurd cc
+left_is P cut (unseen ∷ es) k silents all (suc j) t op reply at left = left_is P cut es (suc k) silents all j t op reply at (ap cut (omega arith) ∙ left)
+
+-- ---- runs of a program
 
 module _ (us : List ClassUnit) (order : List ℕ) (sound : IsSound us order) (room : first_free (program_names us) ≤ 2 ^ 32) (main : MethodId) (is_main : IsMainMethod us main)
     (b : Bounds) (c : ℕ → Core Local) (acts : List Act) (run : IsProgramRun us main b c acts) where
@@ -51,10 +97,22 @@ module _ (us : List ClassUnit) (order : List ℕ) (sound : IsSound us order) (ro
   erasure : Erasure java_code b (IsThread us) c acts
   erasure = runs_are_erased java_code b (IsThread us) (first_state us main) classes c acts kept.run run.sections
 
+  execution : Leads java_code (start_of_program us main) (kept_by (is_left_out c acts) erasure.entries) erasure.last
+  execution = subst (λ s. Leads java_code s (kept_by (is_left_out c acts) erasure.entries) erasure.last) at_start erasure.leads
+
+  in_range : (k t r p n : ℕ) → slice_get erasure.entries k ≡ Some (event t (Start r p) (Number n)) → IsPriority p
+  in_range k t r p n at = by_cut (is_left_out c acts k) refl
+    where
+      by_cut : (z : Bool) → is_left_out c acts k ≡ z → IsPriority p
+      by_cut true out = absurd (erasure.lasting k t (Start r p) (Number n) at out)
+      by_cut false left = left_is StartsInRange (is_left_out c acts) erasure.entries 0 (λ u. 0) ((fit_from_start us order sound room main is_main).events (kept_by (is_left_out c acts) erasure.entries) (erasure.last, execution))
+          k t (Start r p) (Number n) at (ap (is_left_out c acts) (omega arith) ∙ left)
+
   erased : IsErasedRun us main b classes c acts
   erased = record {
     erasure = erasure;
-    execution = subst (λ s. Leads java_code s (kept_by (is_left_out c acts) erasure.entries) erasure.last) at_start erasure.leads;
+    execution = execution;
+    priorities = in_range;
     kept = kept;
   }
 

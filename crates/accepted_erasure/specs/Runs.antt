@@ -1,9 +1,12 @@
 -- Runs of a program on shared words, with sections that are undone, from the words with which the program begins.
-use Rattle.std.specs.Prelude.{◌≡◌, ◌<◌, ◌≤◌, ◌+◌, ◌^◌, ℕ, List}
+use Rattle.std.specs.Prelude.{◌≡◌, ◌<◌, ◌≤◌, ◌+◌, ◌^◌, ℕ, Some, List, slice_get}
 use Rattle.code_decode.specs.declared.code.ClassUnit.{ClassUnit}
 use Rattle.link_types.specs.declared.operands.MethodId.{MethodId}
 use Rattle.link_rules.specs.FixedObjects.{first_free}
 use Rattle.link_rules.specs.Names.{program_names}
+use Rattle.op_core.specs.declared.Op.TheVariants.{Start}
+use Rattle.op_core.specs.declared.Reply.TheVariants.{Number}
+use Rattle.op_core.specs.InPlaceList.{event}
 use Rattle.op_core.specs.CleanCut.{kept_by}
 use Rattle.op_core.specs.Execution.{Leads}
 use Rattle.java_rows.specs.Start.{opening_of, start_of_program}
@@ -12,6 +15,7 @@ use Rattle.thread_automaton.specs.declared.Bounds.{Bounds}
 use Rattle.core_runs.specs.Cores.{Core}
 use Rattle.core_runs.specs.Acts.{Act, ActFrom}
 use Rattle.soundness_senses.specs.Runs.{IsThread, MayStand, ObjectFits, RunsLocal}
+use Rattle.sound_priorities.specs.Seen.{IsPriority}
 use Rattle.kept_cores.specs.KeptCores.{CoresAreKept}
 use Rattle.core_law.specs.Erasure.{is_left_out, Erasure}
 use Rattle.opening_cores.specs.Openings.{opening_core}
@@ -29,6 +33,8 @@ pub record IsProgramRun (us : List ClassUnit) (main : MethodId) (b : Bounds) (c 
 pub record IsErasedRun (us : List ClassUnit) (main : MethodId) (b : Bounds) (classes : ℕ) (c : ℕ → Core Local) (acts : List Act) : Type 0 where
   pub erasure : Erasure java_code b (IsThread us) c acts
   pub execution : Leads java_code (start_of_program us main) (kept_by (is_left_out c acts) erasure.entries) erasure.last
+  -- each thread that is started in the run, in a section that is undone or in none, has a priority from 1 to 10
+  pub priorities : (k t r p n : ℕ) → slice_get erasure.entries k ≡ Some (event t (Start r p) (Number n)) → IsPriority p
   pub kept : CoresAreKept java_code b (IsThread us) (first_state us main) classes c acts (RunsLocal us) (MayStand us) (ObjectFits us)
 
 -- so it is with each run of the program

@@ -21,6 +21,7 @@ use Rattle.doomed_cuts.specs.Cuts.{is_cut_by}
 use Rattle.third_law.specs.CleanCuts.{IsShownRun}
 use Rattle.third_law.specs.CutLaw.{IsCutRun, MonitorsAreSettled}
 use Rattle.third_law.proofs.LevelLemmas.{rested_threads_have_gone_back}
+use Rattle.third_law.proofs.AllowedLemmas.{cut_is_allowed}
 use Rattle.third_law.proofs.CleanLemmas.{cuts_are_clean, events_left_settle}
 use Rattle.core_law.specs.RevokedLevels.{is_level_revoked}
 use Rattle.core_law.specs.Erasure.{ErasedRunsAreExecutions, is_left_out, RunsAreErased}
@@ -47,6 +48,7 @@ runs_are_erased {S} code b is_thread first classes c acts free sections = record
   leads = led.1;
   kept = kept;
   lines = sym kept.lines ∙ lines_are_printed code (states 0) led.0 (kept_by cut es) led.1;
+  lasting = λ k t op reply at out. cut_is_allowed code b first classes c acts es (is_level_revoked c acts) shown k t op reply out at;
   words = subst (WordsAreSettled is_thread (is_level_revoked c acts) (c (length acts))) (sym kept.words) (events_left_settle code b is_thread first classes c acts es (is_level_revoked c acts) run).0;
   monitors = subst (MonitorsAreSettled (is_level_revoked c acts) (c (length acts))) (sym kept.monitors) (events_left_settle code b is_thread first classes c acts es (is_level_revoked c acts) run).1;
   places = λ t l none at. kept.places t l at (λ i left_out is. rested_threads_have_gone_back code b first classes c acts es (is_level_revoked c acts) shown t none i left_out is);

@@ -1,10 +1,12 @@
 -- The erasure law: what is left of a run, once the levels that are undone are left out, is an execution.
-use Rattle.std.specs.Prelude.{◌≡◌, ◌<◌, ◌^◌, ◌++◌, ℕ, Bool, Some, List, length}
+use Rattle.std.specs.Prelude.{◌≡◌, ◌<◌, ◌^◌, ◌++◌, ℕ, Bool, true, Some, List, length, slice_get}
+use Rattle.op_core.specs.declared.Op.{Op}
+use Rattle.op_core.specs.declared.Reply.{Reply}
 use Rattle.op_core.specs.ThreadCode.{Code, quiet_steps}
 use Rattle.op_core.specs.OrdinaryState.{OrdinaryState, live}
-use Rattle.op_core.specs.InPlaceList.{Entry}
+use Rattle.op_core.specs.InPlaceList.{Entry, event}
 use Rattle.op_core.specs.Execution.{Leads, IsExecution, printed}
-use Rattle.op_core.specs.CleanCut.{kept_by}
+use Rattle.op_core.specs.CleanCut.{CanBeCut, kept_by}
 use Rattle.op_core.specs.Laws.{IsKeptOf}
 use Rattle.thread_automaton.specs.declared.Bounds.{Bounds}
 use Rattle.core_runs.specs.Cores.{Core}
@@ -39,6 +41,8 @@ pub record Erasure {S : Type 0} (code : Code S) (b : Bounds) (is_thread : ℕ �
   pub kept : IsKeptOf code (ordinary code is_thread (c 0)) entries (is_left_out c acts) (ordinary code is_thread (c (length acts))) last
   -- and so are its lines, which those events print
   pub lines : (c (length acts)).lines ≡ (c 0).lines ++ printed (kept_by (is_left_out c acts) entries)
+  -- nothing is left out that told other threads what can't be taken back,
+  pub lasting : (k t : ℕ) (op : Op) (reply : Reply) → slice_get entries k ≡ Some (event t op reply) → is_left_out c acts k ≡ true → CanBeCut op reply
   -- its words and monitors are as they will be once every thread has undone what it is to undo,
   pub words : WordsAreSettled is_thread (is_level_revoked c acts) (c (length acts)) last.words
   pub monitors : MonitorsAreSettled (is_level_revoked c acts) (c (length acts)) last.monitors
