@@ -2,7 +2,7 @@
 use Rattle.std.specs.Prelude.{slice_get, if◌then◌else◌}
 use Rattle.std.specs.List.{AllByRecursion}
 use Rattle.std.proofs.lemmas.Option.{same_Some}
-use Rattle.std.proofs.Common.{sym, refl, ◌≡◌, Bool, true, false, true≢false, zero, ◌+◌, Some, [], ◌∷◌, ◌<◌, ◌≤◌, ◌^◌, ℕ, suc, List, length, ◌∙◌, ap, subst, arith}
+use Rattle.std.proofs.Common.{sym, refl, ◌≡◌, Bool, true, false, true≢false, zero, ◌+◌, Some, [], ◌∷◌, ◌++◌, ◌<◌, ◌≤◌, ◌^◌, ℕ, suc, List, length, ◌∙◌, ap, subst, arith}
 use Rattle.code_decode.specs.declared.code.ClassUnit.{ClassUnit}
 use Rattle.link_types.specs.declared.operands.MethodId.{MethodId}
 use Rattle.link_rules.specs.Classes.{classes_of}
@@ -19,7 +19,7 @@ use Rattle.op_core.specs.declared.Reply.TheVariants.{Number}
 use Rattle.op_core.specs.OrdinaryState.{set_at}
 use Rattle.op_core.specs.InPlaceList.{Entry, silent, event, put_back, give_back, go_back, unseen}
 use Rattle.op_core.specs.CleanCut.{kept_from, kept_by}
-use Rattle.op_core.specs.Execution.{Leads}
+use Rattle.op_core.specs.Execution.{Leads, printed}
 use Rattle.java_rows.specs.Start.{opening_of, start_of_program}
 use Rattle.java_rows.specs.Thread.{Local, java_code, first_state}
 use Rattle.thread_automaton.specs.declared.Bounds.{Bounds}
@@ -38,9 +38,11 @@ use Rattle.sound_priorities.specs.Seen.{IsPriority}
 use Rattle.kept_cores.specs.KeptCores.{CoresAreKept}
 use Rattle.core_law.specs.Erasure.{is_left_out, Erasure}
 use Rattle.core_law.proofs.ErasureLemmas.{runs_are_erased}
-use Rattle.opening_cores.specs.Openings.{CanBegin}
+use Rattle.opening_cores.specs.Openings.{CanBegin, opening_core}
 use Rattle.opening_cores.proofs.OpeningLemmas.{openings_begin_runs, openings_are_ordinary}
-use Rattle.accepted_erasure.specs.Runs.{IsProgramRun, IsErasedRun, ProgramRunsAreErased}
+use Rattle.word_runs.specs.Laws.{AreActs}
+use Rattle.word_runs.proofs.TurnLemmas.{turns_are_acts}
+use Rattle.accepted_erasure.specs.Runs.{IsProgramRun, IsErasedRun, ProgramRunsAreErased, ProgramTurnsAreErased}
 use Rattle.accepted_erasure.proofs.OpeningLemmas.{can_begin}
 
 -- ---- events that are left
@@ -119,9 +121,25 @@ module _ (us : List ClassUnit) (order : List ℕ) (sound : IsSound us order) (ro
 pub program_runs_are_erased : (us : List ClassUnit) (order : List ℕ) (main : MethodId) → IsSound us order → first_free (program_names us) ≤ 2 ^ 32 → IsMainMethod us main → ProgramRunsAreErased us main
 program_runs_are_erased us order main sound room is_main b c acts run = (suc (length (classes_of us)), erased us order sound room main is_main b c acts run)
 
+pub program_turns_are_erased : (us : List ClassUnit) (order : List ℕ) (main : MethodId) → IsSound us order → first_free (program_names us) ≤ 2 ^ 32 → IsMainMethod us main → ProgramTurnsAreErased us main
+program_turns_are_erased us order main sound room is_main b first heap sections rest keeps threads last follows = record {
+  cores = are.cores;
+  ends = are.ends;
+  classes = all.0;
+  erased = all.1;
+  lines = ap (λ (x : Core Local). x.lines) (sym are.ends) ∙ all.1.erasure.lines
+      ∙ ap (λ (x : Core Local). x.lines ++ printed (kept_by (is_left_out are.cores last.state.acts) all.1.erasure.entries)) are.begins;
+}
+  where
+    are : AreActs java_code b (opening_core (opening_of us) (first_state us main)) last.state
+    are = turns_are_acts java_code b (opening_core (opening_of us) (first_state us main)) rest keeps threads last follows
+
+    all : (classes : ℕ) × IsErasedRun us main b classes are.cores last.state.acts
+    all = program_runs_are_erased us order main sound room is_main b are.cores last.state.acts (record { first = first; heap = heap; sections = sections; begins = are.begins; leads = are.leads })
+
 pub accepted_are_erased : (p : Accepted) (files : List (List ℕ)) (name : List ℕ) → AreUnits p.units → (link_rules p.units).Hold → HasOrder p.units → IsProgram files name p → (first : ℕ) → first ≡ first_free (program_names p.units) → first < 2 ^ 30
-    → ProgramRunsAreErased p.units p.main
+    → ProgramRunsAreErased p.units p.main × ProgramTurnsAreErased p.units p.main
 accepted_are_erased p files name decoded hold order is first value small =
     let (places, sound, main) = is_sound p files name decoded hold order is in
     let below : first ≤ 2 ^ 32 = omega arith in
-    program_runs_are_erased p.units places p.main sound (subst (λ n. n ≤ 2 ^ 32) value below) main
+    (program_runs_are_erased p.units places p.main sound (subst (λ n. n ≤ 2 ^ 32) value below) main, program_turns_are_erased p.units places p.main sound (subst (λ n. n ≤ 2 ^ 32) value below) main)

@@ -1,5 +1,5 @@
 -- Runs of a program on shared words, with sections that are undone, from the words with which the program begins.
-use Rattle.std.specs.Prelude.{◌≡◌, ◌<◌, ◌≤◌, ◌+◌, ◌^◌, ℕ, Some, List, slice_get}
+use Rattle.std.specs.Prelude.{◌≡◌, ◌<◌, ◌≤◌, ◌+◌, ◌^◌, ℕ, Bool, Some, List, length, slice_get}
 use Rattle.code_decode.specs.declared.code.ClassUnit.{ClassUnit}
 use Rattle.link_types.specs.declared.operands.MethodId.{MethodId}
 use Rattle.link_rules.specs.FixedObjects.{first_free}
@@ -8,9 +8,11 @@ use Rattle.op_core.specs.declared.Op.TheVariants.{Start}
 use Rattle.op_core.specs.declared.Reply.TheVariants.{Number}
 use Rattle.op_core.specs.InPlaceList.{event}
 use Rattle.op_core.specs.CleanCut.{kept_by}
-use Rattle.op_core.specs.Execution.{Leads}
+use Rattle.op_core.specs.Execution.{Leads, printed}
 use Rattle.java_rows.specs.Start.{opening_of, start_of_program}
 use Rattle.java_rows.specs.Thread.{Local, java_code, first_state}
+use Rattle.schedules.specs.Schedule.{Rest}
+use Rattle.schedules.specs.Run.{Run, Follows}
 use Rattle.thread_automaton.specs.declared.Bounds.{Bounds}
 use Rattle.core_runs.specs.Cores.{Core}
 use Rattle.core_runs.specs.Acts.{Act, ActFrom}
@@ -19,6 +21,8 @@ use Rattle.sound_priorities.specs.Seen.{IsPriority}
 use Rattle.kept_cores.specs.KeptCores.{CoresAreKept}
 use Rattle.core_law.specs.Erasure.{is_left_out, Erasure}
 use Rattle.opening_cores.specs.Openings.{opening_core}
+use Rattle.word_runs.specs.WordTurns.{Progress, word_turns}
+use Rattle.word_runs.specs.Laws.{begun_with}
 
 -- The acts lead on from the words with which the program begins. Its heap lies after its fixed objects, below 2^32, and the
 -- numbers of sections have 24 bits.
@@ -40,3 +44,18 @@ pub record IsErasedRun (us : List ClassUnit) (main : MethodId) (b : Bounds) (cla
 -- so it is with each run of the program
 abbrev pub ProgramRunsAreErased : List ClassUnit → MethodId → Type 0
 ProgramRunsAreErased us main = (b : Bounds) (c : ℕ → Core Local) (acts : List Act) → IsProgramRun us main b c acts → (classes : ℕ) × IsErasedRun us main b classes c acts
+
+-- What is left of turns of the program that follow a schedule: their acts are a run of it that is erased so, and the lines that
+-- they have printed are those of the execution that is left.
+pub record AreErasedTurns (us : List ClassUnit) (main : MethodId) (b : Bounds) (last : Progress Local) : Type 0 where
+  pub cores : ℕ → Core Local
+  pub ends : cores (length last.acts) ≡ last.core
+  pub classes : ℕ
+  pub erased : IsErasedRun us main b classes cores last.acts
+  pub lines : last.core.lines ≡ printed (kept_by (is_left_out cores last.acts) erased.erasure.entries)
+
+-- so it is wherever turns lead that follow a schedule from the words with which the program begins
+abbrev pub ProgramTurnsAreErased : List ClassUnit → MethodId → Type 0
+ProgramTurnsAreErased us main = (b : Bounds) → b.first ≡ first_free (program_names us) → b.first + b.limits.heap ≤ 2 ^ 32 → b.limits.sections < 2 ^ 24
+    → (rest : Rest) (keeps : Bool) (threads : List ℕ) (last : Run (Progress Local)) → Follows (word_turns java_code b) (begun_with (opening_core (opening_of us) (first_state us main)) rest keeps) threads last
+    → AreErasedTurns us main b last.state

@@ -33,7 +33,7 @@ use Rattle.opening_law.proofs.OpeningLemmas.{own_threads, is_inside}
 use Rattle.opening_cores.proofs.PlaceLemmas.{fixed_of, ends}
 use Rattle.opening_cores.proofs.OpeningLemmas.{openings_begin_runs, openings_are_ordinary}
 use Rattle.erasure_examples.specs.Example.{steps, first, is_thread, opening, bounds, order, acts, cores, MarksUndone, ARunIsErased}
-use Rattle.erasure_examples.proofs.ScheduledLemmas.{leads_in, begins_in}
+use Rattle.word_runs.proofs.MoveLemmas.{leads_in, begins_in}
 use Rattle.erasure_examples.proofs.PremiseLemmas.{orderly, start, all_execute, names_there, keep_start_words, makes_none, can_begin}
 
 -- ---- what threads keep

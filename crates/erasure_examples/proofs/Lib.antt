@@ -1,3 +1,2 @@
-pub mod ScheduledLemmas
 pub mod PremiseLemmas
 pub mod ExampleLemmas

@@ -19,7 +19,7 @@ use Rattle.core_runs.specs.Revoked.{RevokesAt}
 use Rattle.grounded_monitors.specs.Free.{IsFreeRun}
 use Rattle.core_law.specs.Erasure.{is_left_out, Erasure}
 use Rattle.opening_cores.specs.Openings.{opening_core}
-use Rattle.erasure_examples.specs.Scheduled.{acts_in, core_in}
+use Rattle.word_runs.specs.Moves.{acts_in, core_in}
 
 -- Main starts a thread that begins at step 8, enters the monitors of 13 and 15, writes a word of 17, exits both, prints an
 -- empty line and ends. The other thread enters and exits the monitor of 15 and then that of 13, and ends.

@@ -1,2 +1,1 @@
-pub mod Scheduled
 pub mod Example

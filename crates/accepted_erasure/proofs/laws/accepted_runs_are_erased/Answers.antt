@@ -7,7 +7,12 @@ use Rattle.linker.specs.Tables.{HasOrder}
 use Rattle.accepted_erasure.proofs.ErasureLemmas.{accepted_are_erased}
 use Rattle.accepted_erasure.proofs.laws.accepted_runs_are_erased.Goals as goal
 
-pub returns : goal.returns
-returns c files name is =
-    accepted_are_erased c.args.program.now files name (subst AreUnits c.world-world.ensures c.is_linked.ensures.decoded) (subst (λ us. (link_rules us).Hold) c.world-world.ensures c.is_linked.ensures.linked) (subst HasOrder c.world-world.ensures c.is_linked.ensures.order) is
-    c.first_free-first.result (c.first_free-first.ensures.value ∙ ap (λ us. first_free (program_names us)) c.world-world.ensures) c.first_free-first.ensures.small
+pub returns-clause-runs : goal.returns-clause-runs
+returns-clause-runs c files name is =
+    (accepted_are_erased c.args.program.now files name (subst AreUnits c.world-world.ensures c.is_linked.ensures.decoded) (subst (λ us. (link_rules us).Hold) c.world-world.ensures c.is_linked.ensures.linked) (subst HasOrder c.world-world.ensures c.is_linked.ensures.order) is
+    c.first_free-first.result (c.first_free-first.ensures.value ∙ ap (λ us. first_free (program_names us)) c.world-world.ensures) c.first_free-first.ensures.small).0
+
+pub returns-clause-turns : goal.returns-clause-turns
+returns-clause-turns c files name is =
+    (accepted_are_erased c.args.program.now files name (subst AreUnits c.world-world.ensures c.is_linked.ensures.decoded) (subst (λ us. (link_rules us).Hold) c.world-world.ensures c.is_linked.ensures.linked) (subst HasOrder c.world-world.ensures c.is_linked.ensures.order) is
+    c.first_free-first.result (c.first_free-first.ensures.value ∙ ap (λ us. first_free (program_names us)) c.world-world.ensures) c.first_free-first.ensures.small).1

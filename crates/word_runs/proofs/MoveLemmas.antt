@@ -12,7 +12,7 @@ use Rattle.thread_automaton.specs.NextMove.{next_move}
 use Rattle.thread_automaton.specs.Told.{after_quiet}
 use Rattle.core_runs.specs.Cores.{Core, core_after}
 use Rattle.core_runs.specs.Acts.{ActAt, ActFrom}
-use Rattle.erasure_examples.specs.Scheduled.{Moved, moved_quietly, moved_by, moved_from, moved, or_later, acts_in, core_in}
+use Rattle.word_runs.specs.Moves.{Moved, moved_quietly, moved_by, moved_from, moved, or_later, acts_in, core_in}
 
 module _ {S : Type 0} (code : Code S) (b : Bounds) where
   -- the cores from number k on, where one is c

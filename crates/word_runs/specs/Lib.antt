@@ -1,0 +1,4 @@
+pub mod Moves
+pub mod Enabled
+pub mod WordTurns
+pub mod Laws
