@@ -1,4 +1,4 @@
-mod ThreadClasses
+pub mod ThreadClasses
 mod SeenKnow
 mod StepsSeen
 mod StartsSeen

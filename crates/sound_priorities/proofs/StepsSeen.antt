@@ -44,7 +44,7 @@ module _ (us : List ClassUnit) (knows : Knows (executions us) us) (accepted : Ac
   -- ---- local states
 
   pub wanted : (h : Seen us) (l : Local) (op : Op) → SeenLocal us h l → next_of l.plan ≡ Want op → RunsWant us h.known.objects op × KeepsPriorities us h op
-  wanted h l op is e = (wants_fit (executions us) us knows accepted rows l.thread is.preceding h is.fits.res l.plan op e is.fits.plan).1
+  wanted h l op is e = (wants_fit (executions us) us knows accepted rows l.thread (λ m h op next steps. steps) is.preceding h is.fits.res l.plan op e is.fits.plan).1
 
   local_later : (h h' : Seen us) (l : Local) → GoesOn us h h' → SeenLocal us h l → SeenLocal us h' l
   local_later h h' l more is = record { preceding = is.preceding; fits = local_more (executions us) us knows accepted h h' more is.preceding l is.fits; goes = is.goes }
@@ -59,7 +59,7 @@ module _ (us : List ClassUnit) (knows : Knows (executions us) us) (accepted : Ac
       subst (λ p. SeenLocal us h' (reply_of p l.thread l.plan reply l.below)) (sym is.fits.program)
       (record {
         preceding = after_reply op reply;
-        fits = reply_fits (executions us) us knows accepted rows l.thread is.preceding h h' is.fits.res l.below l.plan op reply is.fits.thread e more come is.fits.plan is.fits.below;
+        fits = reply_fits (executions us) us knows accepted rows l.thread (λ m h op next steps. steps) is.preceding h h' is.fits.res l.below l.plan op reply is.fits.thread e more come is.fits.plan is.fits.below;
         goes = goes_on_after op reply no_end;
       })
 

@@ -30,19 +30,19 @@ use Rattle.sound_objects.proofs.FieldFacts.{no_interface}
 use Rattle.sound_objects.proofs.FieldWords.{IsFieldHere, after_built_in, field_here, file_lower}
 use Rattle.sound_priorities.specs.Seen.{IsThreadType}
 
-class_is_class : (us : List ClassUnit) → class_has (classes_of us) CLASS INTERFACE ≡ false
+pub class_is_class : (us : List ClassUnit) → class_has (classes_of us) CLASS INTERFACE ≡ false
 unfolding library
 class_is_class us = refl
 
-stream_is_class : (us : List ClassUnit) → class_has (classes_of us) PRINT_STREAM INTERFACE ≡ false
+pub stream_is_class : (us : List ClassUnit) → class_has (classes_of us) PRINT_STREAM INTERFACE ≡ false
 unfolding library
 stream_is_class us = refl
 
-stream_super : (us : List ClassUnit) → superclass_of (classes_of us) PRINT_STREAM ≡ OBJECT
+pub stream_super : (us : List ClassUnit) → superclass_of (classes_of us) PRINT_STREAM ≡ OBJECT
 unfolding library
 stream_super us = refl
 
-class_super : (us : List ClassUnit) → superclass_of (classes_of us) CLASS ≡ OBJECT
+pub class_super : (us : List ClassUnit) → superclass_of (classes_of us) CLASS ≡ OBJECT
 unfolding library
 class_super us = refl
 
@@ -55,7 +55,7 @@ module _ (us : List ClassUnit) (order : List ℕ) (sound : IsSound us order) whe
   thread_below c is = subclass_below us order sound THREAD (thread_is_class us) (λ e. omega (arith, e)) c (omega (arith, count)) is
 
   -- above a class right below Object are itself and Object
-  right_below : (d e : ℕ) → d ≢ 0 → d ≤ 28 → superclass_of (classes_of us) d ≡ OBJECT → Contains (superclasses (classes_of us) d) e → (d ≡ e) ⊎ (e ≡ OBJECT)
+  pub right_below : (d e : ℕ) → d ≢ 0 → d ≤ 28 → superclass_of (classes_of us) d ≡ OBJECT → Contains (superclasses (classes_of us) d) e → (d ≡ e) ⊎ (e ≡ OBJECT)
   right_below d e some few super up =
       elim (contains_cases d (superclasses (classes_of us) (superclass_of (classes_of us) d)) e (subst (λ xs. Contains xs e) (superclasses_step (classes_of us) order sound.linked.order d some (omega (arith, few, count))) up)) [
         | inl same ↦ inl same
@@ -63,7 +63,7 @@ module _ (us : List ClassUnit) (order : List ℕ) (sound : IsSound us order) whe
       ]
 
   -- no class is below two classes that are right below Object
-  two_above : (c d e : ℕ) → c ≢ 0 → c ≤ length (classes_of us) → d ≢ e → 1 < d → d ≤ 28 → superclass_of (classes_of us) d ≡ OBJECT → 1 < e → e ≤ 28 → superclass_of (classes_of us) e ≡ OBJECT
+  pub two_above : (c d e : ℕ) → c ≢ 0 → c ≤ length (classes_of us) → d ≢ e → 1 < d → d ≤ 28 → superclass_of (classes_of us) d ≡ OBJECT → 1 < e → e ≤ 28 → superclass_of (classes_of us) e ≡ OBJECT
       → Contains (superclasses (classes_of us) c) d → Contains (superclasses (classes_of us) c) e → ⊥
   two_above c d e some within other low few super low_too few_too super_too up above = elim (comparable (classes_of us) order sound.linked.order c some within d e up above) [
     | inl over ↦ elim (right_below d e (λ z. omega (arith, z, low)) few super over) [ inl same ↦ other same | inr top ↦ omega (arith, top, low_too) ]
@@ -113,19 +113,15 @@ module _ (us : List ClassUnit) (order : List ℕ) (sound : IsSound us order) whe
       let past : COUNT < c = ltb-true COUNT c parts.0 in
       above_super (classes_of us) order sound.linked.order c THREAD (λ e. omega (arith, e, past)) (leb-true c (length (classes_of us)) parts.1) up (λ e. omega (arith, e, past))
 
-  -- Object, String and StringBuilder aren't classes of Threads, and neither is what is below Throwable
-  pub no_thread_type : (c : ℕ) → (c ≡ OBJECT) ⊎ ((c ≡ STRING) ⊎ (c ≡ STRING_BUILDER)) → IsThreadType us (Class c) → ⊥
+  -- Object and StringBuilder aren't classes of Threads, and neither is what is below Throwable
+  pub no_thread_type : (c : ℕ) → (c ≡ OBJECT) ⊎ (c ≡ STRING_BUILDER) → IsThreadType us (Class c) → ⊥
   no_thread_type c (inl same) up = let top : THREAD ≡ OBJECT = object_above us order sound.linked THREAD (subst (λ x. Contains (superclasses (classes_of us) x) THREAD) same up) in omega (arith, top)
-  no_thread_type c (inr (inl same)) up = elim (right_below STRING THREAD (λ e. omega (arith, e)) (omega arith) (string_super us) (subst (λ x. Contains (superclasses (classes_of us) x) THREAD) same up)) [
-    | inl is ↦ omega (arith, is)
-    | inr top ↦ omega (arith, top)
-  ]
-  no_thread_type c (inr (inr same)) up = elim (right_below STRING_BUILDER THREAD (λ e. omega (arith, e)) (omega arith) (builder_super us) (subst (λ x. Contains (superclasses (classes_of us) x) THREAD) same up)) [
+  no_thread_type c (inr same) up = elim (right_below STRING_BUILDER THREAD (λ e. omega (arith, e)) (omega arith) (builder_super us) (subst (λ x. Contains (superclasses (classes_of us) x) THREAD) same up)) [
     | inl is ↦ omega (arith, is)
     | inr top ↦ omega (arith, top)
   ]
 
-  throwable_below : (c : ℕ) → is_subclass us c THROWABLE ≡ true → IsBelowClass us order sound c THROWABLE
+  pub throwable_below : (c : ℕ) → is_subclass us c THROWABLE ≡ true → IsBelowClass us order sound c THROWABLE
   throwable_below c is = subclass_below us order sound THROWABLE (throwable_is_class us) (λ e. omega (arith, e)) c (omega (arith, count)) is
 
   pub no_throwable_type : (c : ℕ) → is_subclass us c THROWABLE ≡ true → IsThreadType us (Class c) → ⊥

@@ -14,7 +14,7 @@ use Rattle.op_core.specs.declared.Reply.TheVariants.{Value, Done}
 use Rattle.op_core.specs.OrdinaryState.{Object, OrdinaryState, live}
 use Rattle.java_rows.specs.Thread.{Local}
 use Rattle.kept_states.specs.Kept.{Extends}
-use Rattle.soundness_senses.specs.Senses.{Sense, reference}
+use Rattle.soundness_senses.specs.Senses.{Sense, PlainSteps, reference}
 use Rattle.soundness_senses.specs.Fits.{Preceding, LocalFits, IsTheEnd}
 use Rattle.soundness_senses.specs.Runs.{Known, fixed_of, IsThread, WordHolds, runs}
 
@@ -76,8 +76,10 @@ executions us = record {
   is_exactly = λ h r c n. (runs us).is_exactly h.known r c n;
   is_thrown = λ h r c. (runs us).is_thrown h.known r c × IsSet us h r;
   has_word = λ h r i k. (runs us).has_word h.known r i k × IsElsewhere us h r i;
+  is_text = λ h r. (runs us).is_text h.known r;
   may_want = λ h op. (runs us).may_want h.known op × KeepsPriorities us h op;
   may_come = λ h op reply. (runs us).may_come h.known op reply × TellsPriorities us h op reply;
+  steps = PlainSteps (GoesOn us) (λ h op. (runs us).may_want h.known op × KeepsPriorities us h op) (λ h op reply. (runs us).may_come h.known op reply × TellsPriorities us h op reply);
 }
 
 -- a local state that fits what is known in executions

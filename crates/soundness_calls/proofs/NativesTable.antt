@@ -29,7 +29,7 @@ use Rattle.java_rows.specs.Units.{an_int, a_long, a_char, a_boolean, a_string}
 use Rattle.soundness_calls.proofs.TextsFit.{builder_set}
 use Rattle.soundness_calls.proofs.TextRowsFit.{text_length_fits, text_char_fits, text_equals_fits, text_joins_fits, copies_text_fits, appends_fit, builder_length_fits, tells_text_fits}
 use Rattle.soundness_objects.proofs.ReadValues.{there}
-use Rattle.soundness_senses.proofs.Plans.{prints_fit, notifies_fit, reads_fit, writes_fit, reads_priority_fit, writes_priority_fit, starts_fit, joins_fit, asks_class_fit}
+use Rattle.soundness_senses.proofs.Plans.{prints_fit, notifies_fit, reads_fit, reads_array_fit, writes_fit, reads_priority_fit, writes_priority_fit, starts_fit, joins_fit, asks_class_fit}
 use Rattle.link_types.specs.declared.types.ValueType.TheVariants as values
 use Rattle.op_core.specs.declared.Line.TheVariants as lines
 
@@ -59,7 +59,7 @@ module _ {P : Type 0} (know : Sense P) (us : List ClassUnit) (knows : Knows know
           by_test true e = println_fits know us knows accepted me h res u tells void plain on lines.Null
           by_test false e =
               let of : know.is_of h s (Class STRING) = there know us knows accepted me h s (Class STRING) (eqb-false s 0 e) is in
-              reads_fit know us knows res h s STRING_UNITS (reference char_array) (λ array. if array == 0 then asks_class s (λ c n. prints (lines.Text n) u) else prints (lines.Made array) u) (knows.units h s (knows.raw_of h s (Class STRING) of))
+              reads_array_fit know us knows res h s (λ array. if array == 0 then asks_class s (λ c n. prints (lines.Text n) u) else prints (lines.Made array) u) of
               (λ h' array more fits. by_array h' more (knows.of_more h h' s (Class STRING) more of) array (array == 0))
 
       target_fits : (void : tells.value ≡ None) (t : ℕ) → know.is_of h t (Class THREAD) → PlanFits know us res anything (runs_target t u) h

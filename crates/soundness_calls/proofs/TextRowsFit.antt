@@ -22,7 +22,8 @@ use Rattle.soundness_senses.proofs.Basics.{reference_more}
 use Rattle.soundness_calls.proofs.NativesFit.{gives_fit, refused_fit, flag_fits}
 use Rattle.soundness_objects.proofs.ReadValues.{there}
 use Rattle.soundness_senses.proofs.Plans.{asks_class_fit, writes_fit}
-use Rattle.soundness_calls.proofs.TextsFit.{append_words, unit_word, string_known, reads_text_fits, reads_so_far_fits, makes_text_fits}
+use Rattle.soundness_senses.proofs.TextsMade.{unit_word}
+use Rattle.soundness_calls.proofs.TextsFit.{append_words, string_known, reads_text_fits, reads_so_far_fits, makes_text_fits}
 use Rattle.link_types.specs.declared.types.ValueType.TheVariants as values
 
 module _ {P : Type 0} (know : Sense P) (us : List ClassUnit) (knows : Knows know us) (accepted : Accepted us) (me : ℕ) where

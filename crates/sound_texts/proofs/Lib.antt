@@ -1,0 +1,2 @@
+pub mod StringClasses
+pub mod TextsKnow

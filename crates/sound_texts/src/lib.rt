@@ -1,0 +1,2 @@
+//! The texts of Strings in executions of a program that was decoded, linked and verified. Laws alone.
+#![tactic(auto)]
