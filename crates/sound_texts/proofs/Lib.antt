@@ -1,2 +1,8 @@
-pub mod StringClasses
-pub mod TextsKnow
+mod StringClasses
+mod TextsKnow
+mod Changes
+mod PlainSteps
+mod Outcomes
+mod StepsTexts
+mod StartsTexts
+pub mod Whole

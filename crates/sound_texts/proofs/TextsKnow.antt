@@ -33,14 +33,14 @@ module _ (us : List ClassUnit) where
   text_more h h' r o there more string (inl fixed) = inl fixed
   text_more h h' r o there more string (inr some) = inr (more.units r o there string some)
 
-  pub open_more : (h h' : Seen us) (r : ℕ) (o : Object) → h.known.objects r ≡ Some o → GoesOn us h h' → (h.texts r ≡ true → ⊥) → h'.texts r ≡ true → ⊥
-  open_more h h' r o there more open is = open (more.others r o there is)
+  pub clear_more : (h h' : Seen us) (r : ℕ) (o : Object) → h.known.objects r ≡ Some o → GoesOn us h h' → (h.texts r ≡ true → ⊥) → h'.texts r ≡ true → ⊥
+  clear_more h h' r o there more clear is = clear (more.others r o there is)
 
   pub plain_more : (h h' : Seen us) (r : ℕ) → GoesOn us h h' → IsPlain us h r → IsPlain us h' r
   plain_more h h' r more is = record {
     object = is.object;
     there = more.objects r is.object is.there;
-    open = open_more h h' r is.object is.there more is.open;
+    clear = clear_more h h' r is.object is.there more is.clear;
     text = λ string. text_more h h' r is.object is.there more string (is.text string);
   }
 
@@ -52,7 +52,7 @@ module _ (us : List ClassUnit) where
 
   pub elsewhere_more : (h h' : Seen us) (r i : ℕ) (o : Object) → h.known.objects r ≡ Some o → GoesOn us h h' → IsElsewhere us h r i → IsElsewhere us h' r i
   elsewhere_more h h' r i o there more else = (
-    open_more h h' r o there more else.0,
+    clear_more h h' r o there more else.0,
     λ p at string.
         let same : o ≡ p = same_Some o p (sym (more.objects r o there) ∙ at) in
         else.1 o there (subst (λ (x : Object). IsString us x.class ≡ true) (sym same) string),
@@ -93,12 +93,17 @@ module _ (us : List ClassUnit) where
       tt,
       (
         refl,
-        λ h' s more is open. (
+        λ h' s more is clear. (
           tt,
-          (refl, (refl, (refl, λ h'' more' some. on h'' s (texts_both h h' h'' more more') (
-            made_more h' h'' r s (Class STRING) more' is,
-            record { object = is.object; there = more'.objects s is.object is.there; open = open_more h' h'' s is.object is.there more' open; text = λ string. inr some },
-          )))),
+          (
+            refl,
+            refl,
+            refl,
+            λ h'' more' some. on h'' s (texts_both h h' h'' more more') (
+              made_more h' h'' r s (Class STRING) more' is,
+              record { object = is.object; there = more'.objects s is.object is.there; clear = clear_more h' h'' s is.object is.there more' clear; text = λ string. inr some },
+            ),
+          ),
         ),
       ),
     )
@@ -128,23 +133,23 @@ module _ (us : List ClassUnit) where
     steps_more (Some (filling r n)) h h' (Write q i v) next more (same, on) = (same, λ h'' more'. on h'' (texts_both h h' h'' more more'))
     steps_more (Some (filling r n)) h h' (New c m) next more (same, on) = (same, λ h'' s more'. on h'' s (texts_both h h' h'' more more'))
     steps_more (Some (filling r n)) h h' op next more fills = absurd fills
-    steps_more (Some (naming r s)) h h' (Write q i v) next more (same, (at, (array, on))) = (same, (at, (array, λ h'' more'. on h'' (texts_both h h' h'' more more'))))
+    steps_more (Some (naming r s)) h h' (Write q i v) next more (same, at, array, on) = (same, at, array, λ h'' more'. on h'' (texts_both h h' h'' more more'))
     steps_more (Some (naming r s)) h h' op next more names = absurd names
 
     -- an object that is no String
     plain_other : (h : Seen us) (r : ℕ) (o : Object) → h.known.objects r ≡ Some o → (h.texts r ≡ true → ⊥) → (IsString us o.class ≡ true → ⊥) → IsPlain us h r
-    plain_other h r o there open none = record { object = o; there = there; open = open; text = λ string. absurd (none string) }
+    plain_other h r o there clear none = record { object = o; there = there; clear = clear; text = λ string. absurd (none string) }
 
     -- what is there from the start
-    fixed_open : (h : Seen us) (r : ℕ) (t : ObjectType) → IsFixed us r t → h.texts r ≡ true → ⊥
-    fixed_open h r t is = h.begun r is.object is.there
+    fixed_clear : (h : Seen us) (r : ℕ) (t : ObjectType) → IsFixed us r t → h.texts r ≡ true → ⊥
+    fixed_clear h r t is = h.begun r is.object is.there
 
     fixed_plain : (h : Seen us) (r : ℕ) (t : ObjectType) → IsFixed us r t → IsPlain us h r
-    fixed_plain h r t is = record { object = is.object; there = h.known.fixed r is.object is.there; open = h.begun r is.object is.there; text = λ string. inl is.there }
+    fixed_plain h r t is = record { object = is.object; there = h.known.fixed r is.object is.there; clear = h.begun r is.object is.there; text = λ string. inl is.there }
 
     elsewhere : (h : Seen us) (r i : ℕ) (o : Object) → h.known.objects r ≡ Some o → (h.texts r ≡ true → ⊥) → (IsString us o.class ≡ true → 1 ≤ i) → IsElsewhere us h r i
-    elsewhere h r i o there open past = (
-      open,
+    elsewhere h r i o there clear past = (
+      clear,
       λ p at string e.
           let same : o ≡ p = same_Some o p (sym there ∙ at) in
           let after : 1 ≤ i = past (subst (λ (x : Object). IsString us x.class ≡ true) (sym same) string) in
@@ -153,11 +158,11 @@ module _ (us : List ClassUnit) where
 
     -- words that aren't the array of a String
     others : (h : Seen us) (r i : ℕ) (ks : List Content) (o : Object) → h.known.objects r ≡ Some o → (h.texts r ≡ true → ⊥) → (IsString us o.class ≡ true → 1 ≤ i) → HasWords (runs us) h.known r i ks → HasWords (text_sense us) h r i ks
-    others h r i [] o there open past has = tt
-    others h r i (k ∷ ks) o there open past has = ((has.0, elsewhere h r i o there open past), others h r (suc i) ks o there open (λ string. omega arith) has.1)
+    others h r i [] o there clear past has = tt
+    others h r i (k ∷ ks) o there clear past has = ((has.0, elsewhere h r i o there clear past), others h r (suc i) ks o there clear (λ string. omega arith) has.1)
 
     other : (h : Seen us) (r i : ℕ) (k : Content) (o : Object) → h.known.objects r ≡ Some o → (h.texts r ≡ true → ⊥) → (IsString us o.class ≡ true → ⊥) → HasWordFor us h.known.objects r i k → (text_sense us).has_word h r i k
-    other h r i k o there open none has = (has, elsewhere h r i o there open (λ string. absurd (none string)))
+    other h r i k o there clear none has = (has, elsewhere h r i o there clear (λ string. absurd (none string)))
 
     -- an array isn't a String
     no_array_object : (c : ℕ) (s : ObjectType) (b : ObjectType → Bool) → ((d : ℕ) → b (Class d) ≡ false) → ((m : ℕ) → b (Other m) ≡ false) → b s ≡ true → MayStandFor us c s → IsString us c ≡ true → ⊥
@@ -192,8 +197,8 @@ module _ (us : List ClassUnit) where
 
     -- a new object is plain, or of a type of Strings
     new_plain : (h : Seen us) (r c : ℕ) (o : Object) → h.known.objects r ≡ Some o → (h.texts r ≡ true → ⊥) → o.class ≡ c → (b : Bool) → IsString us c ≡ b → IsPlain us h r ⊎ IsStringType us (type_numbered (program_names us) c)
-    new_plain h r c o there open class true e = inr (string_type us order sound c e)
-    new_plain h r c o there open class false e = inl (plain_other h r o there open (λ string. let bad : false ≡ true = sym e ∙ (ap (IsString us) (sym class) ∙ string) in cc))
+    new_plain h r c o there clear class true e = inr (string_type us order sound c e)
+    new_plain h r c o there clear class false e = inl (plain_other h r o there clear (λ string. let bad : false ≡ true = sym e ∙ (ap (IsString us) (sym class) ∙ string) in cc))
 
     -- a place in an object of another class
     away : (h : Seen us) (r i : ℕ) (x : Object) → h.known.objects r ≡ Some x → (IsString us x.class ≡ true → ⊥) → (o : Object) → h.known.objects r ≡ Some o → IsString us o.class ≡ true → i ≡ STRING_UNITS → HasText us h r o
@@ -206,7 +211,7 @@ module _ (us : List ClassUnit) where
       there_more = λ h h' r more is. knows.there_more h.known h'.known r more.objects is;
       raw_more = λ h h' r t more is. (
         knows.raw_more h.known h'.known r t more.objects is.0,
-        (open_more h h' r is.0.object is.0.there more is.1.0, elim is.1.1 [ inl plain ↦ inl (plain_more h h' r more plain) | inr type ↦ inr type ]),
+        (clear_more h h' r is.0.object is.0.there more is.1.0, elim is.1.1 [ inl plain ↦ inl (plain_more h h' r more plain) | inr type ↦ inr type ]),
       );
       of_more = λ h h' r t more is. (knows.of_more h.known h'.known r t more.objects is.0, plain_more h h' r more is.1);
       exactly_more = λ h h' r c n more is. knows.exactly_more h.known h'.known r c n more.objects is;
@@ -219,7 +224,7 @@ module _ (us : List ClassUnit) where
       fits = λ h op reply come. knows.fits h.known op reply come.0;
       small = λ h r is exact. knows.small h.known r is exact;
       up = λ h r s t is e. (knows.up h.known r s t is.0 e, is.1);
-      raw_of = λ h r t is. (is.0, (is.1.open, inl is.1));
+      raw_of = λ h r t is. (is.0, (is.1.clear, inl is.1));
       raw_super = λ h r c file is. (knows.raw_super h.known r c file is.0, (is.1.0, elim is.1.1 [ inl plain ↦ inl plain | inr type ↦ inr (super_string us order sound c file type) ]));
       there_of = λ h r t is. knows.there_of h.known r t is.0;
       set = λ h r c d raw is. (raw.0, is.1);
@@ -253,14 +258,14 @@ module _ (us : List ClassUnit) where
       fields = λ h r f is raw. others h r f.place (contents_of f.kind) raw.0.object raw.0.there raw.1.0 (λ string. field_after us order sound r raw.0.object f is raw.0.fits raw.0.stands string) (knows.fields h.known r f is raw.0);
       statics = λ h f is.
           let fixed : IsFixed us (class_object (program_names us) f.owner) (Class CLASS) = (follow.class_field f is).0 in
-          others h (class_object (program_names us) f.owner) f.place (contents_of f.kind) fixed.object (h.known.fixed _ fixed.object fixed.there) (fixed_open h _ _ fixed) (λ string. absurd (no_class_object us order sound fixed.object.class fixed.fits.class fixed.stands string)) (knows.statics h.known f is);
+          others h (class_object (program_names us) f.owner) f.place (contents_of f.kind) fixed.object (h.known.fixed _ fixed.object fixed.there) (fixed_clear h _ _ fixed) (λ string. absurd (no_class_object us order sound fixed.object.class fixed.fits.class fixed.stands string)) (knows.statics h.known f is);
       target = λ h r is. other h r THREAD_TARGET _ is.0.object is.0.there is.1.0 (no_thread us order sound is.0.object.class is.0.fits.class is.0.stands) (knows.target h.known r is.0);
       message = λ h r is. other h r THROWABLE_MESSAGE (reference (Class STRING)) is.0.object is.0.there is.1.0 (no_throwable us order sound is.0.object.class is.0.fits.class is.0.stands) (knows.message h.known r is.0);
       text = λ h r is. other h r BUILDER_TEXT (reference (Class STRING)) is.0.object is.0.there is.1.0 (no_builder us order sound is.0.object.class is.0.fits.class is.0.stands) (knows.text h.known r is.0);
       asks_text = λ h r is. (
         knows.asks_text h.known r is.0,
         λ o at string e. let same : is.1.object ≡ o = same_Some is.1.object o (sym is.1.there ∙ at) in
-        subst (λ x. HasText us h r x) same (is.1.text (subst (λ (x : Object). IsString us x.class ≡ true) (sym same) string)),
+            subst (λ x. HasText us h r x) same (is.1.text (subst (λ (x : Object). IsString us x.class ≡ true) (sym same) string)),
       );
       units = λ h r v is come. elim (knows.units h.known r v is.0 come.0) [
         | inl null ↦ inl null
@@ -291,11 +296,11 @@ module _ (us : List ClassUnit) where
       main_thread = λ h. (knows.main_thread h.known, fixed_plain h _ _ follow.main_thread);
       out = λ h. (knows.out h.known, fixed_plain h _ _ follow.out);
       elements = λ h r c n i kind s is of test exactly within.
-          others h r (element_place kind i) (element_contents kind) of.0.object of.0.there of.1.open (λ string. absurd (no_array_object of.0.object.class s (is_array_of_one (element_types kind)) (λ d. refl) (λ m. refl) test of.0.stands string)) (knows.elements h.known r c n i kind s is of.0 test exactly within);
+          others h r (element_place kind i) (element_contents kind) of.0.object of.0.there of.1.clear (λ string. absurd (no_array_object of.0.object.class s (is_array_of_one (element_types kind)) (λ d. refl) (λ m. refl) test of.0.stands string)) (knows.elements h.known r c n i kind s is of.0 test exactly within);
       references = λ h r c n i s of test exactly within.
           let (e, has, are) = knows.references h.known r c n i s of.0 test exactly within in (
             e,
-            other h r i (reference e) of.0.object of.0.there of.1.open (no_array_object of.0.object.class s is_array_of_references (λ d. refl) (λ m. refl) test of.0.stands) has,
+            other h r i (reference e) of.0.object of.0.there of.1.clear (no_array_object of.0.object.class s is_array_of_references (λ d. refl) (λ m. refl) test of.0.stands) has,
             record {
               up = λ h' v x more same is. (are.up h'.known v x more.objects same is.0, is.1);
               stored = λ h' v d m more is exact takes. (are.stored h'.known v d m more.objects is.0 exact takes, is.1);

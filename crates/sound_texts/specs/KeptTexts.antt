@@ -2,11 +2,11 @@
 use Rattle.std.specs.Prelude.{◌≡◌, ◌≢◌, ◌⊎◌, ℕ, Bool, true, Option, None, Some, List}
 use Rattle.builtin_world.specs.declared.word.TheConstants.{STRING_UNITS}
 use Rattle.code_decode.specs.declared.code.ClassUnit.{ClassUnit}
-use Rattle.op_core.specs.OrdinaryState.{Object, OrdinaryState, live}
+use Rattle.op_core.specs.OrdinaryState.{Object, OrdinaryState, live, unused}
 use Rattle.java_rows.specs.Thread.{Local}
 use Rattle.kept_states.specs.Kept.{Extends}
 use Rattle.soundness_senses.specs.Senses.{filling, naming}
-use Rattle.soundness_senses.specs.Fits.{Preceding, a_text, LocalFits, IsTheEnd}
+use Rattle.soundness_senses.specs.Fits.{Preceding, a_text, anything, LocalFits, IsTheEnd}
 use Rattle.soundness_senses.specs.Runs.{fixed_of}
 use Rattle.sound_texts.specs.KnownTexts.{HoldsPlain, IsCharArray, IsString, Seen, text_sense}
 
@@ -67,6 +67,7 @@ pub record IsSeen (us : List ClassUnit) (s : OrdinaryState Local) : Type 0 where
   pub words : (r i : ℕ) → HoldsPlain us (seen_in us s texts fixed begun) r i (s.words r i)
   -- what comes before the plan of each thread
   pub preceding : ℕ → Preceding
+  pub idle : (t : ℕ) → s.threads t ≡ unused → preceding t ≡ anything
   pub threads : (t : ℕ) (l : Local) → s.threads t ≡ live l → SeenLocal us (seen_in us s texts fixed begun) (preceding t) l
   pub making : (t : ℕ) → MakingFits us s texts (preceding t)
   pub apart : (t u : ℕ) → t ≢ u → AreApart (preceding t) (preceding u)

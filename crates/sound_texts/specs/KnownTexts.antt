@@ -43,7 +43,7 @@ HasText us h r o = (fixed_of us r ≡ Some o) ⊎ (h.units r ≢ 0)
 pub record IsPlain (us : List ClassUnit) (h : Seen us) (r : ℕ) : Type 0 where
   pub object : Object
   pub there : h.known.objects r ≡ Some object
-  pub open : h.texts r ≡ true → ⊥
+  pub clear : h.texts r ≡ true → ⊥
   pub text : IsString us object.class ≡ true → HasText us h r object
 
 -- String is the class of the type, or above it
