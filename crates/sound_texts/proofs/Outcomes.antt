@@ -143,7 +143,7 @@ module _ (us : List ClassUnit) (s : OrdinaryState Local) (kept : StateFits us s)
 
     -- the array of a text
     module _ (array : IsCharArray us c) where
-      texts' : ℕ → Bool
+      abbrev texts' : ℕ → Bool
       texts' = set_at seen.texts r true
 
       array_changes : Changes us s (last (New c n) (Made r)) seen.texts texts' (seen.preceding t)
@@ -254,7 +254,7 @@ module _ (us : List ClassUnit) (s : OrdinaryState Local) (kept : StateFits us s)
         no_references r j o x e at holds =
             let array : IsArray us s q = seen.arrays q text in
             let class : IsCharArray us o.class = subst (λ (y : Object). IsCharArray us y.class) (same_Some array.object o (sym array.there ∙ subst (λ z. s.objects z ≡ Some o) e at)) array.class in
-            no_reference x (follow.one r j o number (reference x) (kept.objects r o at) (of_numbers j (subst (λ y. element_type y ≡ None) (sym class) refl) (1, (Char, class))) holds)
+            no_reference x (follow.one r j o number (reference x) (kept.objects r o at) (of_numbers j (subst (λ y. element_type y ≡ None) (sym class) refl) (1, Char, class)) holds)
 
         words : (r j : ℕ) → HoldsPlain us (next us s wrote kept seen t seen.texts changes) r j (wrote.words r j)
         words r j =

@@ -81,13 +81,13 @@ module _ (us : List ClassUnit) (s : OrdinaryState Local) (kept : StateFits us s)
     abbrev changes : Changes us s last seen.texts seen.texts (seen.preceding t)
     changes = plain_changes (seen.preceding t)
 
+    abbrev later : Seen us
+    later = next us s last kept seen t seen.texts changes
+
     -- what is held in words after the step
     pub plain_words : RunsWant us s.objects op → (r i : ℕ) → HoldsPlain us (next us s last kept seen t seen.texts changes) r i (last.words r i)
     plain_words want r i = by_op op reply step.answered want keeps
       where
-        abbrev later : Seen us
-        later = next us s last kept seen t seen.texts changes
-
         stays : (q j : ℕ) → HoldsPlain us later q j (s.words q j)
         stays = still us s last kept seen t seen.texts changes
 
@@ -105,9 +105,6 @@ module _ (us : List ClassUnit) (s : OrdinaryState Local) (kept : StateFits us s)
     pub plain_tells : TellsTexts us (next us s last kept seen t seen.texts changes) op reply
     plain_tells = by_op op reply step.answered refl refl
       where
-        abbrev later : Seen us
-        later = next us s last kept seen t seen.texts changes
-
         by_op : (o : Op) (a : Reply) → MayAnswer s t o a → o ≡ op → a ≡ reply → TellsTexts us later o a
         by_op (Read r i) (Value v) answered same answer = (
           subst (λ x. HoldsPlain us later r i x) (sym answered) (still us s last kept seen t seen.texts changes r i),

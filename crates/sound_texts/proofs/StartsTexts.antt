@@ -34,13 +34,19 @@ use Rattle.sound_texts.specs.Texts.{IsLiteral}
 use Rattle.sound_texts.proofs.StringClasses.{no_array, no_class_object, no_stream, no_thread}
 
 -- no array is that of a text
-no_text : ℕ → Bool
+abbrev no_text : ℕ → Bool
 no_text r = false
+
+not_one : (r : ℕ) → no_text r ≡ true → ⊥
+not_one r e = not_true e
+  where
+    not_true : false ≡ true → ⊥
+    not_true e = cc
 
 module _ (us : List ClassUnit) (order : List ℕ) (sound : IsSound us order) (room : first_free (program_names us) ≤ 2 ^ 32) where
   -- a fixed object of a type that isn't a String's
   none : (r : ℕ) (x : Object) (t : ObjectType) (fixed : IsFixed us r t) → fixed_of us r ≡ Some x → (IsString us fixed.object.class ≡ true → ⊥) → IsString us x.class ≡ true → ⊥
-  none r x t fixed e no string = no (subst (λ (o : Object). IsString us o.class ≡ true) (same_Some x fixed.object (sym e ∙ fixed.there)) string)
+  none r x t fixed e other string = other (subst (λ (o : Object). IsString us o.class ≡ true) (same_Some x fixed.object (sym e ∙ fixed.there)) string)
 
   -- each String that is there from the start is a literal, and has no array
   abbrev IsLiteralHere : ObjectAtStart → Type 0
@@ -76,7 +82,7 @@ module _ (us : List ClassUnit) (order : List ℕ) (sound : IsSound us order) (ro
 
   module _ (knows : Knows (text_sense us) us) (accepted : Accepted us) (rows : RowsFit (text_sense us) us) (main : MethodId) (is : IsMain us main) (fit : StateFits us (start_of_program us main)) where
     begun : (r : ℕ) (o : Object) → fixed_of us r ≡ Some o → no_text r ≡ true → ⊥
-    begun r o there e = cc
+    begun r o there e = not_one r e
 
     abbrev first : Seen us
     first = seen_in us (start_of_program us main) no_text (λ r o e. e) begun
@@ -99,11 +105,11 @@ module _ (us : List ClassUnit) (order : List ℕ) (sound : IsSound us order) (ro
       fixed = λ r o e. e;
       texts = no_text;
       begun = begun;
-      arrays = λ r e. cc;
+      arrays = λ r e. absurd (not_one r e);
       strings = λ r o there string. inl (literal_here r o there string).1;
       words = λ r i o t at holds away. elim ((fit.words r i).1 o t at holds) [
         | inl null ↦ inl null
-        | inr there ↦ inr (record { object = there.object; there = there.there; clear = λ e. cc; text = λ string. inl there.there })
+        | inr there ↦ inr (record { object = there.object; there = there.there; clear = not_one 0; text = λ string. inl there.there })
       ];
       preceding = λ t. anything;
       idle = λ t e. refl;

@@ -109,7 +109,7 @@ module _ (us : List ClassUnit) (order : List ℕ) (sound : IsSound us order) (fo
 
     module _ (own : SeenLocal us now (seen.preceding t) l) (step : IsStep java_code s t l op reply) (kept_after : StateFits us (after java_code s t l op reply)) where
       -- what follows in the plan
-      follows : Reply → Plan
+      abbrev pub follows : Reply → Plan
       follows = (plan_wants l.plan op step.wanted).0
 
       plan_is : l.plan ≡ want op follows
@@ -124,7 +124,7 @@ module _ (us : List ClassUnit) (order : List ℕ) (sound : IsSound us order) (fo
       abbrev last : OrdinaryState Local
       last = after java_code s t l op reply
 
-      later : Seen us
+      abbrev later : Seen us
       later = next us s last kept seen t come.texts come.changes
 
       on : GoesOn us now later

@@ -43,7 +43,7 @@ module _ (us : List ClassUnit) (order : List ℕ) (sound : IsSound us order) whe
   apart d class other low few super c is stands text =
       let below : IsBelowClass us order sound c d = stands_below us order sound d class (λ e. omega (arith, e, low)) c is stands in
       let strings : IsBelowClass us order sound c STRING = string_below c text in
-      two_above c d STRING below.some below.within other low few super (omega arith) (omega arith) (string_super us) below.above strings.above
+      two_above us order sound c d STRING below.some below.within other low few super (omega arith) (omega arith) (string_super us) below.above strings.above
 
   pub no_throwable : (c : ℕ) → is_class_number (program_names us) c ≡ true → MayStandFor us c (Class THROWABLE) → IsString us c ≡ true → ⊥
   no_throwable = apart THROWABLE (throwable_is_class us) (λ e. omega (arith, e)) (omega arith) (omega arith) (throwable_super us)
@@ -84,15 +84,15 @@ module _ (us : List ClassUnit) (order : List ℕ) (sound : IsSound us order) whe
   -- Object and StringBuilder aren't classes of Strings, and neither is what is below Throwable
   pub no_string_type : (c : ℕ) → (c ≡ OBJECT) ⊎ (c ≡ STRING_BUILDER) → IsStringType us (Class c) → ⊥
   no_string_type c (inl same) up = let top : STRING ≡ OBJECT = object_above us order sound.linked STRING (subst (λ x. Contains (superclasses (classes_of us) x) STRING) same up) in omega (arith, top)
-  no_string_type c (inr same) up = elim (right_below STRING_BUILDER STRING (λ e. omega (arith, e)) (omega arith) (builder_super us) (subst (λ x. Contains (superclasses (classes_of us) x) STRING) same up)) [
+  no_string_type c (inr same) up = elim (right_below us order sound STRING_BUILDER STRING (λ e. omega (arith, e)) (omega arith) (builder_super us) (subst (λ x. Contains (superclasses (classes_of us) x) STRING) same up)) [
     | inl is ↦ omega (arith, is)
     | inr top ↦ omega (arith, top)
   ]
 
   pub no_throwable_type : (c : ℕ) → is_subclass us c THROWABLE ≡ true → IsStringType us (Class c) → ⊥
   no_throwable_type c is up =
-      let below : IsBelowClass us order sound c THROWABLE = throwable_below c is in
-      two_above c THROWABLE STRING below.some below.within (λ e. omega (arith, e)) (omega arith) (omega arith) (throwable_super us) (omega arith) (omega arith) (string_super us) below.above up
+      let below : IsBelowClass us order sound c THROWABLE = throwable_below us order sound c is in
+      two_above us order sound c THROWABLE STRING below.some below.within (λ e. omega (arith, e)) (omega arith) (omega arith) (throwable_super us) (omega arith) (omega arith) (string_super us) below.above up
 
   pub no_thrown_string : (c : ℕ) → is_subclass us c THROWABLE ≡ true → IsString us c ≡ true → ⊥
   no_thrown_string c is text = let strings : IsBelowClass us order sound c STRING = string_below c text in no_throwable_type c is strings.above
@@ -103,7 +103,7 @@ module _ (us : List ClassUnit) (order : List ℕ) (sound : IsSound us order) whe
       let here : IsFieldHere us order sound false f = field_here us order sound false f is in
       let read : 28 < f.owner = here.field.read in
       let below : IsBelowClass us order sound o.class f.owner = stands_below us order sound f.owner (no_interface us sound.units sound.linked.rules f.owner here.place here.member here.field) (λ e. omega (arith, e, read)) o.class fits.class stands in
-      let strings : IsBelowClass us order sound o.class STRING = string_below o.class thread in
+      let strings : IsBelowClass us order sound o.class STRING = string_below o.class text in
       let up : Contains (superclasses (classes_of us) f.owner) STRING = file_lower us order sound o.class f.owner STRING below.some below.within read (λ e. omega (arith, e)) (omega arith) below.above strings.above in
       let after : built_in_words STRING ≤ field_place (classes_of us) f.owner here.place here.member = after_built_in us order sound f.owner STRING here.place here.member here.field (λ e. omega (arith, e)) (omega arith) up in
       omega (arith, after, here.at, string_words)

@@ -17,7 +17,7 @@ use Rattle.op_core.specs.OrdinaryState.{Object}
 use Rattle.java_rows.specs.Plan.{Plan}
 use Rattle.java_rows.specs.Texts.{makes_array, makes_string, writes_units}
 use Rattle.soundness_senses.specs.Senses.{Content, number, reference, Making, filling, naming, WordFits}
-use Rattle.soundness_senses.specs.Fits.{Returns, PlanFits, anything, a_text}
+use Rattle.soundness_senses.specs.Fits.{Returns, PlanFits, anything, a_text, following, making_of}
 use Rattle.soundness_senses.specs.Texts.{char_array}
 use Rattle.soundness_senses.specs.Knowledge.{Knows, HasWords, contents_of, element_contents, element_place}
 use Rattle.soundness_senses.specs.Runs.{HasObject, HasWordFor, IsThread, MayStandFor, ObjectFits, RunsWant, WordHolds, runs}
@@ -59,7 +59,7 @@ module _ (us : List ClassUnit) where
   )
 
   keeps_more : (h h' : Seen us) (op : Op) → GoesOn us h h' → RunsWant us h.known.objects op → KeepsTexts us h op → KeepsTexts us h' op
-  keeps_more h h' (Read r i) more (k, has) keeps o at string e =
+  keeps_more h h' (Read r i) more (k, has) keeps = λ o at string e.
       let same : has.object ≡ o = same_Some has.object o (sym (more.objects r has.object has.there) ∙ at) in
       subst (λ x. HasText us h' r x) same
       (text_more h h' r has.object has.there more (subst (λ (x : Object). IsString us x.class ≡ true) (sym same) string) (keeps has.object has.there (subst (λ (x : Object). IsString us x.class ≡ true) (sym same) string) e))
@@ -219,8 +219,8 @@ module _ (us : List ClassUnit) where
       word_more = λ h h' r i k more is. (knows.word_more h.known h'.known r i k more.objects is.0, elsewhere_more h h' r i is.0.object is.0.there more is.1);
       text_more = λ h h' r more is. (knows.text_more h.known h'.known r more.objects is.0, more.texts r is.0.object is.0.there is.1);
       want_more = λ h h' op more is. wants_more h h' op more is;
-      asks = λ res b h op k follows none may next. (follows, subst (λ m. TextSteps us m h op _) (sym none) (inl (may, next)));
-      asks_more = λ res b h h' op k more fits. (fits.0, steps_more _ h h' op _ more fits.1);
+      asks = λ res b h op k follows none may next. (follows, subst (λ m. TextSteps us m h op (λ m h' reply. PlanFits (text_sense us) us res (following op reply m) (k reply) h')) (sym none) (inl (may, next)));
+      asks_more = λ res b h h' op k more fits. (fits.0, steps_more (making_of b) h h' op (λ m h' reply. PlanFits (text_sense us) us res (following op reply m) (k reply) h') more fits.1);
       fits = λ h op reply come. knows.fits h.known op reply come.0;
       small = λ h r is exact. knows.small h.known r is exact;
       up = λ h r s t is e. (knows.up h.known r s t is.0 e, is.1);

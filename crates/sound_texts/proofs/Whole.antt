@@ -83,10 +83,7 @@ module _ (us : List ClassUnit) (order : List ℕ) (sound : IsSound us order) (ro
         own : SeenLocal us now (seen.preceding t) l
         own = quiet t n from l begun steps
 
-        abbrev k : Reply → Rattle.java_rows.specs.Plan.Plan
-        k = (plan_wants l.plan (Read r STRING_UNITS) e).0
-
-        by_making : (m : Option Making) → TextSteps us m now (Read r STRING_UNITS) (λ m h' reply. PlanFits (text_sense us) us own.fits.res (following (Read r STRING_UNITS) reply m) (k reply) h') → HasText us now r string.object
+        by_making : (m : Option Making) → TextSteps us m now (Read r STRING_UNITS) (λ m h' reply. PlanFits (text_sense us) us own.fits.res (following (Read r STRING_UNITS) reply m) ((plan_wants l.plan (Read r STRING_UNITS) e).0 reply) h') → HasText us now r string.object
         by_making None (inl (wants, on)) = wants.1 string.object string.there string.class refl
         by_making None (inr begins) = absurd begins
         by_making (Some (filling x c)) fills = absurd fills
@@ -105,17 +102,19 @@ module _ (us : List ClassUnit) (order : List ℕ) (sound : IsSound us order) (ro
       next_seen : IsSeen us after_it
       next_seen = step_seen us order sound follow knows accepts rows s kept seen e.thread l e.op e.reply own comes.step next_kept
 
-      outcome = come us order sound follow knows accepts rows s kept seen e.thread l e.op e.reply own comes.step next_kept
-
       next_string : (r : ℕ) → IsStringAt us s r → IsStringAt us after_it r
-      next_string r is = record { object = is.object; there = outcome.changes.grow r is.object is.there; class = is.class }
+      next_string r is =
+          let out = come us order sound follow knows accepts rows s kept seen e.thread l e.op e.reply own comes.step next_kept in
+          record { object = is.object; there = out.changes.grow r is.object is.there; class = is.class }
 
       next_same : (r : ℕ) → IsStringAt us s r → array_in s r ≢ 0 → HasSameText s after_it r
-      next_same r is some = record {
-        array = word_stays us s after_it kept seen e.thread outcome.texts outcome.changes r is.object is.there is.class some;
-        header = λ o at. outcome.changes.grow (array_in s r) o at;
-        units = λ i. outcome.changes.units r i is.object is.there is.class some;
-      }
+      next_same r is some =
+          let out = come us order sound follow knows accepts rows s kept seen e.thread l e.op e.reply own comes.step next_kept in
+          record {
+            array = word_stays us s after_it kept seen e.thread out.texts out.changes r is.object is.there is.class some;
+            header = λ o at. out.changes.grow (array_in s r) o at;
+            units = λ i. out.changes.units r i is.object is.there is.class some;
+          }
 
   reached_seen : (s last : OrdinaryState Local) (es : List Event) → StateFits us s → IsSeen us s → Leads java_code s es last → StateFits us last × IsSeen us last
   reached_seen s last [] kept seen e = (subst (StateFits us) e kept, subst (IsSeen us) e seen)
