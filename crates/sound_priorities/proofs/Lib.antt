@@ -1,4 +1,5 @@
-pub mod ThreadClasses
+pub mod TopClasses
+mod ThreadClasses
 pub mod StepFacts
 mod SeenKnow
 mod StepsSeen

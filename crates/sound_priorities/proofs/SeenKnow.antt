@@ -17,13 +17,12 @@ use Rattle.soundness_senses.specs.Texts.{char_array}
 use Rattle.soundness_senses.specs.Knowledge.{Knows, HasWords, contents_of, element_contents, element_place}
 use Rattle.soundness_senses.specs.Runs.{HasObject, HasWordFor, IsThread, MayStandFor, ObjectFits, RunsWant, WordHolds, runs}
 use Rattle.soundness_runs.specs.ClassesFollow.{IsFixed, ClassesFollow}
-use Rattle.soundness_runs.proofs.RunsKnow.{runs_make_texts, units_there}
+use Rattle.soundness_runs.proofs.RunsKnow.{runs_make_texts, unit_there, units_there}
 use Rattle.soundness_senses.proofs.TextsMade.{MakesTexts, plain_text}
 use Rattle.link_types.specs.declared.types.ElementType.TheVariants.{Char}
-use Rattle.instructions.specs.declared.operation.ElementKind.TheVariants as elements
 use Rattle.linked_operands.specs.Sound.{IsSound}
 use Rattle.type_rules.specs.Wants.{element_types, is_array_of_one, is_array_of_references}
-use Rattle.sound_priorities.specs.Seen.{GoesOn, HoldsSet, IsElsewhere, IsPriority, IsSet, IsThreadType, KeepsPriorities, Seen, executions}
+use Rattle.sound_priorities.specs.Seen.{GoesOn, HoldsSet, IsElsewhere, IsPriority, IsSet, IsTypeBelow, KeepsPriorities, Seen, executions}
 use Rattle.sound_priorities.proofs.ThreadClasses.{field_after, no_array, no_array_number, no_builder, no_class_object, no_string, no_thread_type, no_throwable, no_throwable_type, no_thrown_thread, super_thread, thread_type}
 
 module _ (us : List ClassUnit) where
@@ -114,7 +113,7 @@ module _ (us : List ClassUnit) where
     priority_there h r is = let one = follow.priority r is.object is.fits is.stands in record { object = is.object; there = is.there; fits = is.fits; holds = one.holds; within = one.within; spared = one.spared }
 
     -- a new object is set, or of a type of Threads
-    new_set : (h : Seen us) (r c : ℕ) (o : Object) → h.known.objects r ≡ Some o → o.class ≡ c → (b : Bool) → IsThread us c ≡ b → IsSet us h r ⊎ IsThreadType us (type_numbered (program_names us) c)
+    new_set : (h : Seen us) (r c : ℕ) (o : Object) → h.known.objects r ≡ Some o → o.class ≡ c → (b : Bool) → IsThread us c ≡ b → IsSet us h r ⊎ IsTypeBelow us THREAD (type_numbered (program_names us) c)
     new_set h r c o there class true e = inr (thread_type us order sound c e)
     new_set h r c o there class false e = inl (set_other h r o there (λ thread. let bad : false ≡ true = sym e ∙ (ap (IsThread us) (sym class) ∙ thread) in cc))
 
@@ -151,7 +150,7 @@ module _ (us : List ClassUnit) where
       exactly = λ h c n r come. plain.exactly h.known c n r come.0;
       string = λ h r can come. let is = plain.string h.known r can come.0 in (is, string_set h r is);
       unit = λ h r c n i v of exactly within small.
-          let has = (knows.elements h.known r c n i elements.Char char_array tt of.0 refl exactly within).0 in (
+          let has = unit_there us follow h.known r c n i of.0 exactly within in (
             plain.unit h.known r c n i v of.0 exactly within small,
             (no_priority h r i v of.0.object of.0.there (no_array us order sound of.0.object.class 1 Char of.0.stands), write_holds h r i v number has (λ exact. small)),
           );
@@ -194,7 +193,7 @@ module _ (us : List ClassUnit) where
       waits = λ h r is. (knows.waits h.known r is, tt);
       rewakes = λ h r is. (knows.rewakes h.known r is, tt);
       notifies = λ h r is. (knows.notifies h.known r is, tt);
-      prints = λ h line. (tt, tt);
+      prints = λ h line fits. (tt, tt);
       starts = λ h r p is may.
           let same : p % 2 ^ 8 ≡ p = mod-eq_of_lt (omega (arith, may.1)) in
           ((is.0, omega arith), (subst IsPriority (sym same) may, is.1));

@@ -35,10 +35,10 @@ pub record IsSet (us : List ClassUnit) (h : Seen us) (r : ℕ) : Type 0 where
   pub there : h.known.objects r ≡ Some object
   pub set : IsThread us object.class ≡ true → IsPriority (h.priorities r)
 
--- Thread is the class of the type, or above it
-abbrev pub IsThreadType : List ClassUnit → ObjectType → Type 0
-IsThreadType us (Class c) = Contains (superclasses (classes_of us) c) THREAD
-IsThreadType us _ = ⊥
+-- the class k is that of the type, or above it
+abbrev pub IsTypeBelow : List ClassUnit → ℕ → ObjectType → Type 0
+IsTypeBelow us k (Class c) = Contains (superclasses (classes_of us) c) k
+IsTypeBelow us k _ = ⊥
 
 -- the place isn't that of a Thread's priority
 abbrev pub IsElsewhere : (us : List ClassUnit) → Seen us → ℕ → ℕ → Type 0
@@ -71,7 +71,7 @@ executions us = record {
   exact = Unit {0};
   is_priority = IsPriority;
   is_there = λ h r. (runs us).is_there h.known r;
-  is_raw = λ h r t. (runs us).is_raw h.known r t × (IsSet us h r ⊎ IsThreadType us t);
+  is_raw = λ h r t. (runs us).is_raw h.known r t × (IsSet us h r ⊎ IsTypeBelow us THREAD t);
   is_of = λ h r t. (runs us).is_of h.known r t × IsSet us h r;
   is_exactly = λ h r c n. (runs us).is_exactly h.known r c n;
   is_thrown = λ h r c. (runs us).is_thrown h.known r c × IsSet us h r;

@@ -57,7 +57,7 @@ module _ (us : List ClassUnit) (s last : OrdinaryState Local) (kept : StateFits 
     objects = changes.grow;
     texts = λ r o e is. changes.texts_stay r is;
     others = changes.others;
-    units = λ r o there string some none. some (sym (word_stays r o there string some) ∙ none);
+    units = word_stays;
   }
 
   pub strings_after : (r : ℕ) (o : Object) → last.objects r ≡ Some o → IsString us o.class ≡ true → (last.words r STRING_UNITS ≡ 0) ⊎ (texts' (last.words r STRING_UNITS) ≡ true)
@@ -70,6 +70,12 @@ module _ (us : List ClassUnit) (s last : OrdinaryState Local) (kept : StateFits 
       ]
       | inr e ↦ inr (changes.texts_stay (last.words r STRING_UNITS) (named (last.words r STRING_UNITS) r e).0)
     ]
+  ]
+
+  pub literals_after : (r : ℕ) (o : Object) → fixed_of us r ≡ Some o → IsString us o.class ≡ true → last.words r STRING_UNITS ≡ 0
+  literals_after r o e string = elim (changes.word r o (seen.fixed r o e) string) [
+    | inl same ↦ same ∙ seen.literals r o e string
+    | inr names ↦ absurd ((named (last.words r STRING_UNITS) r names).1.1.fresh o e)
   ]
 
   -- no object has the reference 0
@@ -93,10 +99,11 @@ module _ (us : List ClassUnit) (s last : OrdinaryState Local) (kept : StateFits 
     there = changes.grow q is.object is.there;
     class = is.class;
     empty = elim (changes.word q is.object is.there is.class) [ inl same ↦ same ∙ is.empty | inr names ↦ absurd (other (last.words q STRING_UNITS) names) ];
+    fresh = is.fresh;
   }
 
   pub making_after : (b : Preceding) → AreApart (seen.preceding t) b → MakingFits us s seen.texts b → MakingFits us last texts' b
-  making_after (a_text (filling r n)) apart is = (changes.texts_stay r is.0, unnamed_after r is.0 is.1 (λ q e. apart.arrays r (ap array_of e) refl))
+  making_after (a_text (filling r)) apart is = (changes.texts_stay r is.0, unnamed_after r is.0 is.1 (λ q e. apart.arrays r (ap array_of e) refl))
   making_after (a_text (naming r q)) apart is = (
     changes.texts_stay r is.0,
     (unnamed_after r is.0 is.1.0 (λ p e. apart.arrays r (ap array_of e) refl), new_after q is.1.1 (λ p e. apart.strings q (ap string_of e) refl)),

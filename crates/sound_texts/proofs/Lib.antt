@@ -5,4 +5,5 @@ mod PlainSteps
 mod Outcomes
 mod StepsTexts
 mod StartsTexts
+mod Values
 pub mod Whole

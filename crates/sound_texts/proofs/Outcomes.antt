@@ -62,7 +62,7 @@ made_is b m e = cc
 
 -- what a thread has of a text is there
 made_array : (us : List ClassUnit) (s : OrdinaryState Local) (texts : ℕ → Bool) (b : Preceding) (r : ℕ) → array_of b ≡ Some r → MakingFits us s texts b → texts r ≡ true
-made_array us s texts (a_text (filling p n)) r e is = subst (λ x. texts x ≡ true) (same_Some p r e) is.0
+made_array us s texts (a_text (filling p)) r e is = subst (λ x. texts x ≡ true) (same_Some p r e) is.0
 made_array us s texts (a_text (naming p q)) r e is = subst (λ x. texts x ≡ true) (same_Some p r e) is.0
 made_array us s texts b r e is = cc
 
@@ -165,12 +165,12 @@ module _ (us : List ClassUnit) (s : OrdinaryState Local) (kept : StateFits us s)
         | inr is ↦ is_free (s.words q STRING_UNITS) (seen.arrays (s.words q STRING_UNITS) is).object (seen.arrays (s.words q STRING_UNITS) is).there e
       ]
 
-      begin_outcome : ((h' : Seen us) (q : ℕ) → GoesOn us now h' → After (New c n) (Some (filling q n)) h' (Made q)) → Outcome (New c n) (Made r)
+      begin_outcome : ((h' : Seen us) (q : ℕ) → GoesOn us now h' → After (New c n) (Some (filling q)) h' (Made q)) → Outcome (New c n) (Made r)
       begin_outcome on = record {
         texts = texts';
         changes = array_changes;
         words = new_words texts' array_changes;
-        preceding = a_text (filling r n);
+        preceding = a_text (filling r);
         plan = on (next us s (last (New c n) (Made r)) kept seen t texts' array_changes) r (goes_on us s (last (New c n) (Made r)) kept seen t texts' array_changes);
         making = (set_at-hit seen.texts r true, still_unnamed r (λ e. omega (arith, step.answered.0, e)) named_array);
         apart = λ u other. record {
@@ -183,9 +183,9 @@ module _ (us : List ClassUnit) (s : OrdinaryState Local) (kept : StateFits us s)
       }
 
     -- the String of a text
-    string_outcome : (p m : ℕ) → seen.preceding t ≡ a_text (filling p m) → IsString us c ≡ true → HasObject us (last (New c n) (Made r)).objects r (Class STRING)
+    string_outcome : (p : ℕ) → seen.preceding t ≡ a_text (filling p) → IsString us c ≡ true → HasObject us (last (New c n) (Made r)).objects r (Class STRING)
         → ((h' : Seen us) (q : ℕ) → GoesOn us now h' → HasObject us h'.known.objects q (Class STRING) → (h'.texts q ≡ true → ⊥) → After (New c n) (Some (naming p q)) h' (Made q)) → Outcome (New c n) (Made r)
-    string_outcome p m is string has on =
+    string_outcome p is string has on =
         let own : (seen.texts p ≡ true) × IsUnnamed us s p = subst (MakingFits us s seen.texts) is (seen.making t) in
         record {
           texts = seen.texts;
@@ -193,7 +193,7 @@ module _ (us : List ClassUnit) (s : OrdinaryState Local) (kept : StateFits us s)
           words = new_words seen.texts new_changes;
           preceding = a_text (naming p r);
           plan = on (next us s (last (New c n) (Made r)) kept seen t seen.texts new_changes) r (goes_on us s (last (New c n) (Made r)) kept seen t seen.texts new_changes) has (λ x. is_free r (seen.arrays r x).object (seen.arrays r x).there refl);
-          making = (own.0, (still_unnamed p (array_some p own.0) own.1, record { object = made; there = made_there; class = string; empty = ap (λ (g : ℕ → ℕ). g STRING_UNITS) (set_at-hit s.words r (λ _. 0)) }));
+          making = (own.0, (still_unnamed p (array_some p own.0) own.1, record { object = made; there = made_there; class = string; empty = ap (λ (g : ℕ → ℕ). g STRING_UNITS) (set_at-hit s.words r (λ _. 0)); fresh = λ o e. is_free r o (seen.fixed r o e) refl }));
           apart = λ u other. record {
             arrays = λ q e its. (seen.apart t u other).arrays q (ap array_of is ∙ e) its;
             strings = λ q e its. let new : IsNew us s q = made_string us s seen.texts (seen.preceding u) q its (seen.making u) in is_free q new.object new.there (sym (same_Some r q e));
@@ -214,13 +214,13 @@ module _ (us : List ClassUnit) (s : OrdinaryState Local) (kept : StateFits us s)
         no_char_array us order sound array.object.class array.class (subst (λ (x : Object). IsString us x.class ≡ true) (same_Some o array.object (sym there ∙ array.there)) string)
 
     -- a unit of the array
-    unit_outcome : (p m : ℕ) → seen.preceding t ≡ a_text (filling p m) → q ≡ p → ((h' : Seen us) → GoesOn us now h' → After (Write q i v) (Some (filling p m)) h' Done) → Outcome (Write q i v) Done
-    unit_outcome p m is same on =
+    unit_outcome : (p : ℕ) → seen.preceding t ≡ a_text (filling p) → q ≡ p → ((h' : Seen us) → GoesOn us now h' → After (Write q i v) (Some (filling p)) h' Done) → Outcome (Write q i v) Done
+    unit_outcome p is same on =
         record {
           texts = seen.texts;
           changes = changes;
           words = words;
-          preceding = a_text (filling p m);
+          preceding = a_text (filling p);
           plan = on (next us s wrote kept seen t seen.texts changes) (goes_on us s wrote kept seen t seen.texts changes);
           making = (own.0, λ r o at string e. own.1 r o at string (sym (same_word r o at string) ∙ e));
           apart = λ u other. subst (λ x. AreApart x (seen.preceding u)) is (seen.apart t u other);
@@ -323,16 +323,16 @@ module _ (us : List ClassUnit) (s : OrdinaryState Local) (kept : StateFits us s)
     begins (New c n) reply step is = absurd step.answered
     begins op reply step is = absurd is
 
-    fills : (p m : ℕ) → seen.preceding t ≡ a_text (filling p m) → (op : Op) (reply : Reply) (step : IsStep java_code s t l op reply) → StateFits us (last op reply) → FillsText us p m now op (After op) → Outcome op reply
-    fills p m is (Write q i v) Done step kept_after (same, on) = unit_outcome order sound follow q i v step kept_after p m is same on
-    fills p m is (Write q i v) reply step kept_after (same, on) = absurd step.answered
-    fills p m is (New c n) (Made r) step kept_after (same, on) =
+    fills : (p : ℕ) → seen.preceding t ≡ a_text (filling p) → (op : Op) (reply : Reply) (step : IsStep java_code s t l op reply) → StateFits us (last op reply) → FillsText us p now op (After op) → Outcome op reply
+    fills p is (Write q i v) Done step kept_after (same, on) = unit_outcome order sound follow q i v step kept_after p is same on
+    fills p is (Write q i v) reply step kept_after (same, on) = absurd step.answered
+    fills p is (New c n) (Made r) step kept_after (same, on) =
         let there = made_there c n r step in
         let fits : ObjectFits us r (made c n r step) = kept_after.objects r (made c n r step) there in
         let stands : MayStandFor us c (Class STRING) = subst (λ x. MayStandFor us c x) (ap (type_numbered (program_names us)) same ∙ string_type us) (follow.own c fits.class) in
-        string_outcome c n r step p m is (is_string us order sound c fits.class stands) (record { object = made c n r step; there = there; fits = fits; stands = stands }) on
-    fills p m is (New c n) reply step kept_after (same, on) = absurd step.answered
-    fills p m is op reply step kept_after wrong = absurd wrong
+        string_outcome c n r step p is (is_string us order sound c fits.class stands) (record { object = made c n r step; there = there; fits = fits; stands = stands }) on
+    fills p is (New c n) reply step kept_after (same, on) = absurd step.answered
+    fills p is op reply step kept_after wrong = absurd wrong
 
     names : (p x : ℕ) → seen.preceding t ≡ a_text (naming p x) → (op : Op) (reply : Reply) (step : IsStep java_code s t l op reply) → StateFits us (last op reply) → NamesText us p x now op (After op) → Outcome op reply
     names p x is (Write q i v) Done step kept_after (same, place, value, on) = name_outcome order sound follow q i v step kept_after p x is same place value on
@@ -345,5 +345,5 @@ module _ (us : List ClassUnit) (s : OrdinaryState Local) (kept : StateFits us s)
         by_making : (m : Option Making) → making_of (seen.preceding t) ≡ m → TextSteps us m now op (After op) → Outcome op reply
         by_making None e (inl plain) = plain_outcome op reply step kept_after plain
         by_making None e (inr text) = begins op reply step text
-        by_making (Some (filling p m)) e text = fills p m (made_is (seen.preceding t) (filling p m) e) op reply step kept_after text
+        by_making (Some (filling p)) e text = fills p (made_is (seen.preceding t) (filling p) e) op reply step kept_after text
         by_making (Some (naming p x)) e text = names p x (made_is (seen.preceding t) (naming p x) e) op reply step kept_after text

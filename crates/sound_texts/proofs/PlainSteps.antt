@@ -112,9 +112,13 @@ module _ (us : List ClassUnit) (s : OrdinaryState Local) (kept : StateFits us s)
             | inl none ↦ inl (answered ∙ (ap (s.words r) e ∙ none))
             | inr is ↦ inr (subst (λ x. seen.texts x ≡ true) (sym (answered ∙ ap (s.words r) e)) is)
           ],
+          λ e. answered ∙ (ap (s.words r) e ∙ ap (λ (w : ℕ → ℕ → ℕ). w r STRING_UNITS) (same_words (Read r i) (Value v) refl same answer)),
         )
           where
             unchanged : (o : Op) (a : Reply) → s.objects ≡ objects_after java_code l o a s → o ≡ op → a ≡ reply → s.objects ≡ objects_after java_code l op reply s
             unchanged o a is same answer = subst (λ x. s.objects ≡ objects_after java_code l op x s) answer (subst (λ x. s.objects ≡ objects_after java_code l x a s) same is)
+
+            same_words : (o : Op) (a : Reply) → s.words ≡ words_after o a s → o ≡ op → a ≡ reply → s.words ≡ words_after op reply s
+            same_words o a is same answer = subst (λ x. s.words ≡ words_after op x s) answer (subst (λ x. s.words ≡ words_after x a s) same is)
         by_op (New c n) (Made r) answered same answer = λ is. not_free us s t l op reply step r r (seen.arrays r is).object (seen.arrays r is).there answered.2 refl
         by_op _ _ answered same answer = tt

@@ -107,6 +107,7 @@ module _ (us : List ClassUnit) (order : List ℕ) (sound : IsSound us order) (ro
       begun = begun;
       arrays = λ r e. absurd (not_one r e);
       strings = λ r o there string. inl (literal_here r o there string).1;
+      literals = λ r o e string. (literal_here r o e string).1;
       words = λ r i o t at holds away. elim ((fit.words r i).1 o t at holds) [
         | inl null ↦ inl null
         | inr there ↦ inr (record { object = there.object; there = there.there; clear = not_one 0; text = λ string. inl there.there })

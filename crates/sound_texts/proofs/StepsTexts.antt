@@ -32,7 +32,7 @@ use Rattle.java_sound.specs.Sound.{StateFits}
 use Rattle.sound_priorities.proofs.StepFacts.{quiet_next}
 use Rattle.sound_texts.specs.KnownTexts.{GoesOn, Seen, TextSteps, text_sense}
 use Rattle.sound_texts.specs.KeptTexts.{AreApart, IsSeen, MakingFits, SeenLocal, seen_in}
-use Rattle.sound_texts.proofs.Changes.{begun_after, fixed_after, goes_on, making_after, next, strings_after}
+use Rattle.sound_texts.proofs.Changes.{begun_after, fixed_after, goes_on, literals_after, making_after, next, strings_after}
 use Rattle.sound_texts.proofs.Outcomes.{After, Outcome, outcome}
 
 silent_no : (op : Op) → ◌≡◌ {A = Next} Silent (Want op) → ⊥
@@ -98,7 +98,7 @@ module _ (us : List ClassUnit) (order : List ℕ) (sound : IsSound us order) (fo
       by_making : (m : Option Making) → TextSteps us m h (Start r p) (λ m h' reply. PlanFits (text_sense us) us res (following (Start r p) reply m) (k reply) h') → (text_sense us).is_of h r (Class THREAD)
       by_making None (inl (wants, on)) = (wants.0.0, wants.1)
       by_making None (inr begins) = absurd begins
-      by_making (Some (filling x n)) fills = absurd fills
+      by_making (Some (filling x)) fills = absurd fills
       by_making (Some (naming x q)) names = absurd names
 
   -- ---- one step
@@ -212,6 +212,7 @@ module _ (us : List ClassUnit) (order : List ℕ) (sound : IsSound us order) (fo
         begun = begun_after us s last kept seen t come.texts come.changes;
         arrays = come.changes.arrays;
         strings = strings_after us s last kept seen t come.texts come.changes;
+        literals = literals_after us s last kept seen t come.texts come.changes;
         words = come.words;
         preceding = before;
         idle = idle_after;

@@ -11,7 +11,9 @@ use Rattle.link_rules.specs.Classes.{classes_of}
 use Rattle.link_rules.specs.FixedObjects.{class_object}
 use Rattle.link_rules.specs.Names.{program_names, type_numbered}
 use Rattle.op_core.specs.declared.Op.{Op}
-use Rattle.op_core.specs.declared.Op.TheVariants.{Read, Write, New, Start}
+use Rattle.op_core.specs.declared.Op.TheVariants.{Read, Write, New, Start, Print}
+use Rattle.op_core.specs.declared.Line.{Line}
+use Rattle.op_core.specs.declared.Line.TheVariants as lines
 use Rattle.op_core.specs.declared.Reply.{Reply}
 use Rattle.op_core.specs.OrdinaryState.{Object}
 use Rattle.java_rows.specs.Plan.{Plan}
@@ -19,19 +21,19 @@ use Rattle.java_rows.specs.Texts.{makes_array, makes_string, writes_units}
 use Rattle.soundness_senses.specs.Senses.{Content, number, reference, Making, filling, naming, WordFits}
 use Rattle.soundness_senses.specs.Fits.{Returns, PlanFits, anything, a_text, following, making_of}
 use Rattle.soundness_senses.specs.Texts.{char_array}
-use Rattle.soundness_senses.specs.Knowledge.{Knows, HasWords, contents_of, element_contents, element_place}
+use Rattle.soundness_senses.specs.Knowledge.{Knows, LineFits, HasWords, contents_of, element_contents, element_place}
 use Rattle.soundness_senses.specs.Runs.{HasObject, HasWordFor, IsThread, MayStandFor, ObjectFits, RunsWant, WordHolds, runs}
 use Rattle.soundness_runs.specs.ClassesFollow.{IsFixed, ClassesFollow}
 use Rattle.linked_operands.specs.Sound.{IsSound}
 use Rattle.type_rules.specs.Wants.{element_types, is_array_of_one, is_array_of_references}
-use Rattle.sound_priorities.proofs.ThreadClasses as threads
-use Rattle.sound_texts.specs.KnownTexts.{BeginsText, Comes, FillsText, GoesOn, HasText, HoldsPlain, HoldsText, IsElsewhere, IsPlain, IsString, IsStringType, KeepsTexts, NamesText, Seen, TextSteps, Wants, text_sense}
+use Rattle.sound_priorities.specs.Seen.{IsTypeBelow}
+use Rattle.sound_texts.specs.KnownTexts.{BeginsText, Comes, FillsText, GoesOn, HasText, HoldsPlain, HoldsText, IsElsewhere, IsNamed, IsPlain, IsString, KeepsTexts, NamesText, Seen, TextSteps, Wants, text_sense}
 use Rattle.sound_texts.proofs.StringClasses.{field_after, is_string, no_array, no_array_number, no_builder, no_class_object, no_string_type, no_thread, no_throwable, no_throwable_type, no_thrown_string, string_type, super_string}
 
 module _ (us : List ClassUnit) where
   pub text_more : (h h' : Seen us) (r : ℕ) (o : Object) → h.known.objects r ≡ Some o → GoesOn us h h' → IsString us o.class ≡ true → HasText us h r o → HasText us h' r o
   text_more h h' r o there more string (inl fixed) = inl fixed
-  text_more h h' r o there more string (inr some) = inr (more.units r o there string some)
+  text_more h h' r o there more string (inr some) = inr (λ none. some (sym (more.units r o there string some) ∙ none))
 
   pub clear_more : (h h' : Seen us) (r : ℕ) (o : Object) → h.known.objects r ≡ Some o → GoesOn us h h' → (h.texts r ≡ true → ⊥) → h'.texts r ≡ true → ⊥
   clear_more h h' r o there more clear is = clear (more.others r o there is)
@@ -58,6 +60,16 @@ module _ (us : List ClassUnit) where
         else.1 o there (subst (λ (x : Object). IsString us x.class ≡ true) (sym same) string),
   )
 
+  named_more : (h h' : Seen us) (r : ℕ) → GoesOn us h h' → IsNamed us h r → IsNamed us h' r
+  named_more h h' r more is = record {
+    string = is.string;
+    object = is.object;
+    there = more.objects is.string is.object is.there;
+    class = is.class;
+    array = more.units is.string is.object is.there is.class (λ none. is.some (sym is.array ∙ none)) ∙ is.array;
+    some = is.some;
+  }
+
   keeps_more : (h h' : Seen us) (op : Op) → GoesOn us h h' → RunsWant us h.known.objects op → KeepsTexts us h op → KeepsTexts us h' op
   keeps_more h h' (Read r i) more (k, has) keeps = λ o at string e.
       let same : has.object ≡ o = same_Some has.object o (sym (more.objects r has.object has.there) ∙ at) in
@@ -65,6 +77,7 @@ module _ (us : List ClassUnit) where
       (text_more h h' r has.object has.there more (subst (λ (x : Object). IsString us x.class ≡ true) (sym same) string) (keeps has.object has.there (subst (λ (x : Object). IsString us x.class ≡ true) (sym same) string) e))
   keeps_more h h' (Write r i v) more (k, has, may) keeps = (elsewhere_more h h' r i has.object has.there more keeps.0, holds_more h h' r i v has.object has.there more keeps.1)
   keeps_more h h' (Start r p) more is keeps = plain_more h h' r more keeps
+  keeps_more h h' (Print (lines.Made r)) more is keeps = named_more h h' r more keeps
   keeps_more h h' op more is keeps = keeps
 
   abbrev texts_both : (h h' h'' : Seen us) → GoesOn us h h' → GoesOn us h' h'' → GoesOn us h h''
@@ -72,11 +85,11 @@ module _ (us : List ClassUnit) where
     objects = λ r o e. more'.objects r o (more.objects r o e);
     texts = λ r o e is. more'.texts r o (more.objects r o e) (more.texts r o e is);
     others = λ r o e is. more.others r o e (more'.others r o (more.objects r o e) is);
-    units = λ r o e string some. more'.units r o (more.objects r o e) string (more.units r o e string some);
+    units = λ r o e string some. more'.units r o (more.objects r o e) string (λ none. some (sym (more.units r o e string some) ∙ none)) ∙ more.units r o e string some;
   }
 
   abbrev texts_itself : (h : Seen us) → GoesOn us h h
-  texts_itself h = record { objects = λ r o e. e; texts = λ r o e is. is; others = λ r o e is. is; units = λ r o e string some. some }
+  texts_itself h = record { objects = λ r o e. e; texts = λ r o e is. is; others = λ r o e is. is; units = λ r o e string some. refl }
 
   -- ---- a text is made
 
@@ -88,8 +101,8 @@ module _ (us : List ClassUnit) where
     abbrev Goes : Seen us → Type 0
     Goes h = (h' : Seen us) (s : ℕ) → GoesOn us h h' → (text_sense us).is_of h' s (Class STRING) → PlanFits (text_sense us) us res anything (k s) h'
 
-    makes_string_fits : (h : Seen us) (r n : ℕ) → Goes h → PlanFits (text_sense us) us res (a_text (filling r n)) (makes_string r k) h
-    makes_string_fits h r n on = (
+    makes_string_fits : (h : Seen us) (r : ℕ) → Goes h → PlanFits (text_sense us) us res (a_text (filling r)) (makes_string r k) h
+    makes_string_fits h r on = (
       tt,
       (
         refl,
@@ -108,14 +121,14 @@ module _ (us : List ClassUnit) where
       ),
     )
 
-    writes_units_fit : (h : Seen us) (r n left i : ℕ) (units : List ℕ) → Goes h → PlanFits (text_sense us) us res (a_text (filling r n)) (writes_units r units i left (makes_string r k)) h
-    writes_units_fit h r n zero i units on = makes_string_fits h r n on
-    writes_units_fit h r n (suc left) i units on = (tt, (refl, λ h' more. writes_units_fit h' r n left (suc i) units (λ h'' s more'. on h'' s (texts_both h h' h'' more more'))))
+    writes_units_fit : (h : Seen us) (r left i : ℕ) (units : List ℕ) → Goes h → PlanFits (text_sense us) us res (a_text (filling r)) (writes_units r units i left (makes_string r k)) h
+    writes_units_fit h r zero i units on = makes_string_fits h r on
+    writes_units_fit h r (suc left) i units on = (tt, (refl, λ h' more. writes_units_fit h' r left (suc i) units (λ h'' s more'. on h'' s (texts_both h h' h'' more more'))))
 
     pub makes_text_fits : (h : Seen us) (c : ℕ) (units : List ℕ) → type_numbered (program_names us) c ≡ char_array → Goes h → PlanFits (text_sense us) us res anything (makes_array c units k) h
     makes_text_fits h c units type on = (
       tt,
-      inr (type, λ h' r more. writes_units_fit h' r (length units) (length units) 0 units (λ h'' s more'. on h'' s (texts_both h h' h'' more more'))),
+      inr (type, λ h' r more. writes_units_fit h' r (length units) 0 units (λ h'' s more'. on h'' s (texts_both h h' h'' more more'))),
     )
 
   no_reference : (t : ObjectType) → number ≡ reference t → ⊥
@@ -130,9 +143,9 @@ module _ (us : List ClassUnit) where
     steps_more None h h' op next more (inl (may, on)) = inl ((wants_more h h' op more may, λ h'' reply more' come. on h'' reply (texts_both h h' h'' more more') come))
     steps_more None h h' (New c n) next more (inr (type, on)) = inr (type, λ h'' r more'. on h'' r (texts_both h h' h'' more more'))
     steps_more None h h' op next more (inr begins) = absurd begins
-    steps_more (Some (filling r n)) h h' (Write q i v) next more (same, on) = (same, λ h'' more'. on h'' (texts_both h h' h'' more more'))
-    steps_more (Some (filling r n)) h h' (New c m) next more (same, on) = (same, λ h'' s more'. on h'' s (texts_both h h' h'' more more'))
-    steps_more (Some (filling r n)) h h' op next more fills = absurd fills
+    steps_more (Some (filling r)) h h' (Write q i v) next more (same, on) = (same, λ h'' more'. on h'' (texts_both h h' h'' more more'))
+    steps_more (Some (filling r)) h h' (New c m) next more (same, on) = (same, λ h'' s more'. on h'' s (texts_both h h' h'' more more'))
+    steps_more (Some (filling r)) h h' op next more fills = absurd fills
     steps_more (Some (naming r s)) h h' (Write q i v) next more (same, at, array, on) = (same, at, array, λ h'' more'. on h'' (texts_both h h' h'' more more'))
     steps_more (Some (naming r s)) h h' op next more names = absurd names
 
@@ -196,13 +209,29 @@ module _ (us : List ClassUnit) where
     priority_there h r is = let one = follow.priority r is.object is.fits is.stands in record { object = is.object; there = is.there; fits = is.fits; holds = one.holds; within = one.within; spared = one.spared }
 
     -- a new object is plain, or of a type of Strings
-    new_plain : (h : Seen us) (r c : ℕ) (o : Object) → h.known.objects r ≡ Some o → (h.texts r ≡ true → ⊥) → o.class ≡ c → (b : Bool) → IsString us c ≡ b → IsPlain us h r ⊎ IsStringType us (type_numbered (program_names us) c)
+    new_plain : (h : Seen us) (r c : ℕ) (o : Object) → h.known.objects r ≡ Some o → (h.texts r ≡ true → ⊥) → o.class ≡ c → (b : Bool) → IsString us c ≡ b → IsPlain us h r ⊎ IsTypeBelow us STRING (type_numbered (program_names us) c)
     new_plain h r c o there clear class true e = inr (string_type us order sound c e)
     new_plain h r c o there clear class false e = inl (plain_other h r o there clear (λ string. let bad : false ≡ true = sym e ∙ (ap (IsString us) (sym class) ∙ string) in cc))
 
     -- a place in an object of another class
     away : (h : Seen us) (r i : ℕ) (x : Object) → h.known.objects r ≡ Some x → (IsString us x.class ≡ true → ⊥) → (o : Object) → h.known.objects r ≡ Some o → IsString us o.class ≡ true → i ≡ STRING_UNITS → HasText us h r o
     away h r i x there none o at string e = absurd (none (subst (λ (y : Object). IsString us y.class ≡ true) (same_Some o x (sym at ∙ there)) string))
+
+    -- the word of a String is its array
+    named_here : (h : Seen us) (r v : ℕ) → (text_sense us).is_of h r (Class STRING) → (STRING_UNITS ≡ STRING_UNITS → v ≡ h.units r) → 0 < v → IsNamed us h v
+    named_here h r v is told some = record {
+      string = r;
+      object = is.0.object;
+      there = is.0.there;
+      class = is_string us order sound is.0.object.class is.0.fits.class is.0.stands;
+      array = sym (told refl);
+      some = λ none. omega (arith, some, none);
+    }
+
+    -- the line of a String that the program made
+    line_kept : (h : Seen us) (line : Line) → LineFits (text_sense us) h line → KeepsTexts us h (Print line)
+    line_kept h (lines.Made r) is = is.2
+    line_kept h line is = tt
 
     pub texts_know : Knows (text_sense us) us
     texts_know = record {
@@ -217,7 +246,7 @@ module _ (us : List ClassUnit) where
       exactly_more = λ h h' r c n more is. knows.exactly_more h.known h'.known r c n more.objects is;
       thrown_more = λ h h' r c more is. (knows.thrown_more h.known h'.known r c more.objects is.0, plain_more h h' r more is.1);
       word_more = λ h h' r i k more is. (knows.word_more h.known h'.known r i k more.objects is.0, elsewhere_more h h' r i is.0.object is.0.there more is.1);
-      text_more = λ h h' r more is. (knows.text_more h.known h'.known r more.objects is.0, more.texts r is.0.object is.0.there is.1);
+      text_more = λ h h' r more is. (knows.text_more h.known h'.known r more.objects is.0, more.texts r is.0.object is.0.there is.1, named_more h h' r more is.2);
       want_more = λ h h' op more is. wants_more h h' op more is;
       asks = λ res b h op k follows none may next. (follows, subst (λ m. TextSteps us m h op (λ m h' reply. PlanFits (text_sense us) us res (following op reply m) (k reply) h')) (sym none) (inl (may, next)));
       asks_more = λ res b h h' op k more fits. (fits.0, steps_more (making_of b) h h' op (λ m h' reply. PlanFits (text_sense us) us res (following op reply m) (k reply) h') more fits.1);
@@ -234,7 +263,7 @@ module _ (us : List ClassUnit) where
       waits = λ h r is. (knows.waits h.known r is, tt);
       rewakes = λ h r is. (knows.rewakes h.known r is, tt);
       notifies = λ h r is. (knows.notifies h.known r is, tt);
-      prints = λ h line. (tt, tt);
+      prints = λ h line fits. (tt, line_kept h line fits);
       starts = λ h r p is may. (knows.starts h.known r p is.0 may, is.1);
       joins = λ h r is. (is.0, tt);
       inits = λ h c file. (file, tt);
@@ -269,7 +298,7 @@ module _ (us : List ClassUnit) where
       );
       units = λ h r v is come. elim (knows.units h.known r v is.0 come.0) [
         | inl null ↦ inl null
-        | inr of ↦ elim (come.1.1 is.0.object is.0.there (is_string us order sound is.0.object.class is.0.fits.class is.0.stands) refl) [ inl null ↦ inl null | inr text ↦ inr (of, text) ]
+        | inr of ↦ elim (come.1.1 is.0.object is.0.there (is_string us order sound is.0.object.class is.0.fits.class is.0.stands) refl) [ inl null ↦ inl null | inr text ↦ inr (of, text, named_here h r v is come.1.2 of.fits.some) ]
       ];
       text_there = λ h r is. knows.text_there h.known r is.0;
       asks_unit = λ h r c n i is exactly within. (knows.asks_unit h.known r c n i is.0 exactly within, away h r i is.0.object is.0.there (no_array us order sound is.0.object.class 1 Char is.0.stands));

@@ -3,10 +3,14 @@ use Rattle.std.proofs.Common.{◌≡◌, ◌≢◌, ◌⊎◌, inl, inr, ◌≤�
 use Rattle.builtin_world.specs.declared.word.TheConstants.{STRING_UNITS}
 use Rattle.code_decode.specs.declared.code.ClassUnit.{ClassUnit}
 use Rattle.link_types.specs.declared.operands.MethodId.{MethodId}
-use Rattle.link_rules.specs.FixedObjects.{first_free}
+use Rattle.builtin_world.specs.declared.number.TheConstants.{STRING}
+use Rattle.link_types.specs.declared.types.ObjectType.TheVariants.{Class}
+use Rattle.link_rules.specs.FixedObjects.{first_free, string_object}
 use Rattle.link_rules.specs.Names.{program_names}
 use Rattle.op_core.specs.declared.Event.{Event}
-use Rattle.op_core.specs.declared.Op.TheVariants.{Read}
+use Rattle.op_core.specs.declared.Op.{Op}
+use Rattle.op_core.specs.declared.Op.TheVariants.{Read, Write, New, Print}
+use Rattle.op_core.specs.declared.Line.TheVariants as lines
 use Rattle.op_core.specs.declared.Reply.{Reply}
 use Rattle.op_core.specs.declared.Next.TheVariants.{Want}
 use Rattle.op_core.specs.Execution.{Comes, Leads}
@@ -21,7 +25,8 @@ use Rattle.soundness_senses.specs.Fits.{PlanFits, following, making_of}
 use Rattle.soundness_senses.specs.Accepted.{Accepted}
 use Rattle.soundness_senses.specs.Knowledge.{Knows}
 use Rattle.soundness_senses.specs.Rows.{RowsFit}
-use Rattle.soundness_runs.specs.ClassesFollow.{ClassesFollow}
+use Rattle.soundness_senses.specs.Runs.{fixed_of}
+use Rattle.soundness_runs.specs.ClassesFollow.{ClassesFollow, IsFixed}
 use Rattle.soundness_runs.proofs.RunsKnow.{runs_know}
 use Rattle.soundness_rows.proofs.RowsTogether.{rows_fit}
 use Rattle.java_sound.specs.Sound.{HasRoom, StateFits}
@@ -33,20 +38,15 @@ use Rattle.sound_programs.proofs.Programs.{main_begins}
 use Rattle.sound_programs.proofs.ThreadLaws.{programs_have_room}
 use Rattle.sound_objects.proofs.Whole.{classes_follow}
 use Rattle.sound_starts.proofs.Starts.{starts_fit}
-use Rattle.sound_texts.specs.KnownTexts.{HasText, IsString, Seen, TextSteps, text_sense}
-use Rattle.sound_texts.specs.KeptTexts.{IsSeen, SeenLocal, seen_in}
-use Rattle.sound_texts.specs.Texts.{HasSameText, IsLiteral, IsStringAt, TextsStay, array_in}
+use Rattle.sound_texts.specs.KnownTexts.{BeginsText, IsNamed, IsString, KeepsTexts, Seen, TextSteps, text_sense}
+use Rattle.sound_texts.specs.KeptTexts.{IsArray, IsSeen, SeenLocal, seen_in}
+use Rattle.sound_texts.specs.Texts.{HasSameText, IsArrayOfOne, IsLiteral, IsStringAt, TextsStay, array_in, text_of}
 use Rattle.sound_texts.proofs.Changes.{word_stays}
+use Rattle.sound_texts.proofs.StringClasses.{is_string}
+use Rattle.sound_texts.proofs.Values.{both_same, literal_text_same, made_text_same}
 use Rattle.sound_texts.proofs.TextsKnow.{texts_know}
 use Rattle.sound_texts.proofs.StepsTexts.{come, plan_wants, quiet_local, step_seen}
 use Rattle.sound_texts.proofs.StartsTexts.{is_literal, start_seen}
-
-both_same : (s m last : OrdinaryState Local) (r : ℕ) → HasSameText s m r → HasSameText m last r → HasSameText s last r
-both_same s m last r first second = record {
-  array = second.array ∙ first.array;
-  header = λ o e. subst (λ a. last.objects a ≡ Some o) first.array (second.header o (subst (λ a. m.objects a ≡ Some o) (sym first.array) (first.header o e)));
-  units = λ i. subst (λ a. last.words a i ≡ m.words a i) first.array (second.units i) ∙ first.units i;
-}
 
 module _ (us : List ClassUnit) (order : List ℕ) (sound : IsSound us order) (room : first_free (program_names us) ≤ 2 ^ 32) where
   accepts : Accepted us
@@ -72,22 +72,41 @@ module _ (us : List ClassUnit) (order : List ℕ) (sound : IsSound us order) (ro
     quiet : (t n : ℕ) (from l : Local) → s.threads t ≡ live from → quiet_steps java_code n from ≡ Some l → SeenLocal us now (seen.preceding t) l
     quiet t n from l begun steps = quiet_local us order sound follow knows accepts rows now (seen.preceding t) n from l (seen.threads t from begun) steps
 
-    -- the text of a String is read where it has one
-    read_there : (t n : ℕ) (from l : Local) (r : ℕ) → s.threads t ≡ live from → quiet_steps java_code n from ≡ Some l → java_code.next l ≡ Want (Read r STRING_UNITS) → IsStringAt us s r → IsLiteral us r ⊎ (array_in s r ≢ 0)
-    read_there t n from l r begun steps e string =
-        elim (by_making (making_of (seen.preceding t)) (subst (λ x. PlanFits (text_sense us) us own.fits.res (seen.preceding t) x now) (plan_wants l.plan (Read r STRING_UNITS) e).1 own.fits.plan).1) [
-          | inl fixed ↦ inl (is_literal us order sound room r string.object fixed string.class)
-          | inr some ↦ inr some
-        ]
+    -- what a thread wants that isn't a step of a text in the making
+    keeps : (t n : ℕ) (from l : Local) (op : Op) → s.threads t ≡ live from → quiet_steps java_code n from ≡ Some l → java_code.next l ≡ Want op → ((c k : ℕ) → op ≡ New c k → ⊥) → ((r i v : ℕ) → op ≡ Write r i v → ⊥) → KeepsTexts us now op
+    keeps t n from l op begun steps e no_new no_write = by_making (making_of (seen.preceding t)) (subst (λ x. PlanFits (text_sense us) us own.fits.res (seen.preceding t) x now) (plan_wants l.plan op e).1 own.fits.plan).1
       where
         own : SeenLocal us now (seen.preceding t) l
         own = quiet t n from l begun steps
 
-        by_making : (m : Option Making) → TextSteps us m now (Read r STRING_UNITS) (λ m h' reply. PlanFits (text_sense us) us own.fits.res (following (Read r STRING_UNITS) reply m) ((plan_wants l.plan (Read r STRING_UNITS) e).0 reply) h') → HasText us now r string.object
-        by_making None (inl (wants, on)) = wants.1 string.object string.there string.class refl
-        by_making None (inr begins) = absurd begins
-        by_making (Some (filling x c)) fills = absurd fills
-        by_making (Some (naming x q)) names = absurd names
+        no_text : (op : Op) (next : Option Making → Seen us → Reply → Type 0) → ((c k : ℕ) → op ≡ New c k → ⊥) → ((r i v : ℕ) → op ≡ Write r i v → ⊥) → (m : Making) → TextSteps us (Some m) now op next → ⊥
+        no_text (New c k) next no_new no_write m steps = no_new c k refl
+        no_text (Write r i v) next no_new no_write m steps = no_write r i v refl
+        no_text op next no_new no_write (filling x) steps = steps
+        no_text op next no_new no_write (naming x q) steps = steps
+
+        no_begin : (op : Op) (next : Option Making → Seen us → Reply → Type 0) → ((c k : ℕ) → op ≡ New c k → ⊥) → BeginsText us now op next → ⊥
+        no_begin (New c k) next no_new begins = no_new c k refl
+        no_begin op next no_new begins = begins
+
+        by_making : (m : Option Making) → TextSteps us m now op (λ m h' reply. PlanFits (text_sense us) us own.fits.res (following op reply m) ((plan_wants l.plan op e).0 reply) h') → KeepsTexts us now op
+        by_making None (inl (wants, on)) = wants.1
+        by_making None (inr begins) = absurd (no_begin op _ no_new begins)
+        by_making (Some m) steps = absurd (no_text op _ no_new no_write m steps)
+
+    -- the text of a String is read where it has one
+    read_there : (t n : ℕ) (from l : Local) (r : ℕ) → s.threads t ≡ live from → quiet_steps java_code n from ≡ Some l → java_code.next l ≡ Want (Read r STRING_UNITS) → IsStringAt us s r → IsLiteral us r ⊎ (array_in s r ≢ 0)
+    read_there t n from l r begun steps e string =
+        elim (keeps t n from l (Read r STRING_UNITS) begun steps e (λ c k same. cc) (λ q i v same. cc) string.object string.there string.class refl) [
+          | inl fixed ↦ inl (is_literal us order sound room r string.object fixed string.class)
+          | inr some ↦ inr some
+        ]
+
+    -- and a line names the array of a String
+    printed_there : (t n : ℕ) (from l : Local) (a : ℕ) → s.threads t ≡ live from → quiet_steps java_code n from ≡ Some l → java_code.next l ≡ Want (Print (lines.Made a)) → IsArrayOfOne us s a
+    printed_there t n from l a begun steps e =
+        let is : IsNamed us now a = keeps t n from l (Print (lines.Made a)) begun steps e (λ c k same. cc) (λ q i v same. cc) in
+        record { string = is.string; there = record { object = is.object; there = is.there; class = is.class }; array = is.array; some = is.some }
 
     module _ (kept : StateFits us s) (e : Event) (l : Local) (comes : Comes java_code s e l) where
       abbrev after_it : OrdinaryState Local
@@ -128,6 +147,19 @@ module _ (us : List ClassUnit) (order : List ℕ) (sound : IsSound us order) (ro
       both_same s m last r same
       (texts_same m last es r (next_kept s seen kept e l comes) (next_seen s seen kept e l comes) leads (next_string s seen kept e l comes r is) (λ none. some (sym same.array ∙ none)))
 
+  -- ---- the text of a String is a value
+
+  text_is_value : (s last : OrdinaryState Local) (es : List Event) (r : ℕ) → StateFits us s → IsSeen us s → Leads java_code s es last → IsStringAt us s r → IsLiteral us r ⊎ (array_in s r ≢ 0) → text_of us last r ≡ text_of us s r
+  text_is_value s last es r kept seen leads is (inr some) =
+      let array : IsArray us s (array_in s r) = elim (seen.strings r is.object is.there is.class) [ inl none ↦ absurd (some none) | inr text ↦ seen.arrays (array_in s r) text ] in
+      made_text_same us s last r some (texts_same s last es r kept seen leads is some) array.object array.there
+  text_is_value s last es r kept seen leads is (inl (n, within, at)) =
+      let fixed : IsFixed us (string_object (program_names us) n) (Class STRING) = follow.literals n within in
+      let string : IsString us fixed.object.class ≡ true = is_string us order sound fixed.object.class fixed.fits.class fixed.stands in
+      let there : fixed_of us r ≡ Some fixed.object = subst (λ x. fixed_of us x ≡ Some fixed.object) (sym at) fixed.there in
+      let later : IsSeen us last = (reached_seen s last es kept seen leads).1 in
+      literal_text_same us s last r fixed.object (seen.fixed r fixed.object there) (later.fixed r fixed.object there) (seen.literals r fixed.object there string) (later.literals r fixed.object there string)
+
   module _ (main : MethodId) (is : IsMainMethod us main) where
     abbrev start : OrdinaryState Local
     start = start_of_program us main
@@ -141,5 +173,7 @@ module _ (us : List ClassUnit) (order : List ℕ) (sound : IsSound us order) (ro
     pub stay_from_start : TextsStay us start
     stay_from_start = record {
       stay = λ s last es r reached leads string some. let now = reached_seen start s reached.0 kept first reached.1 in texts_same s last es r now.0 now.1 leads string some;
+      values = λ s last es r reached leads string has. let now = reached_seen start s reached.0 kept first reached.1 in text_is_value s last es r now.0 now.1 leads string has;
       read = λ s t n from l r reached begun steps e string. read_there s (reached_seen start s reached.0 kept first reached.1).1 t n from l r begun steps e string;
+      printed = λ s t n from l a reached begun steps e. printed_there s (reached_seen start s reached.0 kept first reached.1).1 t n from l a begun steps e;
     }

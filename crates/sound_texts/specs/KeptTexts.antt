@@ -24,21 +24,22 @@ pub record IsArray (us : List ClassUnit) (s : OrdinaryState Local) (r : ℕ) : T
 abbrev pub IsUnnamed : List ClassUnit → OrdinaryState Local → ℕ → Type 0
 IsUnnamed us s r = (q : ℕ) (o : Object) → s.objects q ≡ Some o → IsString us o.class ≡ true → s.words q STRING_UNITS ≢ r
 
--- a new String, which has no array yet
+-- a new String, which has no array yet, and wasn't there from the start
 pub record IsNew (us : List ClassUnit) (s : OrdinaryState Local) (r : ℕ) : Type 0 where
   pub object : Object
   pub there : s.objects r ≡ Some object
   pub class : IsString us object.class ≡ true
   pub empty : s.words r STRING_UNITS ≡ 0
+  pub fresh : (o : Object) → fixed_of us r ≡ Some o → ⊥
 
 -- what a thread has of a text that it makes
 abbrev pub MakingFits : List ClassUnit → (s : OrdinaryState Local) → (ℕ → Bool) → Preceding → Type 0
-MakingFits us s texts (a_text (filling r n)) = (texts r ≡ true) × IsUnnamed us s r
+MakingFits us s texts (a_text (filling r)) = (texts r ≡ true) × IsUnnamed us s r
 MakingFits us s texts (a_text (naming r q)) = (texts r ≡ true) × (IsUnnamed us s r × IsNew us s q)
 MakingFits us s texts b = Unit {0}
 
 abbrev pub array_of : Preceding → Option ℕ
-array_of (a_text (filling r n)) = Some r
+array_of (a_text (filling r)) = Some r
 array_of (a_text (naming r q)) = Some r
 array_of b = None
 
@@ -64,6 +65,8 @@ pub record IsSeen (us : List ClassUnit) (s : OrdinaryState Local) : Type 0 where
   pub begun : (r : ℕ) (o : Object) → fixed_of us r ≡ Some o → texts r ≡ true → ⊥
   pub arrays : (r : ℕ) → texts r ≡ true → IsArray us s r
   pub strings : (r : ℕ) (o : Object) → s.objects r ≡ Some o → IsString us o.class ≡ true → (s.words r STRING_UNITS ≡ 0) ⊎ (texts (s.words r STRING_UNITS) ≡ true)
+  -- a literal has none
+  pub literals : (r : ℕ) (o : Object) → fixed_of us r ≡ Some o → IsString us o.class ≡ true → s.words r STRING_UNITS ≡ 0
   pub words : (r i : ℕ) → HoldsPlain us (seen_in us s texts fixed begun) r i (s.words r i)
   -- what comes before the plan of each thread
   pub preceding : ℕ → Preceding

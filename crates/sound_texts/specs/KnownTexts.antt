@@ -10,15 +10,17 @@ use Rattle.link_rules.specs.Classes.{classes_of}
 use Rattle.link_rules.specs.Names.{program_names, type_numbered}
 use Rattle.link_rules.specs.Supers.{superclasses}
 use Rattle.op_core.specs.declared.Op.{Op}
-use Rattle.op_core.specs.declared.Op.TheVariants.{Read, Write, New, Start}
+use Rattle.op_core.specs.declared.Op.TheVariants.{Read, Write, New, Start, Print}
 use Rattle.op_core.specs.declared.Reply.{Reply}
 use Rattle.op_core.specs.declared.Reply.TheVariants.{Value, Made, Done}
+use Rattle.op_core.specs.declared.Line.TheVariants as lines
 use Rattle.op_core.specs.OrdinaryState.{Object}
 use Rattle.java_rows.specs.Program.{is_subclass}
 use Rattle.kept_states.specs.Kept.{Extends}
 use Rattle.soundness_senses.specs.Senses.{Sense, Making, filling, naming, PlainSteps, reference}
 use Rattle.soundness_senses.specs.Runs.{Known, HasObject, fixed_of, WordHolds, runs}
 use Rattle.soundness_senses.specs.Texts.{char_array}
+use Rattle.sound_priorities.specs.Seen.{IsTypeBelow}
 
 abbrev pub IsString : List ClassUnit → ℕ → Bool
 IsString us c = is_subclass us c STRING
@@ -35,6 +37,15 @@ pub record Seen (us : List ClassUnit) : Type 0 where
   pub units : ℕ → ℕ
   pub begun : (r : ℕ) (o : Object) → fixed_of us r ≡ Some o → texts r ≡ true → ⊥
 
+-- the array of a String that is there
+pub record IsNamed (us : List ClassUnit) (h : Seen us) (r : ℕ) : Type 0 where
+  pub string : ℕ
+  pub object : Object
+  pub there : h.known.objects string ≡ Some object
+  pub class : IsString us object.class ≡ true
+  pub array : h.units string ≡ r
+  pub some : r ≢ 0
+
 -- a String that was there from the start, or has an array
 abbrev pub HasText : (us : List ClassUnit) → Seen us → ℕ → Object → Type 0
 HasText us h r o = (fixed_of us r ≡ Some o) ⊎ (h.units r ≢ 0)
@@ -45,11 +56,6 @@ pub record IsPlain (us : List ClassUnit) (h : Seen us) (r : ℕ) : Type 0 where
   pub there : h.known.objects r ≡ Some object
   pub clear : h.texts r ≡ true → ⊥
   pub text : IsString us object.class ≡ true → HasText us h r object
-
--- String is the class of the type, or above it
-abbrev pub IsStringType : List ClassUnit → ObjectType → Type 0
-IsStringType us (Class c) = Contains (superclasses (classes_of us) c) STRING
-IsStringType us _ = ⊥
 
 -- the place is neither in the array of a text nor that of a String's array
 abbrev pub IsElsewhere : (us : List ClassUnit) → Seen us → ℕ → ℕ → Type 0
@@ -63,25 +69,26 @@ HoldsPlain us h r i v = (o : Object) (t : ObjectType) → h.known.objects r ≡ 
 abbrev pub HoldsText : (us : List ClassUnit) → Seen us → ℕ → ℕ → ℕ → Type 0
 HoldsText us h r i v = (o : Object) → h.known.objects r ≡ Some o → IsString us o.class ≡ true → i ≡ STRING_UNITS → (v ≡ 0) ⊎ (h.texts v ≡ true)
 
--- what is read, written and started keeps this
+-- what is read, written, started and printed keeps this
 abbrev pub KeepsTexts : (us : List ClassUnit) → Seen us → Op → Type 0
 KeepsTexts us h (Read r i) = (o : Object) → h.known.objects r ≡ Some o → IsString us o.class ≡ true → i ≡ STRING_UNITS → HasText us h r o
 KeepsTexts us h (Write r i v) = IsElsewhere us h r i × HoldsPlain us h r i v
 KeepsTexts us h (Start r p) = IsPlain us h r
+KeepsTexts us h (Print (lines.Made r)) = IsNamed us h r
 KeepsTexts us h op = Unit {0}
 
 -- what was read, and what was made for another purpose
 abbrev pub TellsTexts : (us : List ClassUnit) → Seen us → Op → Reply → Type 0
-TellsTexts us h (Read r i) (Value v) = HoldsPlain us h r i v × HoldsText us h r i v
+TellsTexts us h (Read r i) (Value v) = HoldsPlain us h r i v × HoldsText us h r i v × (i ≡ STRING_UNITS → v ≡ h.units r)
 TellsTexts us h (New c n) (Made r) = h.texts r ≡ true → ⊥
 TellsTexts us h op reply = Unit {0}
 
--- objects stay, the arrays of texts among them stay the same, and a String that has an array keeps one
+-- objects stay, the arrays of texts among them stay the same, and a String that has an array keeps it
 pub record GoesOn (us : List ClassUnit) (h h' : Seen us) : Type 0 where
   pub objects : Extends h.known.objects h'.known.objects
   pub texts : (r : ℕ) (o : Object) → h.known.objects r ≡ Some o → h.texts r ≡ true → h'.texts r ≡ true
   pub others : (r : ℕ) (o : Object) → h.known.objects r ≡ Some o → h'.texts r ≡ true → h.texts r ≡ true
-  pub units : (r : ℕ) (o : Object) → h.known.objects r ≡ Some o → IsString us o.class ≡ true → h.units r ≢ 0 → h'.units r ≢ 0
+  pub units : (r : ℕ) (o : Object) → h.known.objects r ≡ Some o → IsString us o.class ≡ true → h.units r ≢ 0 → h'.units r ≡ h.units r
 
 abbrev pub Wants : (us : List ClassUnit) → Seen us → Op → Type 0
 Wants us h op = (runs us).may_want h.known op × KeepsTexts us h op
@@ -94,14 +101,14 @@ After us = Option Making → Seen us → Reply → Type 0
 
 -- A text is made: its array, which the thread alone writes, then its String, and at last the String's word.
 abbrev pub BeginsText : (us : List ClassUnit) → Seen us → Op → After us → Type 0
-BeginsText us h (New c n) next = IsCharArray us c × ((h' : Seen us) (r : ℕ) → GoesOn us h h' → next (Some (filling r n)) h' (Made r))
+BeginsText us h (New c n) next = IsCharArray us c × ((h' : Seen us) (r : ℕ) → GoesOn us h h' → next (Some (filling r)) h' (Made r))
 BeginsText us h op next = ⊥
 
-abbrev pub FillsText : (us : List ClassUnit) → ℕ → ℕ → Seen us → Op → After us → Type 0
-FillsText us r n h (Write q i v) next = (q ≡ r) × ((h' : Seen us) → GoesOn us h h' → next (Some (filling r n)) h' Done)
-FillsText us r n h (New c m) next = (c ≡ STRING)
+abbrev pub FillsText : (us : List ClassUnit) → ℕ → Seen us → Op → After us → Type 0
+FillsText us r h (Write q i v) next = (q ≡ r) × ((h' : Seen us) → GoesOn us h h' → next (Some (filling r)) h' Done)
+FillsText us r h (New c m) next = (c ≡ STRING)
     × ((h' : Seen us) (s : ℕ) → GoesOn us h h' → HasObject us h'.known.objects s (Class STRING) → (h'.texts s ≡ true → ⊥) → next (Some (naming r s)) h' (Made s))
-FillsText us r n h op next = ⊥
+FillsText us r h op next = ⊥
 
 abbrev pub NamesText : (us : List ClassUnit) → ℕ → ℕ → Seen us → Op → After us → Type 0
 NamesText us r s h (Write q i v) next = (q ≡ s) × (i ≡ STRING_UNITS) × (v ≡ r) × ((h' : Seen us) → GoesOn us h h' → h'.units s ≢ 0 → next None h' Done)
@@ -109,7 +116,7 @@ NamesText us r s h op next = ⊥
 
 abbrev pub TextSteps : (us : List ClassUnit) → Option Making → Seen us → Op → After us → Type 0
 TextSteps us None h op next = PlainSteps (GoesOn us) (Wants us) (Comes us) None h op next ⊎ BeginsText us h op next
-TextSteps us (Some (filling r n)) h op next = FillsText us r n h op next
+TextSteps us (Some (filling r)) h op next = FillsText us r h op next
 TextSteps us (Some (naming r s)) h op next = NamesText us r s h op next
 
 abbrev pub text_sense : (us : List ClassUnit) → Sense (Seen us)
@@ -118,12 +125,12 @@ text_sense us = record {
   exact = Unit {0};
   is_priority = (runs us).is_priority;
   is_there = λ h r. (runs us).is_there h.known r;
-  is_raw = λ h r t. (runs us).is_raw h.known r t × ((h.texts r ≡ true → ⊥) × (IsPlain us h r ⊎ IsStringType us t));
+  is_raw = λ h r t. (runs us).is_raw h.known r t × ((h.texts r ≡ true → ⊥) × (IsPlain us h r ⊎ IsTypeBelow us STRING t));
   is_of = λ h r t. (runs us).is_of h.known r t × IsPlain us h r;
   is_exactly = λ h r c n. (runs us).is_exactly h.known r c n;
   is_thrown = λ h r c. (runs us).is_thrown h.known r c × IsPlain us h r;
   has_word = λ h r i k. (runs us).has_word h.known r i k × IsElsewhere us h r i;
-  is_text = λ h r. HasObject us h.known.objects r char_array × (h.texts r ≡ true);
+  is_text = λ h r. HasObject us h.known.objects r char_array × (h.texts r ≡ true) × IsNamed us h r;
   may_want = Wants us;
   may_come = Comes us;
   steps = TextSteps us;

@@ -99,7 +99,7 @@ module _ (us : List ClassUnit) (follow : ClassesFollow us) where
   same_object : (h : Objects) (r c n : ℕ) (t : ObjectType) (of : HasObject us h r t) (is : IsObject (ObjectFits us) h r c n) → of.object ≡ is.object
   same_object h r c n t of is = same_Some of.object is.object (sym of.there ∙ is.there)
 
-  unit_there : (h : Known us) (r c n i : ℕ) → HasObject us h.objects r char_array → IsObject (ObjectFits us) h.objects r c n → i < n → HasWordFor us h.objects r i number
+  pub unit_there : (h : Known us) (r c n i : ℕ) → HasObject us h.objects r char_array → IsObject (ObjectFits us) h.objects r c n → i < n → HasWordFor us h.objects r i number
   unit_there h r c n i of exactly within =
       let same = same_object h.objects r c n char_array of exactly in
       (each_word h.objects r i of.object (number ∷ []) h of.there of.fits (follow.elements r i of.object elements.Char char_array tt of.fits of.stands refl (omega (arith, within, ap (λ (o : Object). o.length) same, exactly.length)))).0
@@ -152,7 +152,7 @@ module _ (us : List ClassUnit) (follow : ClassesFollow us) where
     waits = λ h r is. is;
     rewakes = λ h r is. is;
     notifies = λ h r is. is;
-    prints = λ h line. tt;
+    prints = λ h line fits. tt;
     starts = λ h r p is may. (is, omega arith);
     joins = λ h r is. is;
     inits = λ h c file. file;

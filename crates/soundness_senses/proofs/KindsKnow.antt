@@ -63,7 +63,7 @@ module _ (us : List ClassUnit) where
     waits = λ h r is. tt;
     rewakes = λ h r is. tt;
     notifies = λ h r is. tt;
-    prints = λ h line. tt;
+    prints = λ h line fits. tt;
     starts = λ h r p is may. tt;
     joins = λ h r is. tt;
     inits = λ h c file. file;

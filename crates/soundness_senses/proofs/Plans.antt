@@ -12,7 +12,7 @@ use Rattle.java_rows.specs.Natives.{on_woken, on_started}
 use Rattle.java_rows.specs.Plan.{Plan, want, over, ends_thread, on_class, on_value, on_made, on_done, on_owner, on_init, asks_class, reads, writes, makes, enters, exits, settles}
 use Rattle.soundness_senses.specs.Senses.{Sense, Content, WordFits}
 use Rattle.soundness_senses.specs.Fits.{Returns, anything, a_wait, after_reply, PlanFits}
-use Rattle.soundness_senses.specs.Knowledge.{Knows}
+use Rattle.soundness_senses.specs.Knowledge.{Knows, LineFits}
 
 module _ {P : Type 0} (know : Sense P) (us : List ClassUnit) (knows : Knows know us) (res : Option Returns) (h : P) where
   -- a plan that fits, however much more is known
@@ -128,8 +128,8 @@ module _ {P : Type 0} (know : Sense P) (us : List ClassUnit) (knows : Knows know
       go h' Already more come = refused h' more
       go h' reply more come = absurd (knows.fits h' (Start t p) reply come)
 
-  pub prints_fit : (line : Line) (k : Plan) → Later k → PlanFits know us res anything (want (Print line) (on_done k)) h
-  prints_fit line k next = knows.asks res anything h (Print line) (on_done k) tt refl (knows.prints h line) go
+  pub prints_fit : (line : Line) (k : Plan) → LineFits know h line → Later k → PlanFits know us res anything (want (Print line) (on_done k)) h
+  prints_fit line k fits next = knows.asks res anything h (Print line) (on_done k) tt refl (knows.prints h line fits) go
     where
       go : (h' : P) (reply : Reply) → know.extends h h' → know.may_come h' (Print line) reply → PlanFits know us res (after_reply (Print line) reply) (on_done k reply) h'
       go h' Done more come = next h' more

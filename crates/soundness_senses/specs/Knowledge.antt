@@ -34,6 +34,7 @@ use Rattle.java_rows.specs.Texts.{makes_array}
 use Rattle.link_types.specs.declared.operands.Operand.TheVariants as operands
 use Rattle.link_types.specs.declared.types.ElementType.TheVariants as element_types_
 use Rattle.link_types.specs.declared.types.ValueType.TheVariants as values
+use Rattle.op_core.specs.declared.Line.TheVariants as lines
 use Rattle.op_core.specs.declared.Reply.TheVariants as replies
 use Rattle.instructions.specs.declared.operation.ElementKind.TheVariants as elements
 
@@ -47,6 +48,11 @@ contents_of _ = number ∷ []
 abbrev pub HasWords : {P : Type 0} → Sense P → P → ℕ → ℕ → List Content → Type 0
 HasWords know h r i [] = Unit {0}
 HasWords know h r i (k ∷ ks) = know.has_word h r i k × HasWords know h r (suc i) ks
+
+-- a line of a String that the program made names its array
+abbrev pub LineFits : {P : Type 0} → Sense P → P → Line → Type 0
+LineFits know h (lines.Made r) = know.is_text h r
+LineFits know h line = Unit {0}
 
 -- a new object may have this class and this length
 pub record CanBeMade (us : List ClassUnit) (c n : ℕ) : Type 0 where
@@ -117,7 +123,7 @@ pub record Knows {P : Type 0} (know : Sense P) (us : List ClassUnit) : Type 0 wh
   pub waits : (h : P) (r : ℕ) → know.is_there h r → know.may_want h (Wait r)
   pub rewakes : (h : P) (r : ℕ) → know.is_there h r → know.may_want h (Rewake r)
   pub notifies : (h : P) (r : ℕ) → know.is_there h r → know.may_want h (Notify r)
-  pub prints : (h : P) (line : Line) → know.may_want h (Print line)
+  pub prints : (h : P) (line : Line) → LineFits know h line → know.may_want h (Print line)
   pub starts : (h : P) (r p : ℕ) → know.is_of h r (Class THREAD) → know.is_priority p → know.may_want h (Start r (p % 2 ^ 8))
   pub joins : (h : P) (r : ℕ) → know.is_of h r (Class THREAD) → know.may_want h (Join r)
   pub inits : (h : P) (c : ℕ) → is_of_file us c ≡ true → know.may_want h (Init c)

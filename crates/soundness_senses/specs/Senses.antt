@@ -9,9 +9,9 @@ pub data Content : Type 0 where
   number : Content
   reference : ObjectType → Content
 
--- what a thread has of a text that it makes: a char array of a length, and then its String too
+-- what a thread has of a text that it makes: a char array, and then its String too
 pub data Making : Type 0 where
-  filling : ℕ → ℕ → Making
+  filling : ℕ → Making
   naming : ℕ → ℕ → Making
 
 -- Something is known of references in each state of knowledge, and it only grows.
