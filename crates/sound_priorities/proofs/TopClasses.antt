@@ -102,16 +102,19 @@ module _ (us : List ClassUnit) (order : List ℕ) (sound : IsSound us order) whe
     some : k ≢ 0
     some e = let low : 1 < k = top.low in omega (arith, e, low)
 
+    no_object : k ≢ OBJECT
+    no_object e = let low : 1 < k = top.low in omega (arith, e, low)
+
     within : k ≤ length (classes_of us)
     within = let few : k ≤ 28 = top.few in omega (arith, few, count)
 
     -- a class whose number is below
     pub number_below : (c : ℕ) → is_subclass us c k ≡ true → IsBelowClass us order sound c k
-    number_below c is = subclass_below us order sound k top.class some c within is
+    number_below c is = subclass_below us order sound k top.class no_object c within is
 
     -- what may be used as one of it is below
     pub used_below : (c : ℕ) → is_class_number (program_names us) k ≡ true → is_class_number (program_names us) c ≡ true → MayStandFor us c (Class k) → is_subclass us c k ≡ true
-    used_below c number is stands = is_below us order sound k top.class some c is number within stands
+    used_below c number is stands = is_below us order sound k top.class no_object c is number within stands
 
     -- and what may be used as one of another isn't
     pub apart : (d : ℕ) → IsTopClass us d → d ≢ k → (c : ℕ) → is_class_number (program_names us) c ≡ true → MayStandFor us c (Class d) → is_subclass us c k ≡ true → ⊥

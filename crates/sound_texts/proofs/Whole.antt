@@ -176,4 +176,9 @@ module _ (us : List ClassUnit) (order : List ℕ) (sound : IsSound us order) (ro
       values = λ s last es r reached leads string has. let now = reached_seen start s reached.0 kept first reached.1 in text_is_value s last es r now.0 now.1 leads string has;
       read = λ s t n from l r reached begun steps e string. read_there s (reached_seen start s reached.0 kept first reached.1).1 t n from l r begun steps e string;
       printed = λ s t n from l a reached begun steps e. printed_there s (reached_seen start s reached.0 kept first reached.1).1 t n from l a begun steps e;
+      line = λ s last es t n from l a reached leads begun steps e i.
+          let now = reached_seen start s reached.0 kept first reached.1 in
+          let one : IsArrayOfOne us s a = printed_there s now.1 t n from l a begun steps e in
+          let same : HasSameText s last one.string = texts_same s last es one.string now.0 now.1 leads one.there (λ none. one.some (sym one.array ∙ none)) in
+          subst (λ x. last.words x i ≡ s.words x i) one.array (same.units i);
     }

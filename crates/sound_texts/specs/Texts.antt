@@ -63,3 +63,6 @@ pub record TextsStay (us : List ClassUnit) (start : OrdinaryState Local) : Type 
   pub read : (s : OrdinaryState Local) (t n : ℕ) (from l : Local) (r : ℕ) → IsReached java_code start s → s.threads t ≡ live from → quiet_steps java_code n from ≡ Some l → java_code.next l ≡ Want (Read r STRING_UNITS) → IsStringAt us s r
       → IsLiteral us r ⊎ (array_in s r ≢ 0)
   pub printed : (s : OrdinaryState Local) (t n : ℕ) (from l : Local) (a : ℕ) → IsReached java_code start s → s.threads t ≡ live from → quiet_steps java_code n from ≡ Some l → java_code.next l ≡ Want (Print (lines.Made a)) → IsArrayOfOne us s a
+  -- what is printed is what the array has then and later
+  pub line : (s last : OrdinaryState Local) (es : List Event) (t n : ℕ) (from l : Local) (a : ℕ) → IsReached java_code start s → Leads java_code s es last → s.threads t ≡ live from → quiet_steps java_code n from ≡ Some l → java_code.next l ≡ Want (Print (lines.Made a))
+      → (i : ℕ) → last.words a i ≡ s.words a i

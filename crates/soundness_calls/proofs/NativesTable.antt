@@ -1,10 +1,10 @@
 -- The methods of the built-in classes, one by one.
-use Rattle.std.proofs.Common.{◌≡◌, ◌⊎◌, ◌^◌, ◌%◌, ◌==◌, ◌&&◌, ℕ, Bool, true, false, inl, inr, Option, None, Some, List, [], ◌∷◌, refl, sym, ap, subst, ◌∙◌, arith, nat_le, if◌then◌else◌}
+use Rattle.std.proofs.Common.{◌≡◌, ◌⊎◌, ◌^◌, ◌%◌, ◌==◌, ◌&&◌, ℕ, Bool, true, false, inl, inr, Option, None, Some, List, [], ◌∷◌, refl, sym, ap, subst, ◌∙◌, nat_le, if◌then◌else◌}
 use Rattle.std.proofs.lemmas.Bool.{eqb-false, and_parts, leb-true}
 use Rattle.std.specs.Int.{w32, w64, cast_signed}
 use Rattle.builtin_world.specs.declared.Native.{Native}
 use Rattle.builtin_world.specs.declared.Native.TheVariants.{ObjectInit, ObjectWait, ObjectNotify, ObjectNotifyAll, ObjectEquals, PrintlnEmpty, PrintlnInt, PrintlnLong, PrintlnChar, PrintlnBoolean, PrintlnString, ThreadInit, ThreadInitTarget, ThreadStart, ThreadRun, ThreadJoin, ThreadSetPriority, ThreadGetPriority, ThreadCurrentThread, ThreadYield, ThrowableInit, ThrowableInitMessage, ThrowableGetMessage, StringLength, StringCharAt, StringEquals, StringConcat, BuilderInit, BuilderInitText, AppendInt, AppendLong, AppendChar, AppendBoolean, AppendString, BuilderLength, BuilderToString}
-use Rattle.builtin_world.specs.declared.number.TheConstants.{OBJECT, THREAD, RUNNABLE, STRING, STRING_BUILDER, THROWABLE, NULL_POINTER_EXCEPTION, ILLEGAL_MONITOR_STATE_EXCEPTION, ILLEGAL_ARGUMENT_EXCEPTION, ILLEGAL_THREAD_STATE_EXCEPTION}
+use Rattle.builtin_world.specs.declared.number.TheConstants.{OBJECT, THREAD, RUNNABLE, STRING, STRING_BUILDER, THROWABLE, ILLEGAL_MONITOR_STATE_EXCEPTION, ILLEGAL_ARGUMENT_EXCEPTION, ILLEGAL_THREAD_STATE_EXCEPTION}
 use Rattle.builtin_world.specs.declared.word.TheConstants.{STRING_UNITS, THREAD_PRIORITY, THREAD_TARGET, THROWABLE_MESSAGE}
 use Rattle.builtin_world.specs.Laws.{is_throwable}
 use Rattle.code_decode.specs.declared.code.ClassUnit.{ClassUnit}
@@ -16,7 +16,6 @@ use Rattle.java_rows.specs.Natives.{native, not_owner, prints, prints_string, st
 use Rattle.java_rows.specs.Plan.{finds, Use, want, writes, reads, raises, asks_class}
 use Rattle.soundness_senses.specs.Senses.{Sense, IsReference, reference}
 use Rattle.soundness_senses.specs.Fits.{Returns, ResultFits, ValuesFit, IsMade, PlanFits, anything, EndsFit, UseFits}
-use Rattle.soundness_senses.specs.Texts.{char_array}
 use Rattle.soundness_senses.specs.Knowledge.{Knows}
 use Rattle.soundness_senses.specs.Accepted.{Accepted}
 use Rattle.soundness_senses.specs.Natives.{FitsNative, IsNativeOf, IsNativeConstructor, native_takes, native_gives, native_static}

@@ -1,29 +1,26 @@
 -- Texts that are read and made: every loop over units by one induction over their count.
-use Rattle.std.proofs.Common.{◌≡◌, ◌⊎◌, inl, inr, ◌<◌, ◌≤◌, ◌+◌, ◌-◌, ◌^◌, ◌==◌, ℕ, zero, suc, Bool, true, false, Option, None, List, [], ◌∷◌, ◌++◌, length, slice_get, refl, sym, ap, subst, arith, nat_lt, if◌then◌else◌}
-use Rattle.std.specs.Option.{option_map, option_map_or, unwrap_or}
-use Rattle.std.proofs.lemmas.Bool.{eqb-false, ltb-true, ltb-false, le-leb}
+use Rattle.std.proofs.Common.{◌≡◌, ◌⊎◌, inl, inr, ◌+◌, ◌^◌, ◌==◌, ℕ, zero, suc, Bool, true, false, Option, List, [], ◌∷◌, ◌++◌, length, refl, sym, subst, arith, if◌then◌else◌}
+use Rattle.std.specs.Option.{option_map_or}
+use Rattle.std.proofs.lemmas.Bool.{eqb-false, ltb-true}
 use Rattle.std.proofs.lemmas.List.{length-append}
 use Rattle.builtin_world.specs.declared.number.TheConstants.{OBJECT, STRING, STRING_BUILDER, NEGATIVE_ARRAY_SIZE_EXCEPTION}
-use Rattle.builtin_world.specs.declared.word.TheConstants.{STRING_UNITS, BUILDER_TEXT}
+use Rattle.builtin_world.specs.declared.word.TheConstants.{BUILDER_TEXT}
 use Rattle.code_decode.specs.declared.code.ClassUnit.{ClassUnit}
 use Rattle.link_types.specs.declared.types.ObjectType.TheVariants.{Class}
-use Rattle.link_rules.specs.Classes.{classes_of}
-use Rattle.link_rules.specs.Names.{program_names, type_named, type_numbered, is_class_number}
+use Rattle.link_rules.specs.Names.{program_names}
 use Rattle.link_rules.specs.Readers.{primitive_array_number}
-use Rattle.link_rules.proofs.Numbers.{class_count_is}
 use Rattle.java_rows.specs.Numbers.{char_of}
-use Rattle.java_rows.specs.Plan.{Plan, Use, silently, stuck, raises, asks_class, writes}
-use Rattle.java_rows.specs.Texts.{reads_units, reads_array, reads_text, is_short, writes_units, makes_string, makes_array, makes_text, reads_so_far}
+use Rattle.java_rows.specs.Plan.{Plan, Use, silently, stuck, raises, asks_class}
+use Rattle.java_rows.specs.Texts.{reads_units, reads_array, reads_text, is_short, makes_array, makes_text, reads_so_far}
 use Rattle.java_rows.specs.Units.{literal_units}
-use Rattle.soundness_senses.specs.Senses.{Sense, IsReference, number, reference}
+use Rattle.soundness_senses.specs.Senses.{Sense, IsReference, reference}
 use Rattle.soundness_senses.specs.Fits.{Returns, PlanFits, anything}
-use Rattle.soundness_senses.specs.Texts.{char_array, AreWords}
+use Rattle.soundness_senses.specs.Texts.{AreWords}
 use Rattle.soundness_senses.specs.Knowledge.{Knows, CanBeMade}
 use Rattle.soundness_senses.specs.Accepted.{Accepted}
 use Rattle.soundness_objects.proofs.ReadValues.{there}
 use Rattle.soundness_senses.proofs.Plans.{asks_class_fit, reads_fit, reads_array_fit, reads_unit_fit}
 use Rattle.soundness_senses.proofs.TextsMade.{string_type}
-use Rattle.instructions.specs.declared.operation.ElementKind.TheVariants as kinds
 use Rattle.instructions.specs.declared.operation.PrimitiveType.TheVariants as primitives
 
 -- ---- units

@@ -1,5 +1,5 @@
 -- Texts are made by operations that may be wanted, where nothing of them is kept apart.
-use Rattle.std.proofs.Common.{◌≡◌, ◌<◌, ◌+◌, ◌-◌, ◌^◌, ℕ, zero, suc, None, Option, List, [], ◌∷◌, length, slice_get, refl, ap, arith, if◌then◌else◌}
+use Rattle.std.proofs.Common.{◌≡◌, ◌<◌, ◌+◌, ◌-◌, ◌^◌, ℕ, zero, suc, None, Option, List, [], ◌∷◌, length, slice_get, ap, arith, if◌then◌else◌}
 use Rattle.std.specs.Option.{option_map, unwrap_or}
 use Rattle.std.proofs.lemmas.Bool.{le-leb}
 use Rattle.builtin_world.specs.declared.number.TheConstants.{STRING}
@@ -17,7 +17,7 @@ use Rattle.op_core.specs.Replies.{Fits}
 use Rattle.java_rows.specs.Plan.{Plan, want, on_made, on_done, makes, writes}
 use Rattle.java_rows.specs.Texts.{writes_units, makes_string, makes_array}
 use Rattle.soundness_senses.specs.Senses.{Sense}
-use Rattle.soundness_senses.specs.Fits.{Returns, Preceding, Follows, PlanFits, after_reply, anything, making_of}
+use Rattle.soundness_senses.specs.Fits.{Returns, Follows, PlanFits, after_reply, anything}
 use Rattle.soundness_senses.specs.Texts.{char_array, AreWords}
 use Rattle.soundness_senses.specs.Knowledge.{CanBeMade}
 
