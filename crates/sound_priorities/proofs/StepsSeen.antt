@@ -1,25 +1,23 @@
 -- What is known in executions is kept by each step.
 use Rattle.std.proofs.Common.{◌≡◌, inl, ℕ, zero, suc, List, Option, None, Some, true, false, refl, sym, ap, subst, ◌∙◌}
-use Rattle.std.specs.Prelude.{IsNone, is_some, IsSomeAnd}
+use Rattle.std.specs.Prelude.{IsNone, is_some}
 use Rattle.std.specs.Option.{option_and_then}
 use Rattle.std.proofs.lemmas.Option.{same_Some}
 use Rattle.builtin_world.specs.declared.word.TheConstants.{THREAD_PRIORITY}
 use Rattle.code_decode.specs.declared.code.ClassUnit.{ClassUnit}
 use Rattle.op_core.specs.declared.Op.{Op}
-use Rattle.op_core.specs.declared.Op.TheVariants.{ClassOf, Read, Write, New, Start, End}
+use Rattle.op_core.specs.declared.Op.TheVariants.{Read, Write, New, Start, End}
 use Rattle.op_core.specs.declared.Reply.{Reply}
-use Rattle.op_core.specs.declared.Reply.TheVariants.{Class, Value, Made, Done, Number}
-use Rattle.op_core.specs.declared.Next.{Next}
-use Rattle.op_core.specs.declared.Next.TheVariants.{Silent, Want, Ended}
+use Rattle.op_core.specs.declared.Reply.TheVariants.{Value, Made, Done, Number}
+use Rattle.op_core.specs.declared.Next.TheVariants.{Silent, Want}
 use Rattle.op_core.specs.Orderly.{IsEnd}
 use Rattle.op_core.specs.OrdinaryState.{Object, OrdinaryState, Thread, live, ended, set_at}
 use Rattle.op_core.specs.OrdinaryStep.{IsStep, MayAnswer, after, objects_after, words_after, threads_after}
-use Rattle.op_core.specs.ThreadCode.{quiet_step, quiet_steps, quiet_to}
-use Rattle.op_core.proofs.ExecutionLemmas.{answers_fit}
+use Rattle.op_core.specs.ThreadCode.{quiet_step, quiet_steps}
 use Rattle.op_core.proofs.PointwiseLemmas.{set_at-at, set_at-hit}
 use Rattle.op_core.proofs.QuietLemmas.{quiet_step-silent}
 use Rattle.java_rows.specs.Thread.{Local, java_code, next_of, silent_of, reply_of, child_of}
-use Rattle.kept_states.specs.Kept.{Extends, IsObject, IsTrueReply}
+use Rattle.kept_states.specs.Kept.{Extends, IsTrueReply}
 use Rattle.soundness_senses.specs.Fits.{anything, after_reply}
 use Rattle.soundness_senses.specs.Knowledge.{Knows}
 use Rattle.soundness_senses.specs.Accepted.{Accepted}

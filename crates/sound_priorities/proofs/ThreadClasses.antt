@@ -1,5 +1,5 @@
 -- No class of another kind is a Thread's, and no field has the place of a Thread's priority.
-use Rattle.std.proofs.Common.{◌≡◌, ◌⊎◌, ◌<◌, ◌≤◌, ◌≢◌, ℕ, true, false, List, length, sym, arith}
+use Rattle.std.proofs.Common.{◌≡◌, ◌⊎◌, ◌<◌, ◌≤◌, ℕ, true, false, List, length, arith}
 use Rattle.builtin_world.specs.declared.number.TheConstants.{OBJECT, CLASS, PRINT_STREAM, STRING, STRING_BUILDER, THREAD, THROWABLE}
 use Rattle.code_decode.specs.declared.code.ClassUnit.{ClassUnit}
 use Rattle.link_types.specs.declared.operands.FieldOperand.{FieldOperand}

@@ -1,6 +1,5 @@
 -- What a step changes of Strings and of the arrays of texts.
 use Rattle.std.proofs.Common.{◌≡◌, ◌≢◌, ◌⊎◌, inl, inr, ◌<◌, ℕ, Bool, true, Option, None, Some, List, refl, sym, ap, subst, ◌∙◌, arith}
-use Rattle.std.proofs.lemmas.Option.{same_Some}
 use Rattle.builtin_world.specs.declared.word.TheConstants.{STRING_UNITS}
 use Rattle.code_decode.specs.declared.code.ClassUnit.{ClassUnit}
 use Rattle.op_core.specs.OrdinaryState.{Object, OrdinaryState}
@@ -12,7 +11,7 @@ use Rattle.soundness_senses.specs.Runs.{ObjectFits, fixed_of}
 use Rattle.java_sound.specs.Sound.{StateFits}
 use Rattle.std.specs.Prelude.{is_some}
 use Rattle.sound_texts.proofs.TextsKnow.{holds_more}
-use Rattle.sound_texts.specs.KnownTexts.{GoesOn, HoldsPlain, IsCharArray, IsString, Seen}
+use Rattle.sound_texts.specs.KnownTexts.{GoesOn, HoldsPlain, IsString, Seen}
 use Rattle.sound_texts.specs.KeptTexts.{AreApart, IsArray, IsNew, IsSeen, IsUnnamed, MakingFits, array_of, seen_in, string_of}
 
 -- from s to last: b is what the thread has of a text before the step

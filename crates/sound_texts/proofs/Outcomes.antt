@@ -13,8 +13,8 @@ use Rattle.op_core.specs.declared.Reply.{Reply}
 use Rattle.op_core.specs.declared.Reply.TheVariants.{Made, Done}
 use Rattle.op_core.specs.Orderly.{IsEnd}
 use Rattle.op_core.specs.OrdinaryState.{Object, OrdinaryState, set_at}
-use Rattle.op_core.specs.OrdinaryStep.{IsStep, MayAnswer, after}
-use Rattle.op_core.proofs.PointwiseLemmas.{set_at-at, set_at-hit, set_at-other}
+use Rattle.op_core.specs.OrdinaryStep.{IsStep, after}
+use Rattle.op_core.proofs.PointwiseLemmas.{set_at-at, set_at-hit}
 use Rattle.java_rows.specs.Plan.{Plan}
 use Rattle.java_rows.specs.Thread.{Local, java_code}
 use Rattle.soundness_senses.specs.Senses.{Making, PlainSteps, filling, naming, number, reference}
@@ -22,13 +22,12 @@ use Rattle.soundness_senses.specs.Fits.{Returns, Preceding, PlanFits, IsTheEnd, 
 use Rattle.link_types.specs.declared.types.ObjectType.{ObjectType}
 use Rattle.soundness_senses.specs.Knowledge.{element_type}
 use Rattle.soundness_senses.specs.Runs.{HasObject, MayStandFor, ObjectFits, WordHolds, of_numbers}
-use Rattle.soundness_senses.specs.Texts.{char_array}
 use Rattle.soundness_senses.proofs.Settled.{goes_on_after}
 use Rattle.soundness_senses.proofs.TextsMade.{string_type}
 use Rattle.soundness_runs.specs.ClassesFollow.{ClassesFollow}
 use Rattle.linked_operands.specs.Sound.{IsSound}
 use Rattle.java_sound.specs.Sound.{StateFits}
-use Rattle.sound_priorities.proofs.StepFacts.{not_free, objects_stay, reply_is_true}
+use Rattle.sound_priorities.proofs.StepFacts.{not_free, reply_is_true}
 use Rattle.sound_texts.specs.KnownTexts.{BeginsText, Comes, FillsText, GoesOn, HoldsPlain, IsCharArray, IsString, NamesText, Seen, TextSteps, Wants, text_sense}
 use Rattle.sound_texts.specs.KeptTexts.{AreApart, IsArray, IsNew, IsSeen, IsUnnamed, MakingFits, array_of, seen_in, string_of}
 use Rattle.sound_texts.proofs.Changes.{Changes, next, goes_on, still}

@@ -1,5 +1,5 @@
 -- What a step changes that isn't one of a text in the making.
-use Rattle.std.proofs.Common.{◌≡◌, ◌≢◌, ◌⊎◌, inl, inr, ℕ, Bool, true, Option, Some, List, refl, sym, ap, subst, ◌∙◌}
+use Rattle.std.proofs.Common.{◌≡◌, ◌≢◌, ◌⊎◌, inl, inr, ℕ, true, Option, Some, List, refl, sym, ap, subst, ◌∙◌}
 use Rattle.builtin_world.specs.declared.word.TheConstants.{STRING_UNITS}
 use Rattle.code_decode.specs.declared.code.ClassUnit.{ClassUnit}
 use Rattle.op_core.specs.declared.Op.{Op}
@@ -14,9 +14,9 @@ use Rattle.soundness_senses.specs.Fits.{Preceding}
 use Rattle.soundness_senses.specs.Runs.{RunsWant}
 use Rattle.java_sound.specs.Sound.{StateFits}
 use Rattle.sound_priorities.proofs.StepFacts.{not_free, objects_stay}
-use Rattle.sound_texts.specs.KnownTexts.{HoldsPlain, HoldsText, IsElsewhere, IsString, KeepsTexts, Seen, TellsTexts}
+use Rattle.sound_texts.specs.KnownTexts.{HoldsPlain, IsString, KeepsTexts, Seen, TellsTexts}
 use Rattle.sound_texts.specs.KeptTexts.{IsArray, IsSeen, seen_in}
-use Rattle.sound_texts.proofs.Changes.{Changes, next, goes_on, still, strings_after}
+use Rattle.sound_texts.proofs.Changes.{Changes, next, goes_on, still}
 use Rattle.sound_texts.proofs.TextsKnow.{holds_more}
 
 module _ (us : List ClassUnit) (s : OrdinaryState Local) (kept : StateFits us s) (seen : IsSeen us s) (t : ℕ) (l : Local) (op : Op) (reply : Reply) (step : IsStep java_code s t l op reply) where

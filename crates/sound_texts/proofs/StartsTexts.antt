@@ -1,5 +1,5 @@
 -- What is known of texts holds at the start of a program.
-use Rattle.std.proofs.Common.{◌≡◌, ◌⊎◌, inl, inr, ◌<◌, ◌≤◌, ◌^◌, ℕ, Bool, true, false, Some, List, length, map, cond, nat_eq, refl, sym, ap, subst, ◌∙◌, arith}
+use Rattle.std.proofs.Common.{◌≡◌, inl, inr, ◌≤◌, ◌^◌, ℕ, Bool, true, false, Some, List, map, cond, nat_eq, refl, sym, ap, subst, ◌∙◌}
 use Rattle.std.specs.Prelude.{unwrap_or, slice_get}
 use Rattle.std.proofs.lemmas.Option.{same_Some}
 use Rattle.builtin_world.specs.declared.number.TheConstants.{STRING}
@@ -10,7 +10,7 @@ use Rattle.fixed_objects.specs.Fixed.{fixed_at, fixed_header, fixed_word}
 use Rattle.link_types.specs.declared.operands.MethodId.{MethodId}
 use Rattle.link_types.specs.declared.types.ObjectType.{ObjectType}
 use Rattle.link_types.specs.declared.types.ElementType.TheVariants as elements
-use Rattle.link_rules.specs.FixedObjects.{ObjectAtStart, class_object, first_free, objects_at_start, string_object}
+use Rattle.link_rules.specs.FixedObjects.{ObjectAtStart, class_object, first_free, objects_at_start}
 use Rattle.link_rules.specs.Names.{program_names}
 use Rattle.op_core.specs.OrdinaryState.{Object, live, unused}
 use Rattle.java_rows.specs.Start.{fixed_object, start_of_program}
@@ -71,8 +71,7 @@ module _ (us : List ClassUnit) (order : List ℕ) (sound : IsSound us order) (ro
   literal_here r x e string =
       let (f, found, same) = from_map fixed_header (fixed_at (map fixed_object (objects_at_start (program_names us) us)) r) x e in
       let row : IsInRow (objects_at_start (program_names us) us) r f = row_object (objects_at_start (program_names us) us) r f found in
-      let here : IsLiteralHere row.object = literal_known row.object x (is_at_start us row.place row.object row.there) (ap (fixed_of us) (sym row.at) ∙ e) string in
-      (
+      let here : IsLiteralHere row.object = literal_known row.object x (is_at_start us row.place row.object row.there) (ap (fixed_of us) (sym row.at) ∙ e) string in (
         subst (IsLiteral us) (sym row.at) here.0,
         subst (λ o. fixed_word o STRING_UNITS ≡ 0) (sym found) (subst (λ (g : FixedObject). unwrap_or (slice_get g.words STRING_UNITS) 0 ≡ 0) (sym row.same) here.1),
       )

@@ -1,5 +1,5 @@
 -- What is known of texts is kept by each step.
-use Rattle.std.proofs.Common.{◌≡◌, ◌≢◌, ◌⊎◌, inl, inr, ℕ, zero, suc, Bool, true, List, Option, None, Some, refl, sym, subst, ◌∙◌}
+use Rattle.std.proofs.Common.{◌≡◌, ◌≢◌, inl, inr, ℕ, zero, suc, List, Option, None, Some, refl, sym, subst, ◌∙◌}
 use Rattle.std.specs.Option.{option_and_then}
 use Rattle.std.proofs.lemmas.Option.{same_Some}
 use Rattle.builtin_world.specs.declared.number.TheConstants.{THREAD}
@@ -33,7 +33,7 @@ use Rattle.sound_priorities.proofs.StepFacts.{quiet_next}
 use Rattle.sound_texts.specs.KnownTexts.{GoesOn, Seen, TextSteps, text_sense}
 use Rattle.sound_texts.specs.KeptTexts.{AreApart, IsSeen, MakingFits, SeenLocal, seen_in}
 use Rattle.sound_texts.proofs.Changes.{begun_after, fixed_after, goes_on, literals_after, making_after, next, strings_after}
-use Rattle.sound_texts.proofs.Outcomes.{After, Outcome, outcome}
+use Rattle.sound_texts.proofs.Outcomes.{Outcome, outcome}
 
 silent_no : (op : Op) → ◌≡◌ {A = Next} Silent (Want op) → ⊥
 silent_no op e = cc

@@ -1,5 +1,5 @@
 -- Of texts all is known that the rows need.
-use Rattle.std.proofs.Common.{◌≡◌, ◌≢◌, ◌⊎◌, inl, inr, ◌<◌, ◌≤◌, ◌+◌, ℕ, zero, suc, Bool, true, false, Option, None, Some, List, [], ◌∷◌, length, refl, sym, ap, subst, ◌∙◌, arith}
+use Rattle.std.proofs.Common.{◌≡◌, ◌≢◌, ◌⊎◌, inl, inr, ◌<◌, ◌≤◌, ℕ, zero, suc, Bool, true, false, Option, None, Some, List, [], ◌∷◌, length, refl, sym, ap, subst, ◌∙◌, arith}
 use Rattle.std.proofs.lemmas.Option.{same_Some}
 use Rattle.builtin_world.specs.declared.number.TheConstants.{CLASS, STRING, THREAD}
 use Rattle.builtin_world.specs.declared.word.TheConstants.{BUILDER_TEXT, STRING_UNITS, THREAD_PRIORITY, THREAD_TARGET, THROWABLE_MESSAGE}
@@ -7,7 +7,6 @@ use Rattle.code_decode.specs.declared.code.ClassUnit.{ClassUnit}
 use Rattle.link_types.specs.declared.types.ObjectType.{ObjectType}
 use Rattle.link_types.specs.declared.types.ObjectType.TheVariants.{Array, Class, Other}
 use Rattle.link_types.specs.declared.types.ElementType.TheVariants.{Char}
-use Rattle.link_rules.specs.Classes.{classes_of}
 use Rattle.link_rules.specs.FixedObjects.{class_object}
 use Rattle.link_rules.specs.Names.{program_names, type_numbered}
 use Rattle.op_core.specs.declared.Op.{Op}
@@ -22,12 +21,12 @@ use Rattle.soundness_senses.specs.Senses.{Content, number, reference, Making, fi
 use Rattle.soundness_senses.specs.Fits.{Returns, PlanFits, anything, a_text, following, making_of}
 use Rattle.soundness_senses.specs.Texts.{char_array}
 use Rattle.soundness_senses.specs.Knowledge.{Knows, LineFits, HasWords, contents_of, element_contents, element_place}
-use Rattle.soundness_senses.specs.Runs.{HasObject, HasWordFor, IsThread, MayStandFor, ObjectFits, RunsWant, WordHolds, runs}
+use Rattle.soundness_senses.specs.Runs.{HasObject, HasWordFor, MayStandFor, ObjectFits, RunsWant, WordHolds, runs}
 use Rattle.soundness_runs.specs.ClassesFollow.{IsFixed, ClassesFollow}
 use Rattle.linked_operands.specs.Sound.{IsSound}
 use Rattle.type_rules.specs.Wants.{element_types, is_array_of_one, is_array_of_references}
 use Rattle.sound_priorities.specs.Seen.{IsTypeBelow}
-use Rattle.sound_texts.specs.KnownTexts.{BeginsText, Comes, FillsText, GoesOn, HasText, HoldsPlain, HoldsText, IsElsewhere, IsNamed, IsPlain, IsString, KeepsTexts, NamesText, Seen, TextSteps, Wants, text_sense}
+use Rattle.sound_texts.specs.KnownTexts.{GoesOn, HasText, HoldsPlain, IsElsewhere, IsNamed, IsPlain, IsString, KeepsTexts, Seen, TextSteps, Wants, text_sense}
 use Rattle.sound_texts.proofs.StringClasses.{field_after, is_string, no_array, no_array_number, no_builder, no_class_object, no_string_type, no_thread, no_throwable, no_throwable_type, no_thrown_string, string_type, super_string}
 
 module _ (us : List ClassUnit) where

@@ -1,5 +1,5 @@
 -- Texts in executions of a sound program.
-use Rattle.std.proofs.Common.{◌≡◌, ◌≢◌, ◌⊎◌, inl, inr, ◌≤◌, ◌^◌, ℕ, Option, None, Some, List, [], ◌∷◌, refl, sym, ap, subst, ◌∙◌}
+use Rattle.std.proofs.Common.{◌≡◌, ◌≢◌, ◌⊎◌, inl, inr, ◌≤◌, ◌^◌, ℕ, true, Option, None, Some, List, [], ◌∷◌, refl, sym, subst, ◌∙◌}
 use Rattle.builtin_world.specs.declared.word.TheConstants.{STRING_UNITS}
 use Rattle.code_decode.specs.declared.code.ClassUnit.{ClassUnit}
 use Rattle.link_types.specs.declared.operands.MethodId.{MethodId}
@@ -14,10 +14,9 @@ use Rattle.op_core.specs.declared.Line.TheVariants as lines
 use Rattle.op_core.specs.declared.Reply.{Reply}
 use Rattle.op_core.specs.declared.Next.TheVariants.{Want}
 use Rattle.op_core.specs.Execution.{Comes, Leads}
-use Rattle.op_core.specs.OrdinaryState.{Object, OrdinaryState, live}
+use Rattle.op_core.specs.OrdinaryState.{OrdinaryState, live}
 use Rattle.op_core.specs.OrdinaryStep.{after}
 use Rattle.op_core.specs.ThreadCode.{quiet_steps}
-use Rattle.java_rows.specs.Plan.{want}
 use Rattle.java_rows.specs.Start.{start_of_program}
 use Rattle.java_rows.specs.Thread.{Local, java_code}
 use Rattle.soundness_senses.specs.Senses.{Making, filling, naming}

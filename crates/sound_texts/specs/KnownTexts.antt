@@ -1,14 +1,12 @@
 -- What is known of texts in executions: the objects that there are, which char arrays are those of texts, and which Strings
 -- have a text.
-use Rattle.std.specs.Prelude.{◌≡◌, ◌≢◌, ◌⊎◌, ℕ, Bool, true, Option, None, Some, List, Contains}
+use Rattle.std.specs.Prelude.{◌≡◌, ◌≢◌, ◌⊎◌, ℕ, Bool, true, Option, None, Some, List}
 use Rattle.builtin_world.specs.declared.number.TheConstants.{STRING}
 use Rattle.builtin_world.specs.declared.word.TheConstants.{STRING_UNITS}
 use Rattle.code_decode.specs.declared.code.ClassUnit.{ClassUnit}
 use Rattle.link_types.specs.declared.types.ObjectType.{ObjectType}
 use Rattle.link_types.specs.declared.types.ObjectType.TheVariants.{Class}
-use Rattle.link_rules.specs.Classes.{classes_of}
 use Rattle.link_rules.specs.Names.{program_names, type_numbered}
-use Rattle.link_rules.specs.Supers.{superclasses}
 use Rattle.op_core.specs.declared.Op.{Op}
 use Rattle.op_core.specs.declared.Op.TheVariants.{Read, Write, New, Start, Print}
 use Rattle.op_core.specs.declared.Reply.{Reply}
