@@ -1,5 +1,5 @@
 -- Texts in executions of a sound program.
-use Rattle.std.proofs.Common.{◌≡◌, ◌≢◌, ◌⊎◌, inl, inr, ◌≤◌, ◌^◌, ℕ, true, Option, None, Some, List, [], ◌∷◌, refl, sym, subst, ◌∙◌}
+use Rattle.std.proofs.Common.{◌≡◌, ◌≢◌, ◌⊎◌, inl, inr, ◌≤◌, ◌^◌, ℕ, Option, None, Some, List, [], ◌∷◌, refl, sym, subst, ◌∙◌}
 use Rattle.builtin_world.specs.declared.word.TheConstants.{STRING_UNITS}
 use Rattle.code_decode.specs.declared.code.ClassUnit.{ClassUnit}
 use Rattle.link_types.specs.declared.operands.MethodId.{MethodId}
@@ -14,10 +14,13 @@ use Rattle.op_core.specs.declared.Line.TheVariants as lines
 use Rattle.op_core.specs.declared.Reply.{Reply}
 use Rattle.op_core.specs.declared.Next.TheVariants.{Want}
 use Rattle.op_core.specs.Execution.{Comes, Leads}
-use Rattle.op_core.specs.OrdinaryState.{OrdinaryState, live}
-use Rattle.op_core.specs.OrdinaryStep.{after}
+use Rattle.op_core.specs.OrdinaryState.{Object, OrdinaryState, live}
+use Rattle.op_core.specs.OrdinaryStep.{MayAnswer, after}
 use Rattle.op_core.specs.ThreadCode.{quiet_steps}
+use Rattle.java_rows.specs.Plan.{Plan}
 use Rattle.java_rows.specs.Start.{start_of_program}
+use Rattle.text_stages.specs.Reading.{followed_op}
+use Rattle.sound_priorities.proofs.StepFacts.{objects_stay}
 use Rattle.java_rows.specs.Thread.{Local, java_code}
 use Rattle.soundness_senses.specs.Senses.{Making, filling, naming}
 use Rattle.soundness_senses.specs.Fits.{PlanFits, following, making_of}
@@ -37,12 +40,12 @@ use Rattle.sound_programs.proofs.Programs.{main_begins}
 use Rattle.sound_programs.proofs.ThreadLaws.{programs_have_room}
 use Rattle.sound_objects.proofs.Whole.{classes_follow}
 use Rattle.sound_starts.proofs.Starts.{starts_fit}
-use Rattle.sound_texts.specs.KnownTexts.{BeginsText, IsNamed, IsString, KeepsTexts, Seen, TextSteps, text_sense}
+use Rattle.sound_texts.specs.KnownTexts.{BeginsText, IsNamed, KeepsTexts, Seen, TextSteps, text_sense}
 use Rattle.sound_texts.specs.KeptTexts.{IsArray, IsSeen, SeenLocal, seen_in}
-use Rattle.sound_texts.specs.Texts.{HasSameText, IsArrayOfOne, IsLiteral, IsStringAt, TextsStay, array_in, text_of}
+use Rattle.sound_texts.specs.Texts.{HasSameText, IsArrayOfOne, IsLiteral, IsStringAt, ReadsText, TextsStay, array_in, memory_of, text_of}
 use Rattle.sound_texts.proofs.Changes.{word_stays}
 use Rattle.sound_texts.proofs.StringClasses.{is_string}
-use Rattle.sound_texts.proofs.Values.{both_same, literal_text_same, made_text_same}
+use Rattle.sound_texts.proofs.Values.{both_same, literal_text_same, made_text_same, replies_same}
 use Rattle.sound_texts.proofs.TextsKnow.{texts_know}
 use Rattle.sound_texts.proofs.StepsTexts.{come, plan_wants, quiet_local, step_seen}
 use Rattle.sound_texts.proofs.StartsTexts.{is_literal, start_seen}
@@ -146,18 +149,38 @@ module _ (us : List ClassUnit) (order : List ℕ) (sound : IsSound us order) (ro
       both_same s m last r same
       (texts_same m last es r (next_kept s seen kept e l comes) (next_seen s seen kept e l comes) leads (next_string s seen kept e l comes r is) (λ none. some (sym same.array ∙ none)))
 
+  object_stays : (s last : OrdinaryState Local) (es : List Event) (r : ℕ) (o : Object) → StateFits us s → IsSeen us s → Leads java_code s es last → s.objects r ≡ Some o → last.objects r ≡ Some o
+  object_stays s last [] r o kept seen e there = subst (λ (x : OrdinaryState Local). x.objects r ≡ Some o) e there
+  object_stays s last (e ∷ es) r o kept seen (l, comes, leads) there =
+      object_stays (after java_code s e.thread l e.op e.reply) last es r o (next_kept s seen kept e l comes) (next_seen s seen kept e l comes) leads (objects_stay us s e.thread l e.op e.reply comes.step r o there)
+
   -- ---- the text of a String is a value
+
+  array_there : (s : OrdinaryState Local) (r : ℕ) → IsSeen us s → IsStringAt us s r → array_in s r ≢ 0 → IsArray us s (array_in s r)
+  array_there s r seen is some = elim (seen.strings r is.object is.there is.class) [ inl none ↦ absurd (some none) | inr text ↦ seen.arrays (array_in s r) text ]
+
+  -- a literal has no array
+  literal_none : (s : OrdinaryState Local) (r : ℕ) → IsSeen us s → IsLiteral us r → array_in s r ≡ 0
+  literal_none s r seen (n, within, at) =
+      let fixed : IsFixed us (string_object (program_names us) n) (Class STRING) = follow.literals n within in
+      seen.literals r fixed.object (subst (λ x. fixed_of us x ≡ Some fixed.object) (sym at) fixed.there) (is_string us order sound fixed.object.class fixed.fits.class fixed.stands)
+
+  array_stays : (s last : OrdinaryState Local) (es : List Event) (r : ℕ) → StateFits us s → IsSeen us s → Leads java_code s es last → IsStringAt us s r → IsLiteral us r ⊎ (array_in s r ≢ 0) → array_in last r ≡ array_in s r
+  array_stays s last es r kept seen leads is (inr some) = (texts_same s last es r kept seen leads is some).array
+  array_stays s last es r kept seen leads is (inl literal) = literal_none last r (reached_seen s last es kept seen leads).1 literal ∙ sym (literal_none s r seen literal)
+
+  replies_are : (s last : OrdinaryState Local) (es : List Event) (r t : ℕ) (op : Op) (reply : Reply) (k : Reply → Plan) (same : Plan) → StateFits us s → IsSeen us s → Leads java_code s es last → IsStringAt us s r → IsLiteral us r ⊎ (array_in s r ≢ 0)
+      → ReadsText s r op → MayAnswer last t op reply → followed_op (memory_of s) op k same ≡ k reply
+  replies_are s last es r t op reply k same kept seen leads is has reads answered =
+      replies_same us s last r t op reply k same is.object is.there (object_stays s last es r is.object kept seen leads is.there) (array_stays s last es r kept seen leads is has)
+      (λ some. let array : IsArray us s (array_in s r) = array_there s r seen is some in (texts_same s last es r kept seen leads is some, (array.object, array.there))) reads answered
 
   text_is_value : (s last : OrdinaryState Local) (es : List Event) (r : ℕ) → StateFits us s → IsSeen us s → Leads java_code s es last → IsStringAt us s r → IsLiteral us r ⊎ (array_in s r ≢ 0) → text_of us last r ≡ text_of us s r
   text_is_value s last es r kept seen leads is (inr some) =
-      let array : IsArray us s (array_in s r) = elim (seen.strings r is.object is.there is.class) [ inl none ↦ absurd (some none) | inr text ↦ seen.arrays (array_in s r) text ] in
+      let array : IsArray us s (array_in s r) = array_there s r seen is some in
       made_text_same us s last r some (texts_same s last es r kept seen leads is some) array.object array.there
-  text_is_value s last es r kept seen leads is (inl (n, within, at)) =
-      let fixed : IsFixed us (string_object (program_names us) n) (Class STRING) = follow.literals n within in
-      let string : IsString us fixed.object.class ≡ true = is_string us order sound fixed.object.class fixed.fits.class fixed.stands in
-      let there : fixed_of us r ≡ Some fixed.object = subst (λ x. fixed_of us x ≡ Some fixed.object) (sym at) fixed.there in
-      let later : IsSeen us last = (reached_seen s last es kept seen leads).1 in
-      literal_text_same us s last r fixed.object (seen.fixed r fixed.object there) (later.fixed r fixed.object there) (seen.literals r fixed.object there string) (later.literals r fixed.object there string)
+  text_is_value s last es r kept seen leads is (inl literal) =
+      literal_text_same us s last r is.object is.there (object_stays s last es r is.object kept seen leads is.there) (literal_none s r seen literal) (literal_none last r (reached_seen s last es kept seen leads).1 literal)
 
   module _ (main : MethodId) (is : IsMainMethod us main) where
     abbrev start : OrdinaryState Local
@@ -173,6 +196,8 @@ module _ (us : List ClassUnit) (order : List ℕ) (sound : IsSound us order) (ro
     stay_from_start = record {
       stay = λ s last es r reached leads string some. let now = reached_seen start s reached.0 kept first reached.1 in texts_same s last es r now.0 now.1 leads string some;
       values = λ s last es r reached leads string has. let now = reached_seen start s reached.0 kept first reached.1 in text_is_value s last es r now.0 now.1 leads string has;
+      replies = λ s last es r t op reply k same reached leads string has reads answered.
+          let now = reached_seen start s reached.0 kept first reached.1 in replies_are s last es r t op reply k same now.0 now.1 leads string has reads answered;
       read = λ s t n from l r reached begun steps e string. read_there s (reached_seen start s reached.0 kept first reached.1).1 t n from l r begun steps e string;
       printed = λ s t n from l a reached begun steps e. printed_there s (reached_seen start s reached.0 kept first reached.1).1 t n from l a begun steps e;
       line = λ s last es t n from l a reached leads begun steps e i.

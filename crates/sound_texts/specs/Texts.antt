@@ -5,7 +5,11 @@ use Rattle.code_decode.specs.declared.code.ClassUnit.{ClassUnit}
 use Rattle.link_rules.specs.FixedObjects.{string_object}
 use Rattle.link_rules.specs.Names.{program_names}
 use Rattle.op_core.specs.declared.Event.{Event}
-use Rattle.op_core.specs.declared.Op.TheVariants.{Read, Print}
+use Rattle.op_core.specs.declared.Op.{Op}
+use Rattle.op_core.specs.declared.Op.TheVariants.{ClassOf, Read, Print}
+use Rattle.op_core.specs.declared.Reply.{Reply}
+use Rattle.op_core.specs.OrdinaryStep.{MayAnswer}
+use Rattle.java_rows.specs.Plan.{Plan}
 use Rattle.op_core.specs.declared.Line.TheVariants as lines
 use Rattle.op_core.specs.declared.Next.TheVariants.{Want}
 use Rattle.op_core.specs.Execution.{IsReached, Leads}
@@ -13,7 +17,7 @@ use Rattle.op_core.specs.ThreadCode.{quiet_steps}
 use Rattle.op_core.specs.OrdinaryState.{Object, OrdinaryState, live}
 use Rattle.java_rows.specs.Thread.{Local, java_code}
 use Rattle.std.specs.Option.{option_map_or}
-use Rattle.text_stages.specs.Reading.{Memory, text_in}
+use Rattle.text_stages.specs.Reading.{Memory, followed_op, text_in}
 use Rattle.sound_texts.specs.KnownTexts.{IsString}
 
 -- a String that is there
@@ -54,12 +58,21 @@ memory_of s = record {
 abbrev pub text_of : List ClassUnit → OrdinaryState Local → ℕ → List ℕ
 text_of us s r = text_in us (memory_of s) r
 
+-- an operation with which a method reads the text of a String
+abbrev pub ReadsText : OrdinaryState Local → ℕ → Op → Type 0
+ReadsText s r (Read q i) = ((q ≡ r) × (i ≡ STRING_UNITS)) ⊎ ((q ≡ array_in s r) × (array_in s r ≢ 0))
+ReadsText s r (ClassOf q) = (q ≡ r) ⊎ ((q ≡ array_in s r) × (array_in s r ≢ 0))
+ReadsText s r op = ⊥
+
 -- Once a String has an array, neither the array nor a word of it changes, and the text of such a String, and of a literal, is a
 -- value. A String whose text is about to be read is a literal or has an array, and a line that is about to be printed of a
 -- String that the program made names its array.
 pub record TextsStay (us : List ClassUnit) (start : OrdinaryState Local) : Type 0 where
   pub stay : (s last : OrdinaryState Local) (es : List Event) (r : ℕ) → IsReached java_code start s → Leads java_code s es last → IsStringAt us s r → array_in s r ≢ 0 → HasSameText s last r
   pub values : (s last : OrdinaryState Local) (es : List Event) (r : ℕ) → IsReached java_code start s → Leads java_code s es last → IsStringAt us s r → IsLiteral us r ⊎ (array_in s r ≢ 0) → text_of us last r ≡ text_of us s r
+  -- whenever a part of such a text is read, the reply is what the text was before
+  pub replies : (s last : OrdinaryState Local) (es : List Event) (r t : ℕ) (op : Op) (reply : Reply) (k : Reply → Plan) (same : Plan) → IsReached java_code start s → Leads java_code s es last → IsStringAt us s r → IsLiteral us r ⊎ (array_in s r ≢ 0)
+      → ReadsText s r op → MayAnswer last t op reply → followed_op (memory_of s) op k same ≡ k reply
   pub read : (s : OrdinaryState Local) (t n : ℕ) (from l : Local) (r : ℕ) → IsReached java_code start s → s.threads t ≡ live from → quiet_steps java_code n from ≡ Some l → java_code.next l ≡ Want (Read r STRING_UNITS) → IsStringAt us s r
       → IsLiteral us r ⊎ (array_in s r ≢ 0)
   pub printed : (s : OrdinaryState Local) (t n : ℕ) (from l : Local) (a : ℕ) → IsReached java_code start s → s.threads t ≡ live from → quiet_steps java_code n from ≡ Some l → java_code.next l ≡ Want (Print (lines.Made a)) → IsArrayOfOne us s a
