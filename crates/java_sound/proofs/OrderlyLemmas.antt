@@ -16,7 +16,7 @@ use Rattle.op_core.specs.Orderly.{IsWait, IsRewake, CanStand, at_first, by_silen
 use Rattle.java_rows.specs.Plan.{Plan, want, silently, calls, ready, over, stuck}
 use Rattle.java_rows.specs.Program.{is_of_file}
 use Rattle.java_rows.specs.Thread.{Local, java_code, next_of, silent_of, reply_of, child_of}
-use Rattle.soundness_senses.specs.Fits.{Returns, Preceding, anything, a_wait, the_end, Follows, after_reply, IsAnywhere, IsTheEnd, IsBegun, PlanFits}
+use Rattle.soundness_senses.specs.Fits.{Returns, Preceding, anything, a_wait, the_end, a_text, Follows, after_reply, IsAnywhere, IsTheEnd, IsBegun, PlanFits}
 use Rattle.soundness_senses.specs.Accepted.{Accepted}
 use Rattle.soundness_senses.specs.Kinds.{kinds, KindsWant, KindsLocal}
 use Rattle.soundness_senses.specs.Knowledge.{CanBeMade}
@@ -30,6 +30,7 @@ module _ (us : List ClassUnit) (accepted : Accepted us) (rows : RowsFit (kinds u
   IsNextOf anything next = (IsRewake next → ⊥) × (next ≢ Ended)
   IsNextOf (a_wait r) next = next ≡ Want (Rewake r)
   IsNextOf the_end next = next ≡ Ended
+  IsNextOf (a_text m) next = (IsRewake next → ⊥) × (next ≢ Ended)
 
   next_wanted : (b : Preceding) (op : Op) → Follows b op → IsNextOf b (Want op)
   next_wanted anything (Rewake r) is = absurd is
@@ -37,6 +38,8 @@ module _ (us : List ClassUnit) (accepted : Accepted us) (rows : RowsFit (kinds u
   next_wanted (a_wait r) (Rewake q) is = ap (λ x. Want (Rewake x)) is
   next_wanted (a_wait r) op is = absurd is
   next_wanted the_end op is = absurd is
+  next_wanted (a_text m) (Rewake r) is = absurd is
+  next_wanted (a_text m) op is = ((λ x. x), λ e. cc)
 
   next_silent : (b : Preceding) → IsAnywhere b → IsNextOf b Silent
   next_silent anything is = ((λ x. x), λ e. cc)
@@ -68,7 +71,7 @@ module _ (us : List ClassUnit) (accepted : Accepted us) (rows : RowsFit (kinds u
   reply_local : (b : Preceding) (l : Local) (op : Op) (reply : Reply) → KindsLocal us b l → next_of l.plan ≡ Want op → Fits op reply → KindsLocal us (after_reply op reply) (reply_of l.program l.thread l.plan reply l.below)
   reply_local b l op reply fits e come =
       subst (λ p. KindsLocal us (after_reply op reply) (reply_of p l.thread l.plan reply l.below)) (sym fits.program)
-      (reply_fits (kinds us) us (kinds_know us) accepted rows l.thread b tt tt fits.res l.below l.plan op reply tt e tt come fits.plan fits.below)
+      (reply_fits (kinds us) us (kinds_know us) accepted rows l.thread (λ m h op next steps. steps) b tt tt fits.res l.below l.plan op reply tt e tt come fits.plan fits.below)
 
   child_local : (l : Local) (r : ℕ) → l.program ≡ us → KindsLocal us anything (child_of l.program r)
   child_local l r program = subst (λ p. KindsLocal us anything (child_of p r)) (sym program) (child_fits (kinds us) us (kinds_know us) accepted rows r tt tt)
@@ -83,6 +86,7 @@ module _ (us : List ClassUnit) (accepted : Accepted us) (rows : RowsFit (kinds u
   not_ended anything next is goes = is.1
   not_ended (a_wait r) next is goes = λ e. let bad : ◌≡◌ {A = Next} (Want (Rewake r)) Ended = sym is ∙ e in cc
   not_ended the_end next is goes = absurd (goes tt)
+  not_ended (a_text m) next is goes = is.1
 
   rewakes_after : (op : Op) (reply : Reply) (next : Next) → IsNextOf (after_reply op reply) next → IsRewake next → IsWait op × (reply ≡ Done)
   rewakes_after (Wait r) Done next is rewakes = (tt, refl)
@@ -106,7 +110,7 @@ module _ (us : List ClassUnit) (accepted : Accepted us) (rows : RowsFit (kinds u
   }
     where
       may : (l : Local) (op : Op) → Stands l → next_of l.plan ≡ Want op → KindsWant us op
-      may l op s e = (wants_fit (kinds us) us (kinds_know us) accepted rows l.thread s.0 tt s.1.res l.plan op e s.1.plan).1
+      may l op s e = (wants_fit (kinds us) us (kinds_know us) accepted rows l.thread (λ m h op next steps. steps) s.0 tt s.1.res l.plan op e s.1.plan).1
 
       file_below : (c : ℕ) → is_of_file us c ≡ true → c < classes
       file_below c file = omega (arith, below, leb-true c (length (classes_of us)) (and_parts _ _ file).1)

@@ -15,7 +15,7 @@ use Rattle.op_core.specs.Orderly.{IsEnd, KeepsStartWord}
 use Rattle.op_core.specs.OrdinaryState.{Object}
 use Rattle.java_rows.specs.Plan.{Plan, want, silently, calls, ready, over, stuck}
 use Rattle.java_rows.specs.Thread.{Local, java_code, next_of, silent_of, reply_of, child_of}
-use Rattle.soundness_senses.specs.Fits.{anything, after_reply, a_wait, the_end, IsBegun, PlanFits}
+use Rattle.soundness_senses.specs.Fits.{anything, after_reply}
 use Rattle.soundness_senses.specs.Knowledge.{Knows}
 use Rattle.soundness_senses.specs.Accepted.{Accepted}
 use Rattle.kept_states.specs.Kept.{Objects, Extends, IsTrueReply, Keeps}
@@ -28,7 +28,7 @@ use Rattle.soundness_senses.proofs.Settled.{goes_on_after, ended_fits, silent_fi
 
 module _ (us : List ClassUnit) (knows : Knows (runs us) us) (accepted : Accepted us) (rows : RowsFit (runs us) us) (room : HasRoom us) where
   pub wanted : (h : Objects) (l : Local) (op : Op) → RunsLocal us h l → next_of l.plan ≡ Want op → RunsWant us h op
-  wanted h l op (fixed, b, fits, goes) e = (wants_fit (runs us) us knows accepted rows l.thread b (record { objects = h; fixed = fixed }) fits.res l.plan op e fits.plan).1
+  wanted h l op (fixed, b, fits, goes) e = (wants_fit (runs us) us knows accepted rows l.thread (λ m h op next steps. steps) b (record { objects = h; fixed = fixed }) fits.res l.plan op e fits.plan).1
 
   -- the program is that of the local state
   pub silent_local : (h : Objects) (l : Local) → RunsLocal us h l → next_of l.plan ≡ Silent → RunsLocal us h (silent_of l.program l.thread l.plan l.below)
@@ -40,7 +40,7 @@ module _ (us : List ClassUnit) (knows : Knows (runs us) us) (accepted : Accepted
       → RunsLocal us h' (reply_of l.program l.thread l.plan reply l.below)
   reply_local h h' l op reply (fixed, b, fits, goes) e no_end more come =
       subst (λ p. RunsLocal us h' (reply_of p l.thread l.plan reply l.below)) (sym fits.program)
-      ((λ r o x. more r o (fixed r o x)), after_reply op reply, reply_fits (runs us) us knows accepted rows l.thread b (record { objects = h; fixed = fixed }) (record { objects = h'; fixed = λ r o x. more r o (fixed r o x) }) fits.res l.below l.plan op reply fits.thread e more come fits.plan fits.below, goes_on_after op reply no_end)
+      ((λ r o x. more r o (fixed r o x)), after_reply op reply, reply_fits (runs us) us knows accepted rows l.thread (λ m h op next steps. steps) b (record { objects = h; fixed = fixed }) (record { objects = h'; fixed = λ r o x. more r o (fixed r o x) }) fits.res l.below l.plan op reply fits.thread e more come fits.plan fits.below, goes_on_after op reply no_end)
 
   child_local : (h : Objects) (l : Local) (r p : ℕ) → RunsLocal us h l → next_of l.plan ≡ Want (Start r p) → RunsLocal us h (child_of l.program r)
   child_local h l r p (fixed, b, fits, goes) e =
@@ -87,18 +87,7 @@ module _ (us : List ClassUnit) (knows : Knows (runs us) us) (accepted : Accepted
   go_on s t l fit live ended = by_preceding (fit.threads t l live)
     where
       by_preceding : RunsLocal us s.objects l → ⊥
-      by_preceding (fixed, anything, fits, goes) =
-          ended_fits (runs us) us knows accepted rows l.thread anything (record { objects = s.objects; fixed = fixed }) fits.res l.plan ended fits.begun fits.plan refl
-      by_preceding (fixed, a_wait r, fits, goes) = absurd (waits l.plan ended fits.begun fits.plan)
-        where
-          waits : (plan : Plan) → next_of plan ≡ Ended → IsBegun plan → PlanFits (runs us) us fits.res (a_wait r) plan (record { objects = s.objects; fixed = fixed }) → ⊥
-          waits (want op k) e begun plan_fits = cc
-          waits (silently plan) e begun plan_fits = cc
-          waits (calls id args monitor k) e begun plan_fits = cc
-          waits (ready ending) e begun plan_fits = begun
-          waits over e begun plan_fits = plan_fits
-          waits stuck e begun plan_fits = plan_fits
-      by_preceding (fixed, the_end, fits, goes) = absurd (goes tt)
+      by_preceding (fixed, b, fits, goes) = ended_fits (runs us) us knows accepted rows l.thread b (record { objects = s.objects; fixed = fixed }) fits.res l.plan ended fits.begun fits.plan goes
 
   -- ---- what a thread wants is there, in range, and no start word
 

@@ -1,4 +1,6 @@
+pub mod TopClasses
 mod ThreadClasses
+pub mod StepFacts
 mod SeenKnow
 mod StepsSeen
 mod StartsSeen

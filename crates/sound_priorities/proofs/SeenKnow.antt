@@ -17,9 +17,12 @@ use Rattle.soundness_senses.specs.Texts.{char_array}
 use Rattle.soundness_senses.specs.Knowledge.{Knows, HasWords, contents_of, element_contents, element_place}
 use Rattle.soundness_senses.specs.Runs.{HasObject, HasWordFor, IsThread, MayStandFor, ObjectFits, RunsWant, WordHolds, runs}
 use Rattle.soundness_runs.specs.ClassesFollow.{IsFixed, ClassesFollow}
+use Rattle.soundness_runs.proofs.RunsKnow.{runs_make_texts, unit_there, units_there}
+use Rattle.soundness_senses.proofs.TextsMade.{MakesTexts, plain_text}
+use Rattle.link_types.specs.declared.types.ElementType.TheVariants.{Char}
 use Rattle.linked_operands.specs.Sound.{IsSound}
 use Rattle.type_rules.specs.Wants.{element_types, is_array_of_one, is_array_of_references}
-use Rattle.sound_priorities.specs.Seen.{GoesOn, HoldsSet, IsElsewhere, IsPriority, IsSet, IsThreadType, KeepsPriorities, Seen, executions}
+use Rattle.sound_priorities.specs.Seen.{GoesOn, HoldsSet, IsElsewhere, IsPriority, IsSet, IsTypeBelow, KeepsPriorities, Seen, executions}
 use Rattle.sound_priorities.proofs.ThreadClasses.{field_after, no_array, no_array_number, no_builder, no_class_object, no_string, no_thread_type, no_throwable, no_throwable_type, no_thrown_thread, super_thread, thread_type}
 
 module _ (us : List ClassUnit) where
@@ -110,26 +113,72 @@ module _ (us : List ClassUnit) where
     priority_there h r is = let one = follow.priority r is.object is.fits is.stands in record { object = is.object; there = is.there; fits = is.fits; holds = one.holds; within = one.within; spared = one.spared }
 
     -- a new object is set, or of a type of Threads
-    new_set : (h : Seen us) (r c : ℕ) (o : Object) → h.known.objects r ≡ Some o → o.class ≡ c → (b : Bool) → IsThread us c ≡ b → IsSet us h r ⊎ IsThreadType us (type_numbered (program_names us) c)
+    new_set : (h : Seen us) (r c : ℕ) (o : Object) → h.known.objects r ≡ Some o → o.class ≡ c → (b : Bool) → IsThread us c ≡ b → IsSet us h r ⊎ IsTypeBelow us THREAD (type_numbered (program_names us) c)
     new_set h r c o there class true e = inr (thread_type us order sound c e)
     new_set h r c o there class false e = inl (set_other h r o there (λ thread. let bad : false ≡ true = sym e ∙ (ap (IsThread us) (sym class) ∙ thread) in cc))
 
     same_of : (h : Seen us) (r : ℕ) (t : ObjectType) (is : HasObject us h.known.objects r t) (set : IsSet us h r) → IsThread us is.object.class ≡ true → IsPriority (h.priorities r)
     same_of h r t is set thread = set.set (subst (λ (x : Object). IsThread us x.class ≡ true) (same_Some is.object set.object (sym is.there ∙ set.there)) thread)
 
+    abbrev seen_both : (h h' h'' : Seen us) → GoesOn us h h' → GoesOn us h' h'' → GoesOn us h h''
+    seen_both h h' h'' more more' = record {
+      objects = λ r o e. more'.objects r o (more.objects r o e);
+      priorities = λ r o at thread is. more'.priorities r o (more.objects r o at) thread (more.priorities r o at thread is);
+    }
+
+    -- the array and the String of a text are no Threads
+    char_set : (h : Seen us) (r : ℕ) (is : HasObject us h.known.objects r char_array) → IsSet us h r
+    char_set h r is = set_other h r is.object is.there (no_array us order sound is.object.class 1 Char is.stands)
+
+    string_set : (h : Seen us) (r : ℕ) (is : HasObject us h.known.objects r (Class STRING)) → IsSet us h r
+    string_set h r is = set_other h r is.object is.there (no_string us order sound is.object.class is.fits.class is.stands)
+
+    no_priority : (h : Seen us) (r i v : ℕ) (x : Object) → h.known.objects r ≡ Some x → (IsThread us x.class ≡ true → ⊥) → (o : Object) → h.known.objects r ≡ Some o → IsThread us o.class ≡ true → i ≡ THREAD_PRIORITY → IsPriority v
+    no_priority h r i v x there none o at thread e = absurd (none (subst (λ (y : Object). IsThread us y.class ≡ true) (same_Some o x (sym at ∙ there)) thread))
+
+    seen_make_texts : MakesTexts (executions us) us
+    seen_make_texts = record {
+      itself = λ h. record { objects = λ r o e. e; priorities = λ r o at thread is. is };
+      both = seen_both;
+      fits = λ h op reply come. knows.fits h.known op reply come.0;
+      asks = λ res h op k follows may next. (follows, (may, next));
+      of_more = λ h h' r more is. (plain.of_more h.known h'.known r more.objects is.0, set_more h h' r more is.1);
+      exactly_more = λ h h' r c n more is. plain.exactly_more h.known h'.known r c n more.objects is;
+      string_more = λ h h' r more is. (plain.string_more h.known h'.known r more.objects is.0, set_more h h' r more is.1);
+      makes = λ h c n can. (can, tt);
+      array = λ h c n r can type come. let is = plain.array h.known c n r can type come.0 in (is, char_set h r is);
+      exactly = λ h c n r come. plain.exactly h.known c n r come.0;
+      string = λ h r can come. let is = plain.string h.known r can come.0 in (is, string_set h r is);
+      unit = λ h r c n i v of exactly within small.
+          let has = unit_there us follow h.known r c n i of.0 exactly within in (
+            plain.unit h.known r c n i v of.0 exactly within small,
+            (no_priority h r i v of.0.object of.0.there (no_array us order sound of.0.object.class 1 Char of.0.stands), write_holds h r i v number has (λ exact. small)),
+          );
+      name = λ h s r is of. (
+        plain.name h.known s r is.0 of.0,
+        (no_priority h s STRING_UNITS r is.0.object is.0.there (no_string us order sound is.0.object.class is.0.fits.class is.0.stands), write_holds h s STRING_UNITS r (reference char_array) (units_there us follow h.known s is.0) (inr of)),
+      );
+    }
+      where
+        plain : MakesTexts (runs us) us
+        plain = runs_make_texts us follow
+
     pub seen_know : Knows (executions us) us
     seen_know = record {
       itself = λ h. record { objects = λ r o e. e; priorities = λ r o at thread is. is };
-      both = λ h h' h'' more more'. record {
-        objects = λ r o e. more'.objects r o (more.objects r o e);
-        priorities = λ r o at thread is. more'.priorities r o (more.objects r o at) thread (more.priorities r o at thread is);
-      };
+      both = seen_both;
       there_more = λ h h' r more is. knows.there_more h.known h'.known r more.objects is;
       raw_more = λ h h' r t more is. (knows.raw_more h.known h'.known r t more.objects is.0, elim is.1 [ inl set ↦ inl (set_more h h' r more set) | inr type ↦ inr type ]);
       of_more = λ h h' r t more is. (knows.of_more h.known h'.known r t more.objects is.0, set_more h h' r more is.1);
       exactly_more = λ h h' r c n more is. knows.exactly_more h.known h'.known r c n more.objects is;
       thrown_more = λ h h' r c more is. (knows.thrown_more h.known h'.known r c more.objects is.0, set_more h h' r more is.1);
       word_more = λ h h' r i k more is. (knows.word_more h.known h'.known r i k more.objects is.0, elsewhere_more h h' r i is.0.object is.0.there more is.1);
+      text_more = λ h h' r more is. knows.text_more h.known h'.known r more.objects is;
+      asks = λ res b h op k follows none may next. (follows, (may, next));
+      asks_more = λ res b h h' op k more fits. (
+        fits.0,
+        ((knows.want_more h.known h'.known op more.objects fits.1.0.0, keeps_more h h' op more fits.1.0.0 fits.1.0.1), λ h'' reply more' come. fits.1.1 h'' reply (seen_both h h' h'' more more') come),
+      );
       want_more = λ h h' op more is. (knows.want_more h.known h'.known op more.objects is.0, keeps_more h h' op more is.0 is.1);
       fits = λ h op reply come. knows.fits h.known op reply come.0;
       small = λ h r is exact. knows.small h.known r is exact;
@@ -144,7 +193,7 @@ module _ (us : List ClassUnit) where
       waits = λ h r is. (knows.waits h.known r is, tt);
       rewakes = λ h r is. (knows.rewakes h.known r is, tt);
       notifies = λ h r is. (knows.notifies h.known r is, tt);
-      prints = λ h line. (tt, tt);
+      prints = λ h line fits. (tt, tt);
       starts = λ h r p is may.
           let same : p % 2 ^ 8 ≡ p = mod-eq_of_lt (omega (arith, may.1)) in
           ((is.0, omega arith), (subst IsPriority (sym same) may, is.1));
@@ -173,8 +222,12 @@ module _ (us : List ClassUnit) where
           others h (class_object (program_names us) f.owner) f.place (contents_of f.kind) fixed.object (h.known.fixed _ fixed.object fixed.there) (λ thread. absurd (no_class_object us order sound fixed.object.class fixed.fits.class fixed.stands thread)) (knows.statics h.known f is);
       target = λ h r is. (knows.target h.known r is.0, elsewhere h r THREAD_TARGET is.0.object is.0.there (λ thread. omega arith));
       message = λ h r is. other h r THROWABLE_MESSAGE (reference (Class STRING)) is.0.object is.0.there (λ thread. no_throwable us order sound is.0.object.class is.0.fits.class is.0.stands thread) (knows.message h.known r is.0);
-      units = λ h r is. other h r STRING_UNITS (reference char_array) is.0.object is.0.there (λ thread. no_string us order sound is.0.object.class is.0.fits.class is.0.stands thread) (knows.units h.known r is.0);
       text = λ h r is. other h r BUILDER_TEXT (reference (Class STRING)) is.0.object is.0.there (λ thread. no_builder us order sound is.0.object.class is.0.fits.class is.0.stands thread) (knows.text h.known r is.0);
+      asks_text = λ h r is. (knows.asks_text h.known r is.0, tt);
+      units = λ h r v is come. knows.units h.known r v is.0 come.0;
+      text_there = λ h r is. knows.text_there h.known r is;
+      asks_unit = λ h r c n i is exactly within. (knows.asks_unit h.known r c n i is exactly within, tt);
+      makes_text = λ res h c units k can past type can_string words on. plain_text (executions us) us seen_make_texts res h c units k can type can_string words on;
       priorities = λ p low high. (low, high);
       priority_words = λ p is exact. omega (arith, is.1);
       asks_priority = λ h r is. ((number, priority_there h r is.0), tt);

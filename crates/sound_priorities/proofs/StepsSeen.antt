@@ -1,25 +1,23 @@
 -- What is known in executions is kept by each step.
 use Rattle.std.proofs.Common.{◌≡◌, inl, ℕ, zero, suc, List, Option, None, Some, true, false, refl, sym, ap, subst, ◌∙◌}
-use Rattle.std.specs.Prelude.{IsNone, is_some, IsSomeAnd}
+use Rattle.std.specs.Prelude.{IsNone, is_some}
 use Rattle.std.specs.Option.{option_and_then}
 use Rattle.std.proofs.lemmas.Option.{same_Some}
 use Rattle.builtin_world.specs.declared.word.TheConstants.{THREAD_PRIORITY}
 use Rattle.code_decode.specs.declared.code.ClassUnit.{ClassUnit}
 use Rattle.op_core.specs.declared.Op.{Op}
-use Rattle.op_core.specs.declared.Op.TheVariants.{ClassOf, Read, Write, New, Start, End}
+use Rattle.op_core.specs.declared.Op.TheVariants.{Read, Write, New, Start, End}
 use Rattle.op_core.specs.declared.Reply.{Reply}
-use Rattle.op_core.specs.declared.Reply.TheVariants.{Class, Value, Made, Done, Number}
-use Rattle.op_core.specs.declared.Next.{Next}
-use Rattle.op_core.specs.declared.Next.TheVariants.{Silent, Want, Ended}
+use Rattle.op_core.specs.declared.Reply.TheVariants.{Value, Made, Done, Number}
+use Rattle.op_core.specs.declared.Next.TheVariants.{Silent, Want}
 use Rattle.op_core.specs.Orderly.{IsEnd}
 use Rattle.op_core.specs.OrdinaryState.{Object, OrdinaryState, Thread, live, ended, set_at}
 use Rattle.op_core.specs.OrdinaryStep.{IsStep, MayAnswer, after, objects_after, words_after, threads_after}
-use Rattle.op_core.specs.ThreadCode.{quiet_step, quiet_steps, quiet_to}
-use Rattle.op_core.proofs.ExecutionLemmas.{answers_fit}
+use Rattle.op_core.specs.ThreadCode.{quiet_step, quiet_steps}
 use Rattle.op_core.proofs.PointwiseLemmas.{set_at-at, set_at-hit}
 use Rattle.op_core.proofs.QuietLemmas.{quiet_step-silent}
 use Rattle.java_rows.specs.Thread.{Local, java_code, next_of, silent_of, reply_of, child_of}
-use Rattle.kept_states.specs.Kept.{Extends, IsObject, IsTrueReply}
+use Rattle.kept_states.specs.Kept.{Extends, IsTrueReply}
 use Rattle.soundness_senses.specs.Fits.{anything, after_reply}
 use Rattle.soundness_senses.specs.Knowledge.{Knows}
 use Rattle.soundness_senses.specs.Accepted.{Accepted}
@@ -30,21 +28,13 @@ use Rattle.soundness_senses.proofs.Settled.{goes_on_after, silent_fits, reply_fi
 use Rattle.java_sound.specs.Sound.{StateFits}
 use Rattle.sound_priorities.specs.Seen.{GoesOn, HoldsSet, IsPriority, IsSeen, KeepsPriorities, Seen, SeenLocal, TellsPriorities, executions, seen_in}
 use Rattle.sound_priorities.proofs.SeenKnow.{holds_more}
-
--- a state that makes a silent step is silent
-quiet_next : (l m : Local) → quiet_step java_code l ≡ Some m → java_code.next l ≡ Silent
-quiet_next l m h = by_next (java_code.next l) h
-  where
-    by_next : (next : Next) → quiet_to java_code (java_code.silent l) next ≡ Some m → next ≡ Silent
-    by_next Silent is = refl
-    by_next (Want op) is = cc
-    by_next Ended is = cc
+use Rattle.sound_priorities.proofs.StepFacts.{objects_stay, quiet_next, reply_is_true}
 
 module _ (us : List ClassUnit) (knows : Knows (executions us) us) (accepted : Accepted us) (rows : RowsFit (executions us) us) where
   -- ---- local states
 
   pub wanted : (h : Seen us) (l : Local) (op : Op) → SeenLocal us h l → next_of l.plan ≡ Want op → RunsWant us h.known.objects op × KeepsPriorities us h op
-  wanted h l op is e = (wants_fit (executions us) us knows accepted rows l.thread is.preceding h is.fits.res l.plan op e is.fits.plan).1
+  wanted h l op is e = (wants_fit (executions us) us knows accepted rows l.thread (λ m h op next steps. steps) is.preceding h is.fits.res l.plan op e is.fits.plan).1
 
   local_later : (h h' : Seen us) (l : Local) → GoesOn us h h' → SeenLocal us h l → SeenLocal us h' l
   local_later h h' l more is = record { preceding = is.preceding; fits = local_more (executions us) us knows accepted h h' more is.preceding l is.fits; goes = is.goes }
@@ -59,7 +49,7 @@ module _ (us : List ClassUnit) (knows : Knows (executions us) us) (accepted : Ac
       subst (λ p. SeenLocal us h' (reply_of p l.thread l.plan reply l.below)) (sym is.fits.program)
       (record {
         preceding = after_reply op reply;
-        fits = reply_fits (executions us) us knows accepted rows l.thread is.preceding h h' is.fits.res l.below l.plan op reply is.fits.thread e more come is.fits.plan is.fits.below;
+        fits = reply_fits (executions us) us knows accepted rows l.thread (λ m h op next steps. steps) is.preceding h h' is.fits.res l.below l.plan op reply is.fits.thread e more come is.fits.plan is.fits.below;
         goes = goes_on_after op reply no_end;
       })
 
@@ -87,17 +77,8 @@ module _ (us : List ClassUnit) (knows : Knows (executions us) us) (accepted : Ac
       abbrev wants : RunsWant us s.objects op × KeepsPriorities us now op
       wants = wanted now l op own step.wanted
 
-      -- objects stay
       grow : (r : ℕ) (o : Object) → s.objects r ≡ Some o → objects_after java_code l op reply s r ≡ Some o
-      grow r o there = by_op op reply step.answered
-        where
-          by_op : (op : Op) (reply : Reply) → MayAnswer s t op reply → objects_after java_code l op reply s r ≡ Some o
-          by_op (New c n) (Made q) answered =
-              set_at-at (λ x. x ≡ Some o) s.objects q (Some (record { class = c; length = n; words = java_code.words l c n })) r
-              (λ e. let gone : is_some (s.objects r) ≡ false = subst (λ x. IsNone (s.objects x)) (sym e) answered.2 in
-              let is : is_some (s.objects r) ≡ true = ap is_some there in cc)
-              (λ _. there)
-          by_op _ _ answered = there
+      grow = objects_stay us s t l op reply step
 
       -- a priority that a Thread has stays one
       stays : (r : ℕ) (o : Object) → s.objects r ≡ Some o → IsThread us o.class ≡ true → IsPriority (s.words r THREAD_PRIORITY) → IsPriority (words_after op reply s r THREAD_PRIORITY)
@@ -150,22 +131,8 @@ module _ (us : List ClassUnit) (knows : Knows (executions us) us) (accepted : Ac
               (λ _. still r i)
           by_op _ _ answered want keeps = still r i
 
-      -- what is answered is true
       true_reply : IsTrueReply (ObjectFits us) (MayStand us) (objects_after java_code l op reply s) op reply
-      true_reply = by_op op reply step.answered kept_after.objects
-        where
-          by_op : (op : Op) (reply : Reply) → MayAnswer s t op reply → ((r : ℕ) (o : Object) → objects_after java_code l op reply s r ≡ Some o → ObjectFits us r o) → IsTrueReply (ObjectFits us) (MayStand us) (objects_after java_code l op reply s) op reply
-          by_op (ClassOf r) (Class c n) answered fit = by_object (s.objects r) refl answered
-            where
-              by_object : (o : Option Object) → s.objects r ≡ o → IsSomeAnd o (λ x. (x.class ≡ c) × (x.length ≡ n)) → IsObject (ObjectFits us) s.objects r c n
-              by_object (Some o) e is = record { object = o; there = e; class = is.0; length = is.1; stands = fit r o e }
-              by_object None e is = absurd is
-          by_op (Read r i) (Value v) answered fit = subst (λ x. MayStand us s.objects r i x) (sym answered) (kept.words r i)
-          by_op (New c n) (Made r) answered fit =
-              let made : Object = record { class = c; length = n; words = java_code.words l c n } in
-              let there : objects_after java_code l (New c n) (Made r) s r ≡ Some made = set_at-hit s.objects r (Some made) in
-              record { object = made; there = there; class = refl; length = refl; stands = fit r made there }
-          by_op op reply answered fit = answers_fit Local s t op reply answered
+      true_reply = reply_is_true us s t l op reply step kept kept_after
 
       tells : TellsPriorities us next op reply
       tells = by_op op reply step.answered refl refl

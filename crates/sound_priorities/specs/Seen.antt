@@ -14,7 +14,7 @@ use Rattle.op_core.specs.declared.Reply.TheVariants.{Value, Done}
 use Rattle.op_core.specs.OrdinaryState.{Object, OrdinaryState, live}
 use Rattle.java_rows.specs.Thread.{Local}
 use Rattle.kept_states.specs.Kept.{Extends}
-use Rattle.soundness_senses.specs.Senses.{Sense, reference}
+use Rattle.soundness_senses.specs.Senses.{Sense, PlainSteps, reference}
 use Rattle.soundness_senses.specs.Fits.{Preceding, LocalFits, IsTheEnd}
 use Rattle.soundness_senses.specs.Runs.{Known, fixed_of, IsThread, WordHolds, runs}
 
@@ -35,10 +35,10 @@ pub record IsSet (us : List ClassUnit) (h : Seen us) (r : ℕ) : Type 0 where
   pub there : h.known.objects r ≡ Some object
   pub set : IsThread us object.class ≡ true → IsPriority (h.priorities r)
 
--- Thread is the class of the type, or above it
-abbrev pub IsThreadType : List ClassUnit → ObjectType → Type 0
-IsThreadType us (Class c) = Contains (superclasses (classes_of us) c) THREAD
-IsThreadType us _ = ⊥
+-- the class k is that of the type, or above it
+abbrev pub IsTypeBelow : List ClassUnit → ℕ → ObjectType → Type 0
+IsTypeBelow us k (Class c) = Contains (superclasses (classes_of us) c) k
+IsTypeBelow us k _ = ⊥
 
 -- the place isn't that of a Thread's priority
 abbrev pub IsElsewhere : (us : List ClassUnit) → Seen us → ℕ → ℕ → Type 0
@@ -71,13 +71,15 @@ executions us = record {
   exact = Unit {0};
   is_priority = IsPriority;
   is_there = λ h r. (runs us).is_there h.known r;
-  is_raw = λ h r t. (runs us).is_raw h.known r t × (IsSet us h r ⊎ IsThreadType us t);
+  is_raw = λ h r t. (runs us).is_raw h.known r t × (IsSet us h r ⊎ IsTypeBelow us THREAD t);
   is_of = λ h r t. (runs us).is_of h.known r t × IsSet us h r;
   is_exactly = λ h r c n. (runs us).is_exactly h.known r c n;
   is_thrown = λ h r c. (runs us).is_thrown h.known r c × IsSet us h r;
   has_word = λ h r i k. (runs us).has_word h.known r i k × IsElsewhere us h r i;
+  is_text = λ h r. (runs us).is_text h.known r;
   may_want = λ h op. (runs us).may_want h.known op × KeepsPriorities us h op;
   may_come = λ h op reply. (runs us).may_come h.known op reply × TellsPriorities us h op reply;
+  steps = PlainSteps (GoesOn us) (λ h op. (runs us).may_want h.known op × KeepsPriorities us h op) (λ h op reply. (runs us).may_come h.known op reply × TellsPriorities us h op reply);
 }
 
 -- a local state that fits what is known in executions

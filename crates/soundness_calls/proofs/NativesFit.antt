@@ -12,7 +12,7 @@ use Rattle.java_rows.specs.Natives.{notifies_all, waits, not_owner, prints, inhe
 use Rattle.java_rows.specs.Plan.{notifies, Plan, Use, want, on_done, writes, raises}
 use Rattle.soundness_senses.specs.Senses.{Sense}
 use Rattle.soundness_senses.specs.Fits.{Returns, ResultFits, IsMade, PlanFits, anything, UseFits}
-use Rattle.soundness_senses.specs.Knowledge.{Knows}
+use Rattle.soundness_senses.specs.Knowledge.{LineFits, Knows}
 use Rattle.soundness_senses.specs.Accepted.{Accepted}
 use Rattle.soundness_calls.proofs.CallsFit.{raises_fit}
 use Rattle.soundness_senses.proofs.Plans.{notifies_fit, waits_fit, rewakes_fit, prints_fit, reads_priority_fit, writes_priority_fit}
@@ -48,8 +48,8 @@ module _ {P : Type 0} (know : Sense P) (us : List ClassUnit) (knows : Knows know
         waits_fit know us knows res h r (want (Rewake r) (on_done (u.value []))) (not_owner u) there
         (λ h' more. rewakes_fit know us knows res h' r (u.value []) (knows.there_more h h' r more there) (λ h'' more'. done h'' (knows.both h h' h'' more more'))) refused
 
-    pub println_fits : (line : Line) → PlanFits know us res anything (prints line u) h
-    println_fits line = prints_fit know us knows res h line (u.value []) done
+    pub println_fits : (line : Line) → LineFits know h line → PlanFits know us res anything (prints line u) h
+    println_fits line fits = prints_fit know us knows res h line (u.value []) fits done
 
   -- a new thread has the priority of the thread that makes it
   pub inherits_fit : (h : P) (res : Option Returns) (t : ℕ) (k : Plan) → know.is_of h me (Class THREAD) → know.is_raw h t (Class THREAD) → ((h' : P) → know.extends h h' → know.is_of h' t (Class THREAD) → PlanFits know us res anything k h')

@@ -1,10 +1,10 @@
 -- The methods of the built-in classes, one by one.
-use Rattle.std.proofs.Common.{◌≡◌, ◌^◌, ◌%◌, ◌==◌, ◌&&◌, ℕ, Bool, true, false, inl, inr, Option, None, Some, List, [], ◌∷◌, refl, sym, ap, subst, ◌∙◌, arith, nat_le, if◌then◌else◌}
+use Rattle.std.proofs.Common.{◌≡◌, ◌⊎◌, ◌^◌, ◌%◌, ◌==◌, ◌&&◌, ℕ, Bool, true, false, inl, inr, Option, None, Some, List, [], ◌∷◌, refl, sym, ap, subst, ◌∙◌, nat_le, if◌then◌else◌}
 use Rattle.std.proofs.lemmas.Bool.{eqb-false, and_parts, leb-true}
 use Rattle.std.specs.Int.{w32, w64, cast_signed}
 use Rattle.builtin_world.specs.declared.Native.{Native}
 use Rattle.builtin_world.specs.declared.Native.TheVariants.{ObjectInit, ObjectWait, ObjectNotify, ObjectNotifyAll, ObjectEquals, PrintlnEmpty, PrintlnInt, PrintlnLong, PrintlnChar, PrintlnBoolean, PrintlnString, ThreadInit, ThreadInitTarget, ThreadStart, ThreadRun, ThreadJoin, ThreadSetPriority, ThreadGetPriority, ThreadCurrentThread, ThreadYield, ThrowableInit, ThrowableInitMessage, ThrowableGetMessage, StringLength, StringCharAt, StringEquals, StringConcat, BuilderInit, BuilderInitText, AppendInt, AppendLong, AppendChar, AppendBoolean, AppendString, BuilderLength, BuilderToString}
-use Rattle.builtin_world.specs.declared.number.TheConstants.{OBJECT, THREAD, RUNNABLE, STRING, STRING_BUILDER, THROWABLE, NULL_POINTER_EXCEPTION, ILLEGAL_MONITOR_STATE_EXCEPTION, ILLEGAL_ARGUMENT_EXCEPTION, ILLEGAL_THREAD_STATE_EXCEPTION}
+use Rattle.builtin_world.specs.declared.number.TheConstants.{OBJECT, THREAD, RUNNABLE, STRING, STRING_BUILDER, THROWABLE, ILLEGAL_MONITOR_STATE_EXCEPTION, ILLEGAL_ARGUMENT_EXCEPTION, ILLEGAL_THREAD_STATE_EXCEPTION}
 use Rattle.builtin_world.specs.declared.word.TheConstants.{STRING_UNITS, THREAD_PRIORITY, THREAD_TARGET, THROWABLE_MESSAGE}
 use Rattle.builtin_world.specs.Laws.{is_throwable}
 use Rattle.code_decode.specs.declared.code.ClassUnit.{ClassUnit}
@@ -16,7 +16,6 @@ use Rattle.java_rows.specs.Natives.{native, not_owner, prints, prints_string, st
 use Rattle.java_rows.specs.Plan.{finds, Use, want, writes, reads, raises, asks_class}
 use Rattle.soundness_senses.specs.Senses.{Sense, IsReference, reference}
 use Rattle.soundness_senses.specs.Fits.{Returns, ResultFits, ValuesFit, IsMade, PlanFits, anything, EndsFit, UseFits}
-use Rattle.soundness_senses.specs.Texts.{char_array}
 use Rattle.soundness_senses.specs.Knowledge.{Knows}
 use Rattle.soundness_senses.specs.Accepted.{Accepted}
 use Rattle.soundness_senses.specs.Natives.{FitsNative, IsNativeOf, IsNativeConstructor, native_takes, native_gives, native_static}
@@ -29,7 +28,7 @@ use Rattle.java_rows.specs.Units.{an_int, a_long, a_char, a_boolean, a_string}
 use Rattle.soundness_calls.proofs.TextsFit.{builder_set}
 use Rattle.soundness_calls.proofs.TextRowsFit.{text_length_fits, text_char_fits, text_equals_fits, text_joins_fits, copies_text_fits, appends_fit, builder_length_fits, tells_text_fits}
 use Rattle.soundness_objects.proofs.ReadValues.{there}
-use Rattle.soundness_senses.proofs.Plans.{prints_fit, notifies_fit, reads_fit, writes_fit, reads_priority_fit, writes_priority_fit, starts_fit, joins_fit, asks_class_fit}
+use Rattle.soundness_senses.proofs.Plans.{prints_fit, notifies_fit, reads_fit, reads_array_fit, writes_fit, reads_priority_fit, writes_priority_fit, starts_fit, joins_fit, asks_class_fit}
 use Rattle.link_types.specs.declared.types.ValueType.TheVariants as values
 use Rattle.op_core.specs.declared.Line.TheVariants as lines
 
@@ -48,19 +47,20 @@ module _ {P : Type 0} (know : Sense P) (us : List ClassUnit) (knows : Knows know
       string_fits : (void : tells.value ≡ None) (s : ℕ) → IsReference know h s (Class STRING) → PlanFits know us res anything (prints_string s u) h
       string_fits void s is = by_test (s == 0) refl
         where
-          by_array : (h' : P) → know.extends h h' → know.is_of h' s (Class STRING) → (array : ℕ) (b : Bool) → PlanFits know us res anything (if b then asks_class s (λ c n. prints (lines.Text n) u) else prints (lines.Made array) u) h'
-          by_array h' more of array true =
+          by_array : (h' : P) → know.extends h h' → know.is_of h' s (Class STRING) → (array : ℕ) → (array ≡ 0) ⊎ know.is_text h' array → (b : Bool) → (array == 0) ≡ b → PlanFits know us res anything (if b then asks_class s (λ c n. prints (lines.Text n) u) else prints (lines.Made array) u) h'
+          by_array h' more of array fits true e =
               asks_class_fit know us knows res h' s (λ c n. prints (lines.Text n) u) (knows.looks h' s (knows.there_of h' s (Class STRING) (knows.raw_of h' s (Class STRING) of)))
-              (λ h'' c n more' exactly. prints_fit know us knows res h'' (lines.Text n) (u.value []) (λ h''' more''. done void h''' (knows.both h h'' h''' (knows.both h h' h'' more more') more'')))
-          by_array h' more of array false = prints_fit know us knows res h' (lines.Made array) (u.value []) (λ h'' more'. done void h'' (knows.both h h' h'' more more'))
+              (λ h'' c n more' exactly. prints_fit know us knows res h'' (lines.Text n) (u.value []) tt (λ h''' more''. done void h''' (knows.both h h'' h''' (knows.both h h' h'' more more') more'')))
+          by_array h' more of array (inl null) false e = absurd (eqb-false array 0 e null)
+          by_array h' more of array (inr text) false e = prints_fit know us knows res h' (lines.Made array) (u.value []) text (λ h'' more'. done void h'' (knows.both h h' h'' more more'))
 
           by_test : (b : Bool) → (s == 0) ≡ b
               → PlanFits know us res anything (if b then prints lines.Null u else reads s STRING_UNITS (λ array. if array == 0 then asks_class s (λ c n. prints (lines.Text n) u) else prints (lines.Made array) u)) h
-          by_test true e = println_fits know us knows accepted me h res u tells void plain on lines.Null
+          by_test true e = println_fits know us knows accepted me h res u tells void plain on lines.Null tt
           by_test false e =
               let of : know.is_of h s (Class STRING) = there know us knows accepted me h s (Class STRING) (eqb-false s 0 e) is in
-              reads_fit know us knows res h s STRING_UNITS (reference char_array) (λ array. if array == 0 then asks_class s (λ c n. prints (lines.Text n) u) else prints (lines.Made array) u) (knows.units h s (knows.raw_of h s (Class STRING) of))
-              (λ h' array more fits. by_array h' more (knows.of_more h h' s (Class STRING) more of) array (array == 0))
+              reads_array_fit know us knows res h s (λ array. if array == 0 then asks_class s (λ c n. prints (lines.Text n) u) else prints (lines.Made array) u) of
+              (λ h' array more fits. by_array h' more (knows.of_more h h' s (Class STRING) more of) array fits (array == 0) refl)
 
       target_fits : (void : tells.value ≡ None) (t : ℕ) → know.is_of h t (Class THREAD) → PlanFits know us res anything (runs_target t u) h
       target_fits void t of =
@@ -101,11 +101,11 @@ module _ {P : Type 0} (know : Sense P) (us : List ClassUnit) (knows : Knows know
           notifies_fit know us knows res h r (u.value []) (u.value []) (not_owner u) (is_there c r of) (done void) (done void) (refused ILLEGAL_MONITOR_STATE_EXCEPTION refl)
       by_native ObjectNotifyAll c r [] f is of fits void = notify_all_fits know us knows accepted me h res u tells void plain on r (is_there c r of)
       by_native ObjectEquals c r (other ∷ []) f is of fits same = (tt, gives (Some values.Boolean) same h ((if r == other then 1 else 0) ∷ []) (knows.itself h) (λ exact. flag_fits (r == other)))
-      by_native PrintlnEmpty c r [] f is of fits void = println_fits know us knows accepted me h res u tells void plain on lines.Empty
-      by_native PrintlnInt c r (n ∷ []) f is of fits void = println_fits know us knows accepted me h res u tells void plain on (lines.Int (cast_signed w32 n))
-      by_native PrintlnLong c r (low ∷ high ∷ []) f is of fits void = println_fits know us knows accepted me h res u tells void plain on (lines.Long (cast_signed w64 (long_of low high)))
-      by_native PrintlnChar c r (x ∷ []) f is of fits void = println_fits know us knows accepted me h res u tells void plain on (lines.Char (char_of x))
-      by_native PrintlnBoolean c r (b ∷ []) f is of fits void = println_fits know us knows accepted me h res u tells void plain on (lines.Bool (b % 2 == 1))
+      by_native PrintlnEmpty c r [] f is of fits void = println_fits know us knows accepted me h res u tells void plain on lines.Empty tt
+      by_native PrintlnInt c r (n ∷ []) f is of fits void = println_fits know us knows accepted me h res u tells void plain on (lines.Int (cast_signed w32 n)) tt
+      by_native PrintlnLong c r (low ∷ high ∷ []) f is of fits void = println_fits know us knows accepted me h res u tells void plain on (lines.Long (cast_signed w64 (long_of low high))) tt
+      by_native PrintlnChar c r (x ∷ []) f is of fits void = println_fits know us knows accepted me h res u tells void plain on (lines.Char (char_of x)) tt
+      by_native PrintlnBoolean c r (b ∷ []) f is of fits void = println_fits know us knows accepted me h res u tells void plain on (lines.Bool (b % 2 == 1)) tt
       by_native PrintlnString c r (s ∷ []) f is of fits void = string_fits void s fits.0
       by_native ThreadInit c r [] f is of fits void =
           inherits_fit know us knows accepted me h res r (u.value []) mine (knows.raw_of h r (Class THREAD) (is_thread c r is of)) (λ h' more set. done void h' more)

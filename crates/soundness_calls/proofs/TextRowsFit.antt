@@ -1,5 +1,5 @@
 -- The methods of String and StringBuilder.
-use Rattle.std.proofs.Common.{◌≡◌, ◌⊎◌, inl, inr, ◌<◌, ◌+◌, ◌%◌, ◌^◌, ◌==◌, ℕ, Bool, true, false, Option, None, Some, List, [], ◌∷◌, ◌++◌, length, slice_get, refl, subst, arith, if◌then◌else◌}
+use Rattle.std.proofs.Common.{◌≡◌, inr, ◌%◌, ◌==◌, ℕ, Bool, true, false, Option, None, Some, List, [], ◌∷◌, ◌++◌, length, slice_get, refl, subst, arith, if◌then◌else◌}
 use Rattle.std.specs.Prelude.{codes, bytes_eq}
 use Rattle.std.specs.Option.{unwrap_or}
 use Rattle.std.proofs.lemmas.Bool.{eqb-true, eqb-false}
@@ -22,7 +22,8 @@ use Rattle.soundness_senses.proofs.Basics.{reference_more}
 use Rattle.soundness_calls.proofs.NativesFit.{gives_fit, refused_fit, flag_fits}
 use Rattle.soundness_objects.proofs.ReadValues.{there}
 use Rattle.soundness_senses.proofs.Plans.{asks_class_fit, writes_fit}
-use Rattle.soundness_calls.proofs.TextsFit.{append_words, unit_word, string_known, reads_text_fits, reads_so_far_fits, makes_text_fits}
+use Rattle.soundness_senses.proofs.TextsMade.{unit_word}
+use Rattle.soundness_calls.proofs.TextsFit.{append_words, string_known, reads_text_fits, reads_so_far_fits, makes_text_fits}
 use Rattle.link_types.specs.declared.types.ValueType.TheVariants as values
 
 module _ {P : Type 0} (know : Sense P) (us : List ClassUnit) (knows : Knows know us) (accepted : Accepted us) (me : ℕ) where

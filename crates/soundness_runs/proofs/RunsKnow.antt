@@ -1,8 +1,8 @@
 -- In runs all is known that the rows need.
-use Rattle.std.proofs.Common.{◌≡◌, inl, inr, ℕ, suc, ◌<◌, ◌^◌, true, List, [], ◌∷◌, length, Some, sym, ap, subst, ◌∙◌, arith}
+use Rattle.std.proofs.Common.{◌≡◌, inl, inr, ℕ, suc, ◌<◌, ◌^◌, true, List, [], ◌∷◌, Some, refl, sym, ap, subst, ◌∙◌, arith}
 use Rattle.std.proofs.lemmas.Option.{same_Some}
 use Rattle.builtin_world.specs.declared.number.TheConstants.{OBJECT, THREAD, THROWABLE, CLASS, STRING, PRINT_STREAM}
-use Rattle.builtin_world.specs.declared.word.TheConstants.{THREAD_PRIORITY}
+use Rattle.builtin_world.specs.declared.word.TheConstants.{STRING_UNITS, THREAD_PRIORITY}
 use Rattle.code_decode.specs.declared.code.ClassUnit.{ClassUnit}
 use Rattle.link_types.specs.declared.types.ObjectType.{ObjectType}
 use Rattle.link_types.specs.declared.types.ObjectType.TheVariants.{Class}
@@ -16,10 +16,12 @@ use Rattle.op_core.specs.OrdinaryState.{Object}
 use Rattle.java_rows.specs.Program.{is_subclass}
 use Rattle.soundness_senses.specs.Senses.{Content, number, reference, WordFits}
 use Rattle.soundness_senses.specs.Texts.{char_array}
-use Rattle.soundness_senses.specs.Knowledge.{Knows, HasWords}
+use Rattle.soundness_senses.specs.Knowledge.{Knows, HasWords, CanBeMade}
 use Rattle.kept_states.specs.Kept.{Objects, Extends, IsObject, IsTrueReply}
 use Rattle.soundness_senses.specs.Runs.{ObjectFits, WordHolds, HasAny, HasObject, HasWordFor, MayStand, MayStandFor, RunsWant, Known, runs}
 use Rattle.soundness_runs.specs.ClassesFollow.{HasEach, IsFixed, HasElement, ClassesFollow}
+use Rattle.soundness_senses.proofs.TextsMade.{MakesTexts, plain_text, string_type}
+use Rattle.instructions.specs.declared.operation.ElementKind.TheVariants as elements
 use Rattle.op_core.specs.declared.Reply.TheVariants as replies
 
 module _ (us : List ClassUnit) (follow : ClassesFollow us) where
@@ -89,9 +91,39 @@ module _ (us : List ClassUnit) (follow : ClassesFollow us) where
   priority_there : (h : Known us) (r : ℕ) → HasObject us h.objects r (Class THREAD) → HasWordFor us h.objects r THREAD_PRIORITY number
   priority_there h r is = let one = follow.priority r is.object is.fits is.stands in record { object = is.object; there = is.there; fits = is.fits; holds = one.holds; within = one.within; spared = one.spared }
 
+  -- the word of a String, and a unit of its array
+  pub units_there : (h : Known us) (r : ℕ) → HasObject us h.objects r (Class STRING) → HasWordFor us h.objects r STRING_UNITS (reference char_array)
+  units_there h r is = let one = follow.units r is.object is.fits is.stands in record { object = is.object; there = is.there; fits = is.fits; holds = one.holds; within = one.within; spared = one.spared }
+
   -- the object whose class and length were answered is the one that is there
   same_object : (h : Objects) (r c n : ℕ) (t : ObjectType) (of : HasObject us h r t) (is : IsObject (ObjectFits us) h r c n) → of.object ≡ is.object
   same_object h r c n t of is = same_Some of.object is.object (sym of.there ∙ is.there)
+
+  pub unit_there : (h : Known us) (r c n i : ℕ) → HasObject us h.objects r char_array → IsObject (ObjectFits us) h.objects r c n → i < n → HasWordFor us h.objects r i number
+  unit_there h r c n i of exactly within =
+      let same = same_object h.objects r c n char_array of exactly in
+      (each_word h.objects r i of.object (number ∷ []) h of.there of.fits (follow.elements r i of.object elements.Char char_array tt of.fits of.stands refl (omega (arith, within, ap (λ (o : Object). o.length) same, exactly.length)))).0
+
+  -- a new object is of its class
+  abbrev new_object : (h : Known us) (c n r : ℕ) → CanBeMade us c n → IsObject (ObjectFits us) h.objects r c n → HasObject us h.objects r (type_numbered (program_names us) c)
+  new_object h c n r can come = record { object = come.object; there = come.there; fits = come.stands; stands = subst (λ x. MayStandFor us x (type_numbered (program_names us) c)) (sym come.class) (follow.own c can.class) }
+
+  pub runs_make_texts : MakesTexts (runs us) us
+  runs_make_texts = record {
+    itself = λ h r o e. e;
+    both = λ h h' h'' more more' r o e. more' r o (more r o e);
+    fits = λ h op reply come. true_fits h.objects op reply come;
+    asks = λ res h op k follows may next. (follows, (may, next));
+    of_more = λ h h' r more is. object_more h.objects h'.objects r char_array more is;
+    exactly_more = λ h h' r c n more is. record { object = is.object; there = more r is.object is.there; class = is.class; length = is.length; stands = is.stands };
+    string_more = λ h h' r more is. object_more h.objects h'.objects r (Class STRING) more is;
+    makes = λ h c n can. can;
+    array = λ h c n r can type come. subst (λ t. HasObject us h.objects r t) type (new_object h c n r can come);
+    exactly = λ h c n r come. come;
+    string = λ h r can come. subst (λ t. HasObject us h.objects r t) (string_type us) (new_object h STRING 0 r can come);
+    unit = λ h r c n i v of exactly within small. let has = unit_there h r c n i of exactly within in (number, has, may_write h r i v number has (λ exact. small));
+    name = λ h s r is of. let has = units_there h s is in (reference char_array, has, may_write h s STRING_UNITS r (reference char_array) has (inr of));
+  }
 
   pub runs_know : Knows (runs us) us
   runs_know = record {
@@ -103,7 +135,10 @@ module _ (us : List ClassUnit) (follow : ClassesFollow us) where
     exactly_more = λ h h' r c n more is. record { object = is.object; there = more r is.object is.there; class = is.class; length = is.length; stands = is.stands };
     thrown_more = λ h h' r c more is. record { object = is.object; there = more r is.object is.there; fits = is.fits; class = is.class; can = is.can };
     word_more = λ h h' r i k more is. word_more h.objects h'.objects r i k more is;
+    text_more = λ h h' r more is. object_more h.objects h'.objects r char_array more is;
     want_more = λ h h' op more is. want_more h.objects h'.objects op more is;
+    asks = λ res b h op k follows none may next. (follows, (may, next));
+    asks_more = λ res b h h' op k more fits. (fits.0, (want_more h.objects h'.objects op more fits.1.0, λ h'' reply more' come. fits.1.1 h'' reply (λ r o e. more' r o (more r o e)) come));
     fits = λ h op reply come. true_fits h.objects op reply come;
     small = λ h r is exact. is.fits.small;
     up = λ h r s t is e. record { object = is.object; there = is.there; fits = is.fits; stands = follow.up is.object.class s t is.fits.class e is.stands };
@@ -117,15 +152,15 @@ module _ (us : List ClassUnit) (follow : ClassesFollow us) where
     waits = λ h r is. is;
     rewakes = λ h r is. is;
     notifies = λ h r is. is;
-    prints = λ h line. tt;
+    prints = λ h line fits. tt;
     starts = λ h r p is may. (is, omega arith);
     joins = λ h r is. is;
     inits = λ h c file. file;
     settles = λ h c ok file. file;
     ends = λ h x. tt;
     makes = λ h c n can. can;
-    made = λ h c n r can come. record { object = come.object; there = come.there; fits = come.stands; stands = subst (λ x. MayStandFor us x (type_numbered (program_names us) c)) (sym come.class) (follow.own c can.class) };
-    made_array = λ h c n r can array come. record { object = come.object; there = come.there; fits = come.stands; stands = subst (λ x. MayStandFor us x (type_numbered (program_names us) c)) (sym come.class) (follow.own c can.class) };
+    made = λ h c n r can come. new_object h c n r can come;
+    made_array = λ h c n r can array come. new_object h c n r can come;
     made_object = λ h r c right is. record { object = is.object; there = is.there; fits = is.fits; stands = follow.top is.object.class };
     made_throwable = λ h r c below is. is;
     made_thread = λ h r p is may come. is;
@@ -138,8 +173,12 @@ module _ (us : List ClassUnit) (follow : ClassesFollow us) where
     statics = λ h f is. let (fixed, each) = follow.class_field f is in each_word h.objects (class_object (program_names us) f.owner) f.place fixed.object _ h (h.fixed _ fixed.object fixed.there) fixed.fits each;
     target = λ h r is. let one = follow.target r is.object is.fits is.stands in record { object = is.object; there = is.there; fits = is.fits; holds = one.holds; within = one.within; spared = one.spared };
     message = λ h r is. let one = follow.message r is.object is.fits is.stands in record { object = is.object; there = is.there; fits = is.fits; holds = one.holds; within = one.within; spared = one.spared };
-    units = λ h r is. let one = follow.units r is.object is.fits is.stands in record { object = is.object; there = is.there; fits = is.fits; holds = one.holds; within = one.within; spared = one.spared };
     text = λ h r is. let one = follow.text r is.object is.fits is.stands in record { object = is.object; there = is.there; fits = is.fits; holds = one.holds; within = one.within; spared = one.spared };
+    asks_text = λ h r is. (reference char_array, units_there h r is);
+    units = λ h r v is come. let one = units_there h r is in come.1 one.object char_array one.there one.holds;
+    text_there = λ h r is. record { object = is.object; there = is.there; fits = is.fits };
+    asks_unit = λ h r c n i is exactly within. (number, unit_there h r c n i is exactly within);
+    makes_text = λ res h c units k can past type can_string words on. plain_text (runs us) us runs_make_texts res h c units k can type can_string words on;
     priorities = λ p low high. omega (arith, high);
     priority_words = λ p is exact. is;
     asks_priority = λ h r is. (number, priority_there h r is);

@@ -8,6 +8,7 @@ use Rattle.link_types.specs.declared.types.ObjectType.TheVariants.{Class}
 use Rattle.soundness_senses.specs.Senses.{Content, number, reference, WordFits}
 use Rattle.soundness_senses.specs.Knowledge.{Knows, HasWords, contents_of, element_place, element_contents}
 use Rattle.soundness_senses.specs.Kinds.{kinds}
+use Rattle.soundness_senses.proofs.TextsMade.{MakesTexts, plain_text}
 
 module _ (us : List ClassUnit) where
   all_words : (r i : ℕ) (ks : List Content) → HasWords (kinds us) tt r i ks
@@ -17,6 +18,23 @@ module _ (us : List ClassUnit) where
   all_fit : (v : ℕ) (k : Content) → WordFits (kinds us) tt v k
   all_fit v number = λ exact. absurd exact
   all_fit v (reference t) = inr tt
+
+  kinds_make_texts : MakesTexts (kinds us) us
+  kinds_make_texts = record {
+    itself = λ h. tt;
+    both = λ h h' h'' more more'. tt;
+    fits = λ h op reply come. come;
+    asks = λ res h op k follows may next. (follows, (may, next));
+    of_more = λ h h' r more is. tt;
+    exactly_more = λ h h' r c n more is. tt;
+    string_more = λ h h' r more is. tt;
+    makes = λ h c n can. can;
+    array = λ h c n r can type come. tt;
+    exactly = λ h c n r come. tt;
+    string = λ h r can come. tt;
+    unit = λ h r c n i v is exactly within small. tt;
+    name = λ h s r is of. tt;
+  }
 
   pub kinds_know : Knows (kinds us) us
   kinds_know = record {
@@ -28,7 +46,10 @@ module _ (us : List ClassUnit) where
     exactly_more = λ h h' r c n more is. tt;
     thrown_more = λ h h' r c more is. tt;
     word_more = λ h h' r i k more is. tt;
+    text_more = λ h h' r more is. tt;
     want_more = λ h h' op more is. is;
+    asks = λ res b h op k follows none may next. (follows, (may, next));
+    asks_more = λ res b h h' op k more fits. (fits.0, (fits.1.0, λ h'' reply more' come. fits.1.1 h'' reply tt come));
     fits = λ h op reply come. come;
     small = λ h r is exact. absurd exact;
     up = λ h r s t is e. tt;
@@ -42,7 +63,7 @@ module _ (us : List ClassUnit) where
     waits = λ h r is. tt;
     rewakes = λ h r is. tt;
     notifies = λ h r is. tt;
-    prints = λ h line. tt;
+    prints = λ h line fits. tt;
     starts = λ h r p is may. tt;
     joins = λ h r is. tt;
     inits = λ h c file. file;
@@ -63,8 +84,12 @@ module _ (us : List ClassUnit) where
     statics = λ h f is. all_words (class_object (program_names us) f.owner) f.place (contents_of f.kind);
     target = λ h r is. tt;
     message = λ h r is. tt;
-    units = λ h r is. tt;
     text = λ h r is. tt;
+    asks_text = λ h r is. tt;
+    units = λ h r v is come. inr tt;
+    text_there = λ h r is. tt;
+    asks_unit = λ h r c n i is exactly within. tt;
+    makes_text = λ res h c units k can past type can_string words on. plain_text (kinds us) us kinds_make_texts res h c units k can type can_string words on;
     priorities = λ p low high. tt;
     priority_words = λ p is exact. absurd exact;
     asks_priority = λ h r is. tt;

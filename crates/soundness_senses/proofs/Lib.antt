@@ -1,6 +1,7 @@
 pub mod Basics
 pub mod Plans
 pub mod Operands
+pub mod TextsMade
 pub mod KindsKnow
 pub mod Flow
 pub mod RowBasics

@@ -49,7 +49,7 @@ module _ {P : Type 0} (know : Sense P) (us : List ClassUnit) (knows : Knows know
   call_more id args monitor call = record { frame = call.frame; first = call.first; fits = frame_more call.frame call.fits }
 
   pub plan_more : (res : Option Returns) (b : Preceding) (plan : Plan) → PlanFits know us res b plan h → PlanFits know us res b plan h'
-  plan_more res b (want op k) (follows, may, next) = (follows, knows.want_more h h' op more may, λ h'' reply more' come. next h'' reply (knows.both h h' h'' more more') come)
+  plan_more res b (want op k) fits = knows.asks_more res b h h' op k more fits
   plan_more res b (silently plan) (any, fits) = (any, plan_more res Rattle.soundness_senses.specs.Fits.anything plan fits)
   plan_more res b (calls id args monitor k) (any, call, next) = (any, call_more id args monitor call, λ h'' end more' fits. next h'' end (knows.both h h' h'' more more') fits)
   plan_more res b (ready ending) (any, fits) = (any, ending_more res ending fits)

@@ -25,8 +25,8 @@ use Rattle.java_rows.specs.Rows.{row}
 use Rattle.code_decode.specs.declared.code.Handler.{Handler}
 use Rattle.java_rows.specs.Throws.{looks_for, handler_for, caught_by}
 use Rattle.java_rows.specs.Thread.{at, at_instruction, at_task, begun, begun_first, first_frame, settled, next_of, silent_of, reply_of, launch}
-use Rattle.soundness_senses.specs.Senses.{Sense}
-use Rattle.soundness_senses.specs.Fits.{Returns, Preceding, anything, after_reply, IsAnywhere, IsTheEnd, IsBegun, EndFits, StandsIn, returns_of, TaskFits, FrameFits, CallFits, PlanFits, BelowFits, LocalFits}
+use Rattle.soundness_senses.specs.Senses.{Sense, Making, PlainSteps}
+use Rattle.soundness_senses.specs.Fits.{Returns, Preceding, Follows, anything, after_reply, making_of, following, IsAnywhere, IsTheEnd, IsBegun, EndFits, StandsIn, returns_of, TaskFits, FrameFits, CallFits, PlanFits, BelowFits, LocalFits}
 use Rattle.soundness_senses.specs.Knowledge.{Knows}
 use Rattle.soundness_senses.specs.Accepted.{Accepted}
 use Rattle.soundness_senses.proofs.Flow.{room_at}
@@ -158,34 +158,44 @@ module _ {P : Type 0} (know : Sense P) (us : List ClassUnit) (knows : Knows know
     below_more h h' res [] more rest = rest
     below_more h h' res (k ∷ below) more (own, next, rest) = (own, (λ h'' end more' fits. next h'' end (knows.both h h' h'' more more') fits), below_more h h' own below more rest)
 
-    replied : (b : Preceding) (h h' : P) (res : Option Returns) (below : List (FrameEnd → Plan)) (q : Op) (k : Reply → Plan) (reply : Reply) → know.is_of h me (Class THREAD)
-        → know.extends h h' → know.may_come h' q reply → PlanFits know us res b (want q k) h → BelowFits know us h res below → LocalFits know us (after_reply q reply) h' (settled us me (k reply) below)
-    replied b h h' res below q k reply mine more come fits rest =
-        settled_fits (after_reply q reply) h' res below (k reply) (knows.of_more h h' me (Class THREAD) more mine) (fits.2 h' reply more come) (below_more h h' res below more rest)
+    -- what follows a reply
+    pub replied : (b : Preceding) (h h' : P) (res : Option Returns) (below : List (FrameEnd → Plan)) (plan : Plan) → know.is_of h me (Class THREAD) → know.extends h h' → PlanFits know us res b plan h' → BelowFits know us h res below
+        → LocalFits know us b h' (settled us me plan below)
+    replied b h h' res below plan mine more fits rest = settled_fits b h' res below plan (knows.of_more h h' me (Class THREAD) more mine) fits (below_more h h' res below more rest)
 
-    pub reply_fits : (b : Preceding) (h h' : P) (res : Option Returns) (below : List (FrameEnd → Plan)) (plan : Plan) (op : Op) (reply : Reply) → know.is_of h me (Class THREAD) → next_of plan ≡ Want op
-        → know.extends h h' → know.may_come h' op reply → PlanFits know us res b plan h → BelowFits know us h res below → LocalFits know us (after_reply op reply) h' (reply_of us me plan reply below)
-    reply_fits b h h' res below (want q k) op reply mine e more come fits rest =
-        let same : q ≡ op = same_want q op e in
-        subst (λ x. LocalFits know us (after_reply x reply) h' (settled us me (k reply) below)) same (replied b h h' res below q k reply mine more (subst (λ x. know.may_come h' x reply) (sym same) come) fits rest)
-    reply_fits b h h' res below (silently plan) op reply mine e more come fits rest = absurd (silent_no op e)
-    reply_fits b h h' res below (calls id args monitor k) op reply mine e more come fits rest = absurd (silent_no op e)
-    reply_fits b h h' res below (ready ending) op reply mine e more come fits rest = absurd (ended_no op e)
-    reply_fits b h h' res below over op reply mine e more come fits rest = absurd (ended_no op e)
-    reply_fits b h h' res below stuck op reply mine e more come fits rest = absurd (ended_no op e)
+    -- a Sense whose steps keep nothing apart
+    module _ (plain : (m : Option Making) (h : P) (op : Op) (next : Option Making → P → Reply → Type 0) → know.steps m h op next → PlainSteps know.extends know.may_want know.may_come m h op next) where
+      pub reply_fits : (b : Preceding) (h h' : P) (res : Option Returns) (below : List (FrameEnd → Plan)) (plan : Plan) (op : Op) (reply : Reply) → know.is_of h me (Class THREAD) → next_of plan ≡ Want op
+          → know.extends h h' → know.may_come h' op reply → PlanFits know us res b plan h → BelowFits know us h res below → LocalFits know us (after_reply op reply) h' (reply_of us me plan reply below)
+      reply_fits b h h' res below (want q k) op reply mine e more come fits rest =
+          let same : q ≡ op = same_want q op e in
+          let next = plain (making_of b) h q (λ m h' reply. PlanFits know us res (following q reply m) (k reply) h') fits.1 in
+          subst (λ x. LocalFits know us (after_reply x reply) h' (settled us me (k reply) below)) same
+          (replied (after_reply q reply) h h' res below (k reply) mine more (next.1 h' reply more (subst (λ x. know.may_come h' x reply) (sym same) come)) rest)
+      reply_fits b h h' res below (silently plan) op reply mine e more come fits rest = absurd (silent_no op e)
+      reply_fits b h h' res below (calls id args monitor k) op reply mine e more come fits rest = absurd (silent_no op e)
+      reply_fits b h h' res below (ready ending) op reply mine e more come fits rest = absurd (ended_no op e)
+      reply_fits b h h' res below over op reply mine e more come fits rest = absurd (ended_no op e)
+      reply_fits b h h' res below stuck op reply mine e more come fits rest = absurd (ended_no op e)
 
-    pub wants_fit : (b : Preceding) (h : P) (res : Option Returns) (plan : Plan) (op : Op) → next_of plan ≡ Want op → PlanFits know us res b plan h → Rattle.soundness_senses.specs.Fits.Follows b op × know.may_want h op
-    wants_fit b h res (want q k) op e fits = let same : q ≡ op = cc in (subst (λ x. Rattle.soundness_senses.specs.Fits.Follows b x) same fits.0, subst (λ x. know.may_want h x) same fits.1)
-    wants_fit b h res plan op e fits = cc
+      pub wants_fit : (b : Preceding) (h : P) (res : Option Returns) (plan : Plan) (op : Op) → next_of plan ≡ Want op → PlanFits know us res b plan h → Follows b op × know.may_want h op
+      wants_fit b h res (want q k) op e fits =
+          let same : q ≡ op = same_want q op e in
+          (subst (λ x. Follows b x) same fits.0, subst (λ x. know.may_want h x) same (plain (making_of b) h q (λ m h' reply. PlanFits know us res (following q reply m) (k reply) h') fits.1).0)
+      wants_fit b h res (silently plan) op e fits = absurd (silent_no op e)
+      wants_fit b h res (calls id args monitor k) op e fits = absurd (silent_no op e)
+      wants_fit b h res (ready ending) op e fits = absurd (ended_no op e)
+      wants_fit b h res over op e fits = absurd (ended_no op e)
+      wants_fit b h res stuck op e fits = absurd (ended_no op e)
 
     -- a plan without a next operation comes after the thread's end alone
-    pub ended_fits : (b : Preceding) (h : P) (res : Option Returns) (plan : Plan) → next_of plan ≡ Ended → IsBegun plan → PlanFits know us res b plan h → b ≡ anything → ⊥
-    ended_fits b h res (want op k) e begun fits any = cc
-    ended_fits b h res (silently plan) e begun fits any = cc
-    ended_fits b h res (calls id args monitor k) e begun fits any = cc
-    ended_fits b h res over e begun fits any = let bad : IsTheEnd anything = subst IsTheEnd any fits in absurd bad
-    ended_fits b h res stuck e begun fits any = absurd fits
-    ended_fits b h res (ready ending) e begun fits any = absurd begun
+    pub ended_fits : (b : Preceding) (h : P) (res : Option Returns) (plan : Plan) → next_of plan ≡ Ended → IsBegun plan → PlanFits know us res b plan h → (IsTheEnd b → ⊥) → ⊥
+    ended_fits b h res (want op k) e started fits on = cc
+    ended_fits b h res (silently plan) e started fits on = cc
+    ended_fits b h res (calls id args monitor k) e started fits on = cc
+    ended_fits b h res over e started fits on = on fits
+    ended_fits b h res stuck e started fits on = fits
+    ended_fits b h res (ready ending) e started fits on = started
 
     pub child_fits : (h : P) → know.is_of h me (Class THREAD) → LocalFits know us anything h (Rattle.java_rows.specs.Thread.child_of us me)
     child_fits h mine = local_at anything h None (asks_class me (λ c n. invokes_selected us me (me ∷ []) launch (select us c thread_run))) [] tt mine (rows.children me h mine) refl

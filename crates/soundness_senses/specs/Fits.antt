@@ -25,7 +25,7 @@ use Rattle.op_core.specs.declared.Reply.{Reply}
 use Rattle.op_core.specs.declared.Reply.TheVariants.{Done}
 use Rattle.java_rows.specs.Plan.{Task, at_step, notifies, finds, Frame, FrameEnd, returned, threw, broke, Ending, goes, throws, ends, launches, Plan, want, silently, calls, ready, over, stuck, Use}
 use Rattle.java_rows.specs.Thread.{Local, first_frame}
-use Rattle.soundness_senses.specs.Senses.{Sense, IsWord, IsReference}
+use Rattle.soundness_senses.specs.Senses.{Sense, Making, IsWord, IsReference}
 use Rattle.link_types.specs.declared.types.ValueType.TheVariants as values
 
 -- the objects of a frame that may not be initialized yet: the one with which a constructor began, and what the `new` at each
@@ -55,6 +55,8 @@ pub data Preceding : Type 0 where
   anything : Preceding
   a_wait : ℕ → Preceding
   the_end : Preceding
+  -- a text is made meanwhile
+  a_text : Making → Preceding
 
 abbrev pub Follows : Preceding → Op → Type 0
 Follows anything (Rewake r) = ⊥
@@ -62,11 +64,22 @@ Follows anything _ = Unit {0}
 Follows (a_wait r) (Rewake q) = q ≡ r
 Follows (a_wait r) _ = ⊥
 Follows the_end _ = ⊥
+Follows (a_text m) (Rewake r) = ⊥
+Follows (a_text m) _ = Unit {0}
 
 abbrev pub after_reply : Op → Reply → Preceding
 after_reply (Wait r) Done = a_wait r
 after_reply (End x) Done = the_end
 after_reply _ _ = anything
+
+-- what the thread has of a text
+abbrev pub making_of : Preceding → Option Making
+making_of (a_text m) = Some m
+making_of _ = None
+
+abbrev pub following : Op → Reply → Option Making → Preceding
+following op reply (Some m) = a_text m
+following op reply None = after_reply op reply
 
 abbrev pub IsAnywhere : Preceding → Type 0
 IsAnywhere anything = Unit {0}
@@ -191,9 +204,7 @@ module _ {P : Type 0} (know : Sense P) (us : List ClassUnit) where
   -- What is left of an instruction fits: each operation may be wanted, and whatever reply may come, however much more is
   -- known by then, what follows fits. Without a row is only a text that may be too long.
   abbrev pub PlanFits : Option Returns → Preceding → Plan → P → Type 0
-  PlanFits res b (want op k) h =
-      Follows b op × know.may_want h op
-      × ((h' : P) (reply : Reply) → know.extends h h' → know.may_come h' op reply → PlanFits res (after_reply op reply) (k reply) h')
+  PlanFits res b (want op k) h = Follows b op × know.steps (making_of b) h op (λ m h' reply. PlanFits res (following op reply m) (k reply) h')
   PlanFits res b (silently plan) h = IsAnywhere b × PlanFits res anything plan h
   PlanFits res b (calls id args monitor k) h =
       IsAnywhere b × (call : CallFits h id args monitor)

@@ -6,7 +6,7 @@ use Rattle.op_core.specs.declared.Op.TheVariants.{New, Init, InitDone}
 use Rattle.op_core.specs.Replies.{Fits}
 use Rattle.java_rows.specs.Program.{is_of_file}
 use Rattle.java_rows.specs.Thread.{Local}
-use Rattle.soundness_senses.specs.Senses.{Sense}
+use Rattle.soundness_senses.specs.Senses.{Sense, PlainSteps}
 use Rattle.soundness_senses.specs.Fits.{Preceding, LocalFits}
 use Rattle.soundness_senses.specs.Knowledge.{CanBeMade}
 
@@ -27,8 +27,10 @@ kinds us = record {
   is_exactly = λ h r c n. Unit {0};
   is_thrown = λ h r c. Unit {0};
   has_word = λ h r i k. Unit {0};
+  is_text = λ h r. Unit {0};
   may_want = λ h op. KindsWant us op;
   may_come = λ h op reply. Fits op reply;
+  steps = PlainSteps (λ h h'. Unit {0}) (λ h op. KindsWant us op) (λ h op reply. Fits op reply);
 }
 
 abbrev pub KindsLocal : List ClassUnit → Preceding → Local → Type 0

@@ -27,10 +27,14 @@ use Rattle.type_rules.specs.FrameAfter.{element_of}
 use Rattle.type_rules.specs.Wants.{element_types, is_array_of_one, is_array_of_references}
 use Rattle.java_rows.specs.Program.{is_subclass, is_of_file, method_has, select, takes_element}
 use Rattle.soundness_senses.specs.Senses.{Content, number, reference, Sense, WordFits}
-use Rattle.soundness_senses.specs.Texts.{char_array}
+use Rattle.soundness_senses.specs.Texts.{char_array, AreWords}
+use Rattle.soundness_senses.specs.Fits.{Returns, Preceding, Follows, PlanFits, after_reply, anything, making_of}
+use Rattle.java_rows.specs.Plan.{Plan, want}
+use Rattle.java_rows.specs.Texts.{makes_array}
 use Rattle.link_types.specs.declared.operands.Operand.TheVariants as operands
 use Rattle.link_types.specs.declared.types.ElementType.TheVariants as element_types_
 use Rattle.link_types.specs.declared.types.ValueType.TheVariants as values
+use Rattle.op_core.specs.declared.Line.TheVariants as lines
 use Rattle.op_core.specs.declared.Reply.TheVariants as replies
 use Rattle.instructions.specs.declared.operation.ElementKind.TheVariants as elements
 
@@ -44,6 +48,11 @@ contents_of _ = number ∷ []
 abbrev pub HasWords : {P : Type 0} → Sense P → P → ℕ → ℕ → List Content → Type 0
 HasWords know h r i [] = Unit {0}
 HasWords know h r i (k ∷ ks) = know.has_word h r i k × HasWords know h r (suc i) ks
+
+-- a line of a String that the program made names its array
+abbrev pub LineFits : {P : Type 0} → Sense P → P → Line → Type 0
+LineFits know h (lines.Made r) = know.is_text h r
+LineFits know h line = Unit {0}
 
 -- a new object may have this class and this length
 pub record CanBeMade (us : List ClassUnit) (c n : ℕ) : Type 0 where
@@ -93,8 +102,13 @@ pub record Knows {P : Type 0} (know : Sense P) (us : List ClassUnit) : Type 0 wh
   pub exactly_more : (h h' : P) (r c n : ℕ) → know.extends h h' → know.is_exactly h r c n → know.is_exactly h' r c n
   pub thrown_more : (h h' : P) (r c : ℕ) → know.extends h h' → know.is_thrown h r c → know.is_thrown h' r c
   pub word_more : (h h' : P) (r i : ℕ) (k : Content) → know.extends h h' → know.has_word h r i k → know.has_word h' r i k
+  pub text_more : (h h' : P) (r : ℕ) → know.extends h h' → know.is_text h r → know.is_text h' r
   pub want_more : (h h' : P) (op : Op) → know.extends h h' → know.may_want h op → know.may_want h' op
   pub fits : (h : P) (op : Op) (reply : Reply) → know.may_come h op reply → Fits op reply
+  -- a plan fits that wants an operation which may be wanted, where what follows fits after each reply that may come
+  pub asks : (res : Option Returns) (b : Preceding) (h : P) (op : Op) (k : Reply → Plan) → Follows b op → making_of b ≡ None → know.may_want h op
+      → ((h' : P) (reply : Reply) → know.extends h h' → know.may_come h' op reply → PlanFits know us res (after_reply op reply) (k reply) h') → PlanFits know us res b (want op k) h
+  pub asks_more : (res : Option Returns) (b : Preceding) (h h' : P) (op : Op) (k : Reply → Plan) → know.extends h h' → PlanFits know us res b (want op k) h → PlanFits know us res b (want op k) h'
   pub small : (h : P) (r : ℕ) → know.is_there h r → know.exact → r < 2 ^ 32
   -- types
   pub up : (h : P) (r : ℕ) (s t : ObjectType) → know.is_of h r s → is_object_assignable (hierarchy_of (classes_of us)) s t ≡ true → know.is_of h r t
@@ -109,7 +123,7 @@ pub record Knows {P : Type 0} (know : Sense P) (us : List ClassUnit) : Type 0 wh
   pub waits : (h : P) (r : ℕ) → know.is_there h r → know.may_want h (Wait r)
   pub rewakes : (h : P) (r : ℕ) → know.is_there h r → know.may_want h (Rewake r)
   pub notifies : (h : P) (r : ℕ) → know.is_there h r → know.may_want h (Notify r)
-  pub prints : (h : P) (line : Line) → know.may_want h (Print line)
+  pub prints : (h : P) (line : Line) → LineFits know h line → know.may_want h (Print line)
   pub starts : (h : P) (r p : ℕ) → know.is_of h r (Class THREAD) → know.is_priority p → know.may_want h (Start r (p % 2 ^ 8))
   pub joins : (h : P) (r : ℕ) → know.is_of h r (Class THREAD) → know.may_want h (Join r)
   pub inits : (h : P) (c : ℕ) → is_of_file us c ≡ true → know.may_want h (Init c)
@@ -118,10 +132,10 @@ pub record Knows {P : Type 0} (know : Sense P) (us : List ClassUnit) : Type 0 wh
   -- objects that are made
   pub makes : (h : P) (c n : ℕ) → CanBeMade us c n → know.may_want h (New c n)
   pub made : (h : P) (c n r : ℕ) → CanBeMade us c n → know.may_come h (New c n) (replies.Made r) → know.is_raw h r (type_numbered (program_names us) c)
-  -- An array needs no initialization, and neither does an object of Object, a String or a StringBuilder. What a constructor
-  -- of Throwable leaves is initialized, and so is a Thread after its priority was written.
+  -- An array needs no initialization, and neither does an object of Object or a StringBuilder. What a constructor of
+  -- Throwable leaves is initialized, and so is a Thread after its priority was written.
   pub made_array : (h : P) (c n r : ℕ) → CanBeMade us c n → length (classes_of us) < c → know.may_come h (New c n) (replies.Made r) → know.is_of h r (type_numbered (program_names us) c)
-  pub made_object : (h : P) (r c : ℕ) → (c ≡ OBJECT) ⊎ ((c ≡ STRING) ⊎ (c ≡ STRING_BUILDER)) → know.is_raw h r (Class c) → know.is_of h r (Class OBJECT)
+  pub made_object : (h : P) (r c : ℕ) → (c ≡ OBJECT) ⊎ (c ≡ STRING_BUILDER) → know.is_raw h r (Class c) → know.is_of h r (Class OBJECT)
   pub made_throwable : (h : P) (r c : ℕ) → is_subclass us c THROWABLE ≡ true → know.is_raw h r (Class c) → know.is_of h r (Class c)
   pub made_thread : (h : P) (r p : ℕ) → know.is_raw h r (Class THREAD) → know.is_priority p → know.may_come h (Write r THREAD_PRIORITY p) replies.Done → know.is_of h r (Class THREAD)
   pub made_thrown : (h : P) (c r : ℕ) → is_throwable c ≡ true → know.may_come h (New c 0) (replies.Made r) → know.is_thrown h r c
@@ -134,8 +148,14 @@ pub record Knows {P : Type 0} (know : Sense P) (us : List ClassUnit) : Type 0 wh
   pub statics : (h : P) (f : FieldOperand) → IsField us true f → HasWords know h (class_object (program_names us) f.owner) f.place (contents_of f.kind)
   pub target : (h : P) (r : ℕ) → know.is_raw h r (Class THREAD) → know.has_word h r THREAD_TARGET (reference (Class RUNNABLE))
   pub message : (h : P) (r : ℕ) → know.is_raw h r (Class THROWABLE) → know.has_word h r THROWABLE_MESSAGE (reference (Class STRING))
-  pub units : (h : P) (r : ℕ) → know.is_raw h r (Class STRING) → know.has_word h r STRING_UNITS (reference char_array)
   pub text : (h : P) (r : ℕ) → know.is_raw h r (Class STRING_BUILDER) → know.has_word h r BUILDER_TEXT (reference (Class STRING))
+  -- texts: the word of a String is null or an array with its units, and a thread may make a new array and its String
+  pub asks_text : (h : P) (r : ℕ) → know.is_of h r (Class STRING) → know.may_want h (Read r STRING_UNITS)
+  pub units : (h : P) (r v : ℕ) → know.is_of h r (Class STRING) → know.may_come h (Read r STRING_UNITS) (replies.Value v) → (v ≡ 0) ⊎ know.is_text h v
+  pub text_there : (h : P) (r : ℕ) → know.is_text h r → know.is_there h r
+  pub asks_unit : (h : P) (r c n i : ℕ) → know.is_text h r → know.is_exactly h r c n → i < n → know.may_want h (Read r i)
+  pub makes_text : (res : Option Returns) (h : P) (c : ℕ) (units : List ℕ) (k : ℕ → Plan) → CanBeMade us c (length units) → length (classes_of us) < c → type_numbered (program_names us) c ≡ char_array → CanBeMade us STRING 0 → AreWords units
+      → ((h' : P) (s : ℕ) → know.extends h h' → know.is_of h' s (Class STRING) → PlanFits know us res anything (k s) h') → PlanFits know us res anything (makes_array c units k) h
   -- the priority of a Thread: it may be written before the Thread is initialized, and is read after that alone
   pub priorities : (p : ℕ) → 1 ≤ p → p ≤ 10 → know.is_priority p
   pub priority_words : (p : ℕ) → know.is_priority p → know.exact → p < 2 ^ 32

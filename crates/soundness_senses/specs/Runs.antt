@@ -23,7 +23,7 @@ use Rattle.java_rows.specs.Start.{opening_of}
 use Rattle.type_rules.specs.Environments.{hierarchy_of}
 use Rattle.java_rows.specs.Program.{is_subclass, is_of_file}
 use Rattle.java_rows.specs.Thread.{Local}
-use Rattle.soundness_senses.specs.Senses.{Content, number, reference, Sense}
+use Rattle.soundness_senses.specs.Senses.{Content, number, reference, Sense, PlainSteps}
 use Rattle.soundness_senses.specs.Fits.{Preceding, LocalFits, IsTheEnd}
 use Rattle.soundness_senses.specs.Knowledge.{contents_of, element_type, CanBeMade}
 use Rattle.soundness_senses.specs.Texts.{char_array}
@@ -150,8 +150,10 @@ runs us = record {
   is_exactly = λ h r c n. IsObject (ObjectFits us) h.objects r c n;
   is_thrown = λ h r c. IsThrownAt us h.objects r c;
   has_word = λ h r i k. HasWordFor us h.objects r i k;
+  is_text = λ h r. HasObject us h.objects r char_array;
   may_want = λ h op. RunsWant us h.objects op;
   may_come = λ h op reply. IsTrueReply (ObjectFits us) (MayStand us) h.objects op reply;
+  steps = PlainSteps (λ h h'. Extends h.objects h'.objects) (λ h op. RunsWant us h.objects op) (λ h op reply. IsTrueReply (ObjectFits us) (MayStand us) h.objects op reply);
 }
 
 -- ---- local states of live threads

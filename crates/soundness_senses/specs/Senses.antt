@@ -1,5 +1,5 @@
 -- What is known of references and words while threads go on.
-use Rattle.std.specs.Prelude.{◌≡◌, ◌⊎◌, ◌<◌, ◌^◌, ℕ}
+use Rattle.std.specs.Prelude.{◌≡◌, ◌⊎◌, ◌<◌, ◌^◌, ℕ, Option, None}
 use Rattle.op_core.specs.declared.Op.{Op}
 use Rattle.op_core.specs.declared.Reply.{Reply}
 use Rattle.link_types.specs.declared.types.ObjectType.{ObjectType}
@@ -8,6 +8,11 @@ use Rattle.link_types.specs.declared.types.ObjectType.{ObjectType}
 pub data Content : Type 0 where
   number : Content
   reference : ObjectType → Content
+
+-- what a thread has of a text that it makes: a char array, and then its String too
+pub data Making : Type 0 where
+  filling : ℕ → Making
+  naming : ℕ → ℕ → Making
 
 -- Something is known of references in each state of knowledge, and it only grows.
 pub record Sense (P : Type 0) : Type 1 where
@@ -27,9 +32,18 @@ pub record Sense (P : Type 0) : Type 1 where
   pub is_thrown : P → ℕ → ℕ → Type 0
   -- the object has a word at a place, which holds this
   pub has_word : P → ℕ → ℕ → Content → Type 0
+  -- an array with the units of a String
+  pub is_text : P → ℕ → Type 0
   -- an operation may be wanted, and a reply may come
   pub may_want : P → Op → Type 0
   pub may_come : P → Op → Reply → Type 0
+  -- An operation may be wanted by a thread that has this of a text, and whatever reply may come, however much more is known
+  -- by then, it comes to the last argument, which is asked what the thread then has of a text.
+  pub steps : Option Making → P → Op → (Option Making → P → Reply → Type 0) → Type 0
+
+-- the steps of a thread that keeps nothing of the texts that it makes apart
+abbrev pub PlainSteps : {P : Type 0} → (P → P → Type 0) → (P → Op → Type 0) → (P → Op → Reply → Type 0) → Option Making → P → Op → (Option Making → P → Reply → Type 0) → Type 0
+PlainSteps {P} extends may_want may_come m h op next = may_want h op × ((h' : P) (reply : Reply) → extends h h' → may_come h' op reply → next None h' reply)
 
 module _ {P : Type 0} (know : Sense P) where
   abbrev pub IsWord : ℕ → Type 0

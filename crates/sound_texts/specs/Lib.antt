@@ -1,0 +1,3 @@
+pub mod KnownTexts
+pub mod KeptTexts
+pub mod Texts
