@@ -56,7 +56,7 @@ use Rattle.settled_words.proofs.SettleLemmas as settles
 -- ---- marks and logs
 
 -- each mark was made when no more was logged
-falls_at : (n l : ℕ) (marks : List Mark) → MarksFall l marks → (nth_or no_mark n marks).noted ≤ l
+pub falls_at : (n l : ℕ) (marks : List Mark) → MarksFall l marks → (nth_or no_mark n marks).noted ≤ l
 falls_at n l [] falls = omega arith
 falls_at zero l (m ∷ marks) falls = falls.0
 falls_at (suc n) l (m ∷ marks) falls = let first = falls.0 in let later = falls_at n m.noted marks falls.2 in omega (arith, first, later)

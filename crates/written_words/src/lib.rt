@@ -1,0 +1,26 @@
+//! Who wrote each word of an object along a run: the levels that were open as it was written. Laws alone.
+//!
+//! Each function does nothing: its contract is the law.
+#![tactic(auto)]
+
+ghost use Rattle.written_words.specs.Writers.{OpenLevelsAreOfSections};
+ghost use Rattle.written_words.specs.Tags.{TagsSayWriters, OldTagsSayWriters};
+
+use op_core::ThreadCode;
+
+/// The levels that a thread has open are levels of its section, each opened inside of the next.
+pub fn open_levels_are_of_sections<C: ThreadCode>()
+    ensures { OpenLevelsAreOfSections C.code }
+{}
+
+/// The tag of a word of an object is 0 exactly where no level was open as it was written. Else it has the number of the
+/// section that the outermost of these levels opened, and how many they are.
+pub fn tags_say_writers<C: ThreadCode>()
+    ensures { TagsSayWriters C.code }
+{}
+
+/// So has the tag of each old word that a thread has logged; and the section in which it was written is the thread's own, or
+/// committed, or pinned so deep that the word is never undone.
+pub fn old_tags_say_writers<C: ThreadCode>()
+    ensures { OldTagsSayWriters C.code }
+{}
