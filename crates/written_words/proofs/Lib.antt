@@ -4,4 +4,7 @@ pub mod StepLemmas
 pub mod TagLemmas
 pub mod SinceLemmas
 pub mod WrittenLemmas
+pub mod PartLemmas
+pub mod OwnLemmas
 pub mod RunLemmas
+pub mod LoggedLemmas

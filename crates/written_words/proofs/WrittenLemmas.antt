@@ -124,22 +124,25 @@ module _ {S : Type 0} (code : Code S) (b : Bounds) (is_thread : ℕ → Bool) (f
     -- ---- no word is overwritten or put back
 
     module _ (none : SetsNoWord step a) where
-      word_same : (p : ℕ) → (writers c acts (suc k)).word p ≡ (writers c acts k).word p
+      pub word_same : (p : ℕ) → (writers c acts (suc k)).word p ≡ (writers c acts k).word p
       word_same p = ap (λ (w : Writers). w.word p) (steps.writers_then code b is_thread first classes c acts run k t step a here at)
           ∙ ap (λ (f : ℕ → List ℕ). f p) (sets_none t (length y.log) ((c k).levels t) step a (writers c acts k) none).0
 
-      old_same : (writers c acts (suc k)).old t ≡ take (length y.log) ((writers c acts k).old t)
+      pub old_same : (writers c acts (suc k)).old t ≡ take (length y.log) ((writers c acts k).old t)
       old_same = ap (λ (w : Writers). w.old t) (steps.writers_then code b is_thread first classes c acts run k t step a here at)
           ∙ ap (λ (f : ℕ → List (List ℕ)). f t) (sets_none t (length y.log) ((c k).levels t) step a (writers c acts k) none).1
           ∙ set_at-hit (writers c acts k).old t (take (length y.log) ((writers c acts k).old t))
 
-      kept_old : (y.log ≡ at.from.log) ⊎ (y.log ≡ []) → OwnOld y.log ((writers c acts (suc k)).old t)
-      kept_old (inl same) = subst (OwnOld y.log) (sym (old_same ∙ ap (λ l. take (length l) ((writers c acts k).old t)) same
-          ∙ take_whole ((writers c acts k).old t) (length at.from.log) (low (old_length c acts (c k).words t at.from.log ((writers c acts k).old t) own_old))))
-          (subst (λ l. OwnOld l ((writers c acts k).old t)) (sym same) own_later)
+      -- where the log stays, so do the writers of what is in it
+      pub old_kept : y.log ≡ at.from.log → (writers c acts (suc k)).old t ≡ (writers c acts k).old t
+      old_kept same = old_same ∙ ap (λ l. take (length l) ((writers c acts k).old t)) same
+          ∙ take_whole ((writers c acts k).old t) (length at.from.log) (low (old_length c acts (c k).words t at.from.log ((writers c acts k).old t) own_old))
         where
           low : {m n : ℕ} → m ≡ n → m ≤ n
           low is = omega (arith, is)
+
+      kept_old : (y.log ≡ at.from.log) ⊎ (y.log ≡ []) → OwnOld y.log ((writers c acts (suc k)).old t)
+      kept_old (inl same) = subst (OwnOld y.log) (sym (old_kept same)) (subst (λ l. OwnOld l ((writers c acts k).old t)) (sym same) own_later)
       kept_old (inr gone) = subst (OwnOld y.log) (sym (old_same ∙ ap (λ l. take (length l) ((writers c acts k).old t)) gone)) (subst (λ l. OwnOld l []) (sym gone) tt)
 
       pub calm_written : (y.log ≡ at.from.log) ⊎ (y.log ≡ []) → WrittenAt (suc k)
@@ -171,14 +174,14 @@ module _ {S : Type 0} (code : Code S) (b : Bounds) (is_thread : ℕ → Bool) (f
       all_fit : FitsObjects is_thread (c k).objects (Write r i v)
       all_fit = run.laid.wants k t at.from (Write r i v) within at.stands wants
 
-      placed_word : IsWordPlace is_thread (c k).objects (word_place r i)
+      pub placed_word : IsWordPlace is_thread (c k).objects (word_place r i)
       placed_word = by_object ((c k).objects r) refl all_fit.1 all_fit.2
         where
           by_object : (o : Option Object) → (c k).objects r ≡ o → IsSomeAnd o (λ x. i < x.words) → IsSomeAnd o (λ x. is_thread x.class ≡ true → i ≢ 1) → IsWordPlace is_thread (c k).objects (word_place r i)
           by_object None there low kept = absurd low
           by_object (Some o) there low kept = record { r = r; i = i; o = o; there = there; low = low; place = refl; kept = kept }
 
-      found : heap_of (c k).words (word_place r i) ≡ old
+      pub found : heap_of (c k).words (word_place r i) ≡ old
       found = (exchanged (c k).words (Area.Object (word_place r i)) old (written_word at.from v) (sym done ∙ at.answered ∙ ap (answer_of (c k).words) sets)).found
 
       new : heap_of (c (suc k)).words (word_place r i) ≡ written_word at.from v
@@ -186,7 +189,7 @@ module _ {S : Type 0} (code : Code S) (b : Bounds) (is_thread : ℕ → Bool) (f
           ∙ ap (λ (z : Words). z (Area.Object (word_place r i))) (exchanged (c k).words (Area.Object (word_place r i)) old (written_word at.from v) (sym done ∙ at.answered ∙ ap (answer_of (c k).words) sets)).leaves
           ∙ put_object (c k).words (word_place r i) (written_word at.from v)
 
-      swapped : writers c acts (suc k) ≡ writers_after t ((c k).levels t) (length y.log) (SwapWord (word_place r i) old (written_word at.from v)) Done (writers c acts k)
+      pub swapped : writers c acts (suc k) ≡ writers_after t ((c k).levels t) (length y.log) (SwapWord (word_place r i) old (written_word at.from v)) Done (writers c acts k)
       swapped = steps.writers_then code b is_thread first classes c acts run k t step a here at ∙ ap (λ m. writers_after t ((c k).levels t) (length y.log) m a (writers c acts k)) sets
           ∙ ap (λ n. writers_after t ((c k).levels t) (length y.log) (SwapWord (word_place r i) old (written_word at.from v)) n (writers c acts k)) done
 
@@ -305,11 +308,11 @@ module _ {S : Type 0} (code : Code S) (b : Bounds) (is_thread : ℕ → Bool) (f
       pub noted_first : PutsFirst (mark_of at.from (revoke_of w)).noted p o at.from.log
       noted_first = puts_first (mark_of at.from (revoke_of w)).noted at.from.section w p o at.from.log (deepened_since (mark_of at.from (revoke_of w)) at.from.held) (from_level (revoke_of w) at.from.held) does
 
-      logged_word : IsWordPlace is_thread (c k).objects p
+      pub logged_word : IsWordPlace is_thread (c k).objects p
       logged_word = subst (IsWordPlace is_thread (c k).objects) noted_first.here
           ((laid_at code b is_thread c acts run.laid k up).0.logged t noted_first.x at.from at.stands (subst (lists.In noted_first.x) (sym noted_first.whole) (inl refl)))
 
-      restored : writers c acts (suc k) ≡ writers_after t ((c k).levels t) (length y.log) (RestoreWord p o) a (writers c acts k)
+      pub restored : writers c acts (suc k) ≡ writers_after t ((c k).levels t) (length y.log) (RestoreWord p o) a (writers c acts k)
       restored = steps.writers_then code b is_thread first classes c acts run k t step a here at ∙ ap (λ m. writers_after t ((c k).levels t) (length y.log) m a (writers c acts k)) sets
 
       pub put_here : (writers c acts (suc k)).word p ≡ nth_or [] 0 ((writers c acts k).old t)

@@ -5,6 +5,7 @@
 
 ghost use Rattle.written_words.specs.Writers.{OpenLevelsAreOfSections};
 ghost use Rattle.written_words.specs.Tags.{TagsSayWriters, OldTagsSayWriters};
+ghost use Rattle.written_words.specs.Written.{LevelsWriteWhatIsLogged};
 
 use op_core::ThreadCode;
 
@@ -23,4 +24,11 @@ pub fn tags_say_writers<C: ThreadCode>()
 /// committed, or pinned so deep that the word is never undone.
 pub fn old_tags_say_writers<C: ThreadCode>()
     ensures { OldTagsSayWriters C.code }
+{}
+
+/// A level that is open and isn't pinned is in the writers of exactly those words that its thread has logged since the level
+/// opened. Of the old words in the log it is in the writers of those whose place has an older entry that was logged since
+/// then. So it is while the section is live or revoking.
+pub fn levels_write_what_is_logged<C: ThreadCode>()
+    ensures { LevelsWriteWhatIsLogged C.code }
 {}
