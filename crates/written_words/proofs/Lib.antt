@@ -8,3 +8,7 @@ pub mod PartLemmas
 pub mod OwnLemmas
 pub mod RunLemmas
 pub mod LoggedLemmas
+pub mod DoomedLemmas
+pub mod OpenLemmas
+pub mod ObservedLemmas
+pub mod UndoneLemmas

@@ -99,6 +99,48 @@ module _ {S : Type 0} (code : Code S) (b : Bounds) (is_thread : ℕ → Bool) (f
       lower : (p q l : ℕ) → p ≤ q → q < l → p < l
       lower p q l low deep = omega (arith, low, deep)
 
+  -- Level v of thread u, number i of those that it has open, isn't pinned.
+  module _ (k u i v : ℕ) (uh : ThreadState S) (within : k ≤ length acts) (there : (c k).threads u ≡ Some uh) (live : IsLiveOrRevoking ((c k).words (Section uh.section))) (is : slice_get ((c k).levels u) i ≡ Some v)
+      (deep : pinned_of ((c k).words (Section uh.section)) < uh.levels - i) where
+    pub its_levels : AreLevelsOf c acts u uh.section ((c k).levels u)
+    its_levels = levels_at code b first classes c acts run.monitors.levelled k within u uh there
+
+    pub open_now : In v ((c k).levels u)
+    open_now = place_in i v ((c k).levels u) is
+
+    pub some : 0 < uh.section
+    some = some_section k u i (pinned_of ((c k).words (Section uh.section))) uh within there deep
+
+    -- the tag of what it has written names its section, at that level or further inside
+    pub carries : (writer : List ℕ) (tag : ℕ) → TagSays c acts writer tag → In v writer → (tag_section tag ≡ uh.section) × (uh.levels - i ≤ tag_level tag)
+    carries writer tag says has_it =
+        let of = of_section c acts writer tag v says has_it in
+        let one = one_section c acts of.0 (tag_section tag) u uh.section v writer ((c k).levels u) of.1 has_it its_levels open_now in (
+          one.1,
+          low (length ((c v).levels u)) (length writer) (tag_level tag) (length ((c k).levels u)) uh.levels i
+              (subst (λ n. suc (length ((c v).levels n)) ≤ length writer) one.0 (at_least c acts of.0 (tag_section tag) v writer of.1 has_it)) of.2
+              (depth_at c acts u uh.section i v ((c k).levels u) its_levels is) ((counted_at code b first classes c acts run.monitors.levelled k within).there u uh there),
+        )
+      where
+        low : (d w l n m i : ℕ) → suc d ≤ w → l ≡ w → n - i ≡ suc d → n ≡ m → m - i ≤ l
+        low d w l n m i least level depth count = omega (arith, least, level, depth, count)
+
+    -- no old word that another thread has logged was written by it
+    pub not_old : (t : ℕ) → u ≢ t → (writer : List ℕ) (tag : ℕ) → OldWordSays c acts (c k).words t writer tag → has v writer ≡ false
+    not_old t other writer tag say = has_not v writer (λ also. by_safe also say.safe)
+      where
+        above : (p n l : ℕ) → p < n → n ≤ l → l ≤ p → ⊥
+        above p n l deep low pinned = omega (arith, deep, low, pinned)
+
+        by_safe : In v writer → AreLevelsOf c acts t (tag_section tag) writer ⊎ IsCommittedOrPinned ((c k).words (Section (tag_section tag))) (tag_level tag) → ⊥
+        by_safe also (inl own) = other (one_section c acts u uh.section t (tag_section tag) v ((c k).levels u) writer its_levels open_now own also).0
+        by_safe also (inr pinned) =
+            let its = carries writer tag say.says also in
+            elim (subst (λ s. IsCommittedOrPinned ((c k).words (Section s)) (tag_level tag)) its.0 pinned) [
+              | inl committed ↦ committed_closed ((c k).words (Section uh.section)) committed live
+              | inr low ↦ above (pinned_of ((c k).words (Section uh.section))) (uh.levels - i) (tag_level tag) deep its.1 low
+            ]
+
   module _ (k t : ℕ) (step : Step) (a : StepAnswer) (here : slice_get acts k ≡ Some (did t step a)) (at : DidAt code b c k t step a) (so : written.WrittenAt code b is_thread first classes c acts run k) (parts : PartsAt k) where
     within : k < length acts
     within = steps.within code b is_thread first classes c acts run k t step a here at
@@ -116,58 +158,23 @@ module _ {S : Type 0} (code : Code S) (b : Bounds) (is_thread : ℕ → Bool) (f
 
     module _ (u i v : ℕ) (uh : ThreadState S) (other : u ≢ t) (there : (c k).threads u ≡ Some uh) (live : IsLiveOrRevoking ((c k).words (Section uh.section))) (is : slice_get ((c k).levels u) i ≡ Some v)
         (deep : pinned_of ((c k).words (Section uh.section)) < uh.levels - i) where
-      its_levels : AreLevelsOf c acts u uh.section ((c k).levels u)
-      its_levels = levels_at code b first classes c acts run.monitors.levelled k up u uh there
-
-      open_now : In v ((c k).levels u)
-      open_now = place_in i v ((c k).levels u) is
-
-      some : 0 < uh.section
-      some = some_section k u i (pinned_of ((c k).words (Section uh.section))) uh up there deep
-
-      -- the tag of what it has written names its section, at that level or further inside
-      carries : (writer : List ℕ) (tag : ℕ) → TagSays c acts writer tag → In v writer → (tag_section tag ≡ uh.section) × (uh.levels - i ≤ tag_level tag)
-      carries writer tag says has_it =
-          let of = of_section c acts writer tag v says has_it in
-          let one = one_section c acts of.0 (tag_section tag) u uh.section v writer ((c k).levels u) of.1 has_it its_levels open_now in (
-            one.1,
-            low (length ((c v).levels u)) (length writer) (tag_level tag) (length ((c k).levels u)) uh.levels i
-                (subst (λ n. suc (length ((c v).levels n)) ≤ length writer) one.0 (at_least c acts of.0 (tag_section tag) v writer of.1 has_it)) of.2
-                (depth_at c acts u uh.section i v ((c k).levels u) its_levels is) ((counted_at code b first classes c acts run.monitors.levelled k up).there u uh there),
-          )
-        where
-          low : (d w l n m i : ℕ) → suc d ≤ w → l ≡ w → n - i ≡ suc d → n ≡ m → m - i ≤ l
-          low d w l n m i least level depth count = omega (arith, least, level, depth, count)
+      its_own : AreLevelsOf c acts u uh.section ((c k).levels u)
+      its_own = its_levels k u i v uh up there live is deep
 
       -- the own levels of the thread that makes the step are others
       not_own : has v ((c k).levels t) ≡ false
-      not_own = has_not v ((c k).levels t) (λ also. other (one_section c acts u uh.section t at.from.section v ((c k).levels u) ((c k).levels t) its_levels open_now own_levels also).0)
+      not_own = has_not v ((c k).levels t) (λ also. other (one_section c acts u uh.section t at.from.section v ((c k).levels u) ((c k).levels t) its_own (open_now k u i v uh up there live is deep) own_levels also).0)
 
       -- nor has the level written what that thread overwrites,
       not_safe : (p : ℕ) → IsWordPlace is_thread (c k).objects p → is_safe at.from (heap_of (c k).words p) ≡ true → has v ((writers c acts k).word p) ≡ false
-      not_safe p word safe = has_not v ((writers c acts k).word p) (λ also. safe_other code b is_thread first classes c acts run k t u (uh.levels - i) (heap_of (c k).words p) at.from uh up at.stands there other some live deep
-          (carries ((writers c acts k).word p) (tag_of (heap_of (c k).words p)) (so.says p word) also) safe)
+      not_safe p word safe = has_not v ((writers c acts k).word p) (λ also. safe_other code b is_thread first classes c acts run k t u (uh.levels - i) (heap_of (c k).words p) at.from uh up at.stands there other (some k u i v uh up there live is deep) live deep
+          (carries k u i v uh up there live is deep ((writers c acts k).word p) (tag_of (heap_of (c k).words p)) (so.says p word) also) safe)
 
-      -- or what it puts back, or what was there
-      not_old : (writer : List ℕ) (tag : ℕ) → OldWordSays c acts (c k).words t writer tag → has v writer ≡ false
-      not_old writer tag say = has_not v writer (λ also. by_safe also say.safe)
-        where
-          above : (p n l : ℕ) → p < n → n ≤ l → l ≤ p → ⊥
-          above p n l deep low pinned = omega (arith, deep, low, pinned)
-
-          by_safe : In v writer → AreLevelsOf c acts t (tag_section tag) writer ⊎ IsCommittedOrPinned ((c k).words (Section (tag_section tag))) (tag_level tag) → ⊥
-          by_safe also (inl own) = other (one_section c acts u uh.section t (tag_section tag) v ((c k).levels u) writer its_levels open_now own also).0
-          by_safe also (inr pinned) =
-              let its = carries writer tag say.says also in
-              elim (subst (λ s. IsCommittedOrPinned ((c k).words (Section s)) (tag_level tag)) its.0 pinned) [
-                | inl committed ↦ committed_closed ((c k).words (Section uh.section)) committed live
-                | inr low ↦ above (pinned_of ((c k).words (Section uh.section))) (uh.levels - i) (tag_level tag) deep its.1 low
-              ]
-
+      -- or puts back
       not_undone : (w p o : ℕ) → at.from.attempt ≡ Undoing w → IsWordPlace is_thread (c k).objects p → PutsFirst (mark_of at.from (revoke_of w)).noted p o at.from.log → has v ((writers c acts k).word p) ≡ false
       not_undone w p o undoing word noted_first = has_not v ((writers c acts k).word p) (λ also.
           let part = undone_part code b is_thread first classes c acts run k t w at.from up (noted_at code b is_thread first classes c acts run k up) at.stands undoing in
-          let its = carries ((writers c acts k).word p) (tag_of (heap_of (c k).words p)) (so.says p word) also in
+          let its = carries k u i v uh up there live is deep ((writers c acts k).word p) (tag_of (heap_of (c k).words p)) (so.says p word) also in
           let same : at.from.section ≡ uh.section = sym (part.1.0 p noted_first.noted).0 ∙ its.0 in
           other (sym (sections_apart code b c acts ran k t u at.from uh up at.stands there part.0 same)))
 
@@ -192,7 +199,7 @@ module _ {S : Type 0} (code : Code S) (b : Bounds) (is_thread : ℕ → Bool) (f
               let say = written.say_first code b is_thread first classes c acts run k t step a here at so w q o sets does log in
               let noted_first = written.noted_first code b is_thread first classes c acts run k t step a here at so w q o sets does log in
               ap (λ n. has v ((writers c acts (suc k)).word n)) here_p ∙ ap (has v) (written.put_here code b is_thread first classes c acts run k t step a here at so w q o sets does log)
-              ∙ not_old (nth_or [] 0 ((writers c acts k).old t)) (tag_of noted_first.x.old) say.0
+              ∙ not_old k u i v uh up there live is deep t other (nth_or [] 0 ((writers c acts k).old t)) (tag_of noted_first.x.old) say.0
               ∙ sym (ap (λ n. has v ((writers c acts k).word n)) here_p ∙ not_undone w q o undoing (written.logged_word code b is_thread first classes c acts run k t step a here at so w q o sets does log) noted_first)
           | inr apart ↦ ap (has v) (written.put_nowhere code b is_thread first classes c acts run k t step a here at so w q o sets does log p apart)
         ]

@@ -1,12 +1,13 @@
 -- Which levels are in a writer, and where.
-use Rattle.std.proofs.Common.{◌≡◌, inl, inr, ℕ, zero, suc, ◌+◌, ◌-◌, ◌<◌, ◌≤◌, Option, Some, List, [], ◌∷◌, length, drop, sym, ◌∙◌, ap, subst, arith}
+use Rattle.std.proofs.Common.{◌≡◌, inl, inr, ℕ, zero, suc, ◌+◌, ◌-◌, ◌<◌, ◌≤◌, Option, Some, List, [], ◌∷◌, length, drop, refl, sym, ◌∙◌, ap, subst, arith}
 use Rattle.std.specs.Prelude.{slice_get}
 use Rattle.std.proofs.lemmas.Option.{same_Some}
+use Rattle.step_port.specs.declared.answer.StepAnswer.TheVariants.{Done}
 use Rattle.step_port.specs.declared.step.Step.{Step}
 use Rattle.step_port.specs.declared.step.Step.TheVariants.{OpenSection, OpenLevel}
 use Rattle.core_runs.specs.Cores.{Core}
 use Rattle.core_runs.specs.Acts.{Act, did, mover}
-use Rattle.level_runs.specs.LevelRun.{In}
+use Rattle.level_runs.specs.LevelRun.{In, IsLevel}
 use Rattle.written_words.specs.Writers.{OpensInside, AreLevelsOf}
 
 -- the section in which the step opens a level
@@ -28,6 +29,24 @@ pub place_in : (i v : ℕ) (levels : List ℕ) → slice_get levels i ≡ Some v
 place_in i v [] is = cc
 place_in zero v (x ∷ levels) is = inl (sym (same_Some x v is))
 place_in (suc i) v (x ∷ levels) is = inr (place_in i v levels is)
+
+pub data Order (k m : ℕ) : Type 0 where
+  comes_before : k < m → Order k m
+  is_there : k ≡ m → Order k m
+  comes_behind : m < k → Order k m
+
+pub order : (k m : ℕ) → Order k m
+order zero zero = is_there refl
+order zero (suc m) = comes_before (omega arith)
+order (suc k) zero = comes_behind (omega arith)
+order (suc k) (suc m) = elim (order k m) [ comes_before low ↦ comes_before (omega (arith, low)) | is_there eq ↦ is_there (ap suc eq) | comes_behind low ↦ comes_behind (omega (arith, low)) ]
+
+pub index_of : (v : ℕ) (levels : List ℕ) → In v levels → (i : ℕ) × (slice_get levels i ≡ Some v)
+index_of v [] there = absurd there
+index_of v (q ∷ levels) there = elim there [
+  | inl here ↦ (0, ap Some (sym here))
+  | inr more ↦ let found = index_of v levels more in (suc found.0, found.1)
+]
 
 module _ {S : Type 0} (c : ℕ → Core S) (acts : List Act) where
   pub of_thread : (t s v : ℕ) (levels : List ℕ) → AreLevelsOf c acts t s levels → In v levels → (mover (slice_get acts v) ≡ t) × (section_by (slice_get acts v) ≡ s)
@@ -64,6 +83,35 @@ module _ {S : Type 0} (c : ℕ → Core S) (acts : List Act) where
 
       next : (m n : ℕ) → suc m ≤ n → suc m ≤ suc n
       next m n low = omega (arith, low)
+
+  -- it is the level after those that were open as it was opened
+  pub is_level : (t s v : ℕ) (levels : List ℕ) → AreLevelsOf c acts t s levels → In v levels → IsLevel v (suc (length ((c v).levels t))) levels
+  is_level t s v [] are there = absurd there
+  is_level t s v (p ∷ levels) are there = elim there [
+    | inl here ↦ inl (here, ap (λ n. suc (length ((c n).levels t))) here ∙ ap (λ l. suc (length l)) are.1)
+    | inr more ↦ inr (is_level t s v levels are.2 more)
+  ]
+
+  -- the act that opened it
+  pub opened_at : (t s v : ℕ) (levels : List ℕ) → AreLevelsOf c acts t s levels → In v levels → OpensInside acts t s v ((c v).levels t)
+  opened_at t s v [] are there = absurd there
+  opened_at t s v (p ∷ levels) are there = elim there [
+    | inl here ↦ subst (λ n. OpensInside acts t s n ((c n).levels t)) (sym here) (subst (OpensInside acts t s p) (sym are.1) are.0)
+    | inr more ↦ opened_at t s v levels are.2 more
+  ]
+
+  -- the outermost one opened the section
+  pub outermost_one : (t s p : ℕ) (levels : List ℕ) → AreLevelsOf c acts t s (p ∷ levels) → (q w : ℕ) × (slice_get acts q ≡ Some (did t (OpenSection s w) Done)) × In q (p ∷ levels)
+  outermost_one t s p [] are = (p, are.0.0, are.0.1, inl refl)
+  outermost_one t s p (q ∷ levels) are = let more = outermost_one t s q levels are.2 in (more.0, more.1, more.2, inr more.3)
+
+  -- no two threads have levels of one section, since that is opened once
+  pub one_thread : ((j k t u s v w : ℕ) → slice_get acts j ≡ Some (did t (OpenSection s v) Done) → slice_get acts k ≡ Some (did u (OpenSection s w) Done) → j ≡ k)
+      → (t u s p q : ℕ) (levels others : List ℕ) → AreLevelsOf c acts t s (p ∷ levels) → AreLevelsOf c acts u s (q ∷ others) → u ≡ t
+  one_thread once t u s p q levels others are also =
+      let one = outermost_one t s p levels are in
+      let other = outermost_one u s q others also in
+      ap mover (sym other.2 ∙ ap (slice_get acts) (once other.0 one.0 u t s other.1 one.1 other.2 one.2) ∙ one.2)
 
   -- number i of the levels, counted from the innermost, is as deep as levels were open as it was opened
   pub depth_at : (t s i v : ℕ) (levels : List ℕ) → AreLevelsOf c acts t s levels → slice_get levels i ≡ Some v → length levels - i ≡ suc (length ((c v).levels t))

@@ -80,7 +80,7 @@ module _ {S : Type 0} (code : Code S) (b : Bounds) (is_thread : ℕ → Bool) (f
   still k within same_heap same_log same_objects same_writers so = record {
     says = λ p word. subst (λ w. TagSays c acts (w.word p) (tag_of (heap_of (c (suc k)).words p))) (sym same_writers)
         (subst (λ n. TagSays c acts ((writers c acts k).word p) (tag_of n)) (sym (same_heap p)) (so.says p (subst (λ o. IsWordPlace is_thread o p) same_objects word)));
-    placed = λ p not_word. ap (λ w. w.word p) same_writers ∙ so.placed p (λ word. not_word (subst (λ o. IsWordPlace is_thread o p) (sym same_objects) word));
+    placed = λ p. elim (so.placed p) [ inl none ↦ inl (ap (λ w. w.word p) same_writers ∙ none) | inr word ↦ inr (subst (λ o. IsWordPlace is_thread o p) (sym same_objects) word) ];
     before = λ p v there. later v k (so.before p v (subst (λ w. In v (w.word p)) same_writers there));
     old = λ u. subst (λ w. OldWordsSay c acts (c (suc k)).words u (log_of ((c (suc k)).threads u)) (w.old u)) (sym same_writers)
         (subst (λ log. OldWordsSay c acts (c (suc k)).words u log ((writers c acts k).old u)) (sym (same_log u))
@@ -107,7 +107,7 @@ module _ {S : Type 0} (code : Code S) (b : Bounds) (is_thread : ℕ → Bool) (f
   first_written : WrittenAt 0
   first_written = record {
     says = λ p word. run.begins p word;
-    placed = λ p not_word. refl;
+    placed = λ p. inl refl;
     before = λ p v there. absurd there;
     old = λ u. subst (λ log. OldWordsSay c acts (c 0).words u log []) (sym (none u)) tt;
     old_before = λ u. tt;

@@ -1,5 +1,5 @@
 -- What a level has written since it opened, as words are overwritten and put back.
-use Rattle.std.proofs.Common.{◌≡◌, ◌≢◌, inl, inr, ℕ, suc, ◌-◌, ◌<◌, ◌≤◌, ◌||◌, Bool, true, false, List, [], ◌∷◌, length, take, drop, nat_eq, refl, sym, ◌∙◌, ap, arith}
+use Rattle.std.proofs.Common.{◌≡◌, ◌≢◌, ◌⊎◌, inl, inr, ℕ, zero, suc, ◌-◌, ◌<◌, ◌≤◌, ◌||◌, Bool, true, false, List, [], ◌∷◌, length, take, drop, nat_eq, refl, sym, ◌∙◌, ap, arith}
 use Rattle.std.proofs.lemmas.Grind.{common_steps}
 use Rattle.std.proofs.lemmas.Bool.Decides.{nat_tests, leb_tells}
 use Rattle.op_core.specs.OrdinaryState.{set_at}
@@ -134,3 +134,33 @@ old_opened v n (x ∷ log) (o ∷ old) low same before = (
 
     fewer : (m l : ℕ) → suc m ≡ suc l → m ≡ l
     fewer m l same = omega (arith, same)
+
+-- ---- where nothing is logged since the level opened
+
+pub all_logged : (n : ℕ) (log : List Noted) → noted_since n log ≡ [] → length log ≤ n
+all_logged n log none = elim (none_taken (length log - n) log none) [ inl few ↦ at_most (length log) n few | inr empty ↦ at_least (length log) n (ap length empty) ]
+  where
+    none_taken : (j : ℕ) (log : List Noted) → take j log ≡ [] → (j ≡ 0) ⊎ (log ≡ [])
+    none_taken zero log none = inl refl
+    none_taken (suc j) [] none = inr refl
+    none_taken (suc j) (x ∷ log) none = cc
+
+    at_most : (l n : ℕ) → l - n ≡ 0 → l ≤ n
+    at_most l n few = omega (arith, few)
+
+    at_least : (l n : ℕ) → l ≡ 0 → l ≤ n
+    at_least l n none = omega (arith, none)
+
+-- the level has written none of these old words
+abbrev pub AllLack : ℕ → List (List ℕ) → Type 0
+AllLack v [] = Unit {0}
+AllLack v (o ∷ old) = (has v o ≡ false) × AllLack v old
+
+pub old_lack : (v n : ℕ) (log : List Noted) (old : List (List ℕ)) → length log ≤ n → OldWordsSince v n log old → AllLack v old
+old_lack v n [] [] low since = tt
+old_lack v n [] (o ∷ old) low since = absurd since
+old_lack v n (x ∷ log) [] low since = absurd since
+old_lack v n (x ∷ log) (o ∷ old) low since = (since.0 ∙ ap (notes x.at) (few_since n log (less (length log) n low)), old_lack v n log old (less (length log) n low) since.1)
+  where
+    less : (l n : ℕ) → suc l ≤ n → l ≤ n
+    less l n low = omega (arith, low)

@@ -1,6 +1,6 @@
 -- Words, logs and writers round a step of a thread.
-use Rattle.std.proofs.Common.{◌≡◌, ◌≢◌, inl, inr, ℕ, suc, ◌+◌, ◌<◌, ◌≤◌, Bool, Option, None, Some, List, [], length, take, refl, sym, ◌∙◌, ap, subst, arith}
-use Rattle.std.specs.Prelude.{slice_get}
+use Rattle.std.proofs.Common.{◌≡◌, ◌≢◌, inl, inr, ℕ, suc, ◌+◌, ◌<◌, ◌≤◌, Bool, true, Option, None, Some, List, [], length, take, refl, sym, ◌∙◌, ap, subst, arith}
+use Rattle.std.specs.Prelude.{IsSomeAnd, slice_get}
 use Rattle.std.proofs.lemmas.Option.{same_Some, slice_get_within}
 use Rattle.op_core.specs.ThreadCode.{Code}
 use Rattle.op_core.specs.OrdinaryState.{set_at, Object}
@@ -14,6 +14,7 @@ use Rattle.step_port.specs.Steps.{place_of, effect_of}
 use Rattle.step_port.specs.Words.{CanAnswer, words_after}
 use Rattle.thread_automaton.specs.declared.Bounds.{Bounds}
 use Rattle.thread_automaton.specs.ThreadState.{ThreadState, first_state, is_open}
+use Rattle.thread_automaton.specs.NextMove.{word_place}
 use Rattle.thread_automaton.specs.Changes.{changed}
 use Rattle.thread_automaton.specs.Answers.{change_of}
 use Rattle.thread_automaton.specs.Told.{told, after_answer}
@@ -25,7 +26,7 @@ use Rattle.section_laws.proofs.ClaimLemmas.{none_some}
 use Rattle.section_laws.proofs.RunLemmas.{facts_at}
 use Rattle.section_levels.proofs.RunLemmas.{Counted, counted_at}
 use Rattle.section_levels.proofs.RunLemmas as levels
-use Rattle.run_layout.specs.Layout.{IsWordPlace}
+use Rattle.run_layout.specs.Layout.{Objects, IsWordPlace}
 use Rattle.run_layout.proofs.PlaceLemmas.{stays_or_made, one_place}
 use Rattle.run_layout.proofs.RunLemmas.{is_new, objects_stay, runs_keep_layout}
 use Rattle.run_monitors.proofs.ThreadLemmas.{object_came}
@@ -36,6 +37,14 @@ use Rattle.noted_words.proofs.TurnLemmas.{SetsNoWord}
 use Rattle.noted_words.proofs.PlaceLemmas.{stays_there, swaps, puts, word_step}
 use Rattle.settled_words.proofs.TurnLemmas.{WordTurn, turn_of, counted_turn}
 use Rattle.written_words.specs.Writers.{Writers, writers_after, log_of, writers_by, writers}
+
+-- a word that an operation names is one of an object
+pub word_named : (is_thread : ℕ → Bool) (objects : Objects) (r i : ℕ) → IsSomeAnd (objects r) (λ o. i < o.words) → IsSomeAnd (objects r) (λ o. is_thread o.class ≡ true → i ≢ 1) → IsWordPlace is_thread objects (word_place r i)
+word_named is_thread objects r i = by_object (objects r) refl
+  where
+    by_object : (o : Option Object) → objects r ≡ o → IsSomeAnd o (λ x. i < x.words) → IsSomeAnd o (λ x. is_thread x.class ≡ true → i ≢ 1) → IsWordPlace is_thread objects (word_place r i)
+    by_object None there low kept = absurd low
+    by_object (Some o) there low kept = record { r = r; i = i; o = o; there = there; low = low; place = refl; kept = kept }
 
 -- where no word of an object is overwritten or put back, the writers stay
 pub sets_none : (t logged : ℕ) (levels : List ℕ) (step : Step) (a : StepAnswer) (w : Writers) → SetsNoWord step a

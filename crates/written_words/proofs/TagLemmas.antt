@@ -17,6 +17,7 @@ use Rattle.noted_words.proofs.TagLemmas.{section_is, level_is}
 use Rattle.noted_words.proofs.DidLemmas.{writer}
 use Rattle.written_words.specs.Writers.{AreLevelsOf}
 use Rattle.written_words.specs.Tags.{TagSays, OldWordSays, OldWordsSay}
+use Rattle.written_words.proofs.PlaceLemmas.{one_thread}
 
 -- ---- tags
 
@@ -109,11 +110,6 @@ all_first k (o ∷ old) before v there = before.0 v there
 -- ---- the own section
 
 module _ {S : Type 0} (c : ℕ → Core S) (acts : List Act) where
-  -- the outermost of levels opened their section
-  oldest : (t s p : ℕ) (levels : List ℕ) → AreLevelsOf c acts t s (p ∷ levels) → (q w : ℕ) × (slice_get acts q ≡ Some (did t (OpenSection s w) Done))
-  oldest t s p [] are = (p, are.0.0, are.0.1)
-  oldest t s p (q ∷ levels) are = oldest t s q levels are.2
-
   -- a word with the tag of the own section was written by the own thread
   pub own_levels : ((j k t u s v w : ℕ) → slice_get acts j ≡ Some (did t (OpenSection s v) Done) → slice_get acts k ≡ Some (did u (OpenSection s w) Done) → j ≡ k)
       → (t s tag : ℕ) (levels writer : List ℕ) → 0 < length levels → AreLevelsOf c acts t s levels → TagSays c acts writer tag → tag_section tag ≡ s → AreLevelsOf c acts t (tag_section tag) writer
@@ -123,10 +119,8 @@ module _ {S : Type 0} (c : ℕ → Core S) (acts : List Act) where
       no some = omega (arith, some)
   own_levels once t s tag (q ∷ levels) [] some are says own = tt
   own_levels once t s tag (q ∷ levels) (p ∷ writer) some are says own =
-      let mine = oldest t s q levels are in
-      let its = oldest says.0 s p writer (subst (λ n. AreLevelsOf c acts says.0 n (p ∷ writer)) own says.1) in
-      let same = once its.0 mine.0 says.0 t s its.1 mine.1 its.2 mine.2 in
-      subst (λ n. AreLevelsOf c acts n (tag_section tag) (p ∷ writer)) (ap mover (sym its.2 ∙ ap (slice_get acts) same ∙ mine.2)) says.1
+      subst (λ n. AreLevelsOf c acts n (tag_section tag) (p ∷ writer))
+      (one_thread c acts once t says.0 s q p levels writer are (subst (λ n. AreLevelsOf c acts says.0 n (p ∷ writer)) own says.1)) says.1
 
 abbrev pub IsHeader : Step → Type 0
 IsHeader (SetHeader r w) = Unit {0}

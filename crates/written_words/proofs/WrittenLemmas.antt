@@ -54,7 +54,7 @@ use Rattle.written_words.specs.Writers.{AreLevelsOf, Writers, writers_after, log
 use Rattle.written_words.specs.Tags.{TagSays, OldWordSays, OldWordsSay}
 use Rattle.written_words.proofs.LevelLemmas.{levels_at}
 use Rattle.written_words.proofs.StepLemmas as steps
-use Rattle.written_words.proofs.StepLemmas.{sets_none, old_word, new_word}
+use Rattle.written_words.proofs.StepLemmas.{word_named, sets_none, old_word, new_word}
 use Rattle.written_words.proofs.TagLemmas.{zero_tag, untagged, says_own, old_length, old_first, old_later, own_levels, AreBefore, AllBefore, all_later, all_take, all_drop, all_first, IsHeader}
 
 -- ---- along a run
@@ -66,7 +66,7 @@ module _ {S : Type 0} (code : Code S) (b : Bounds) (is_thread : ℕ → Bool) (f
   -- tags say writers, what is no word of an object has none, and writers are of before
   pub record WrittenAt (k : ℕ) : Type 0 where
     pub says : (p : ℕ) → IsWordPlace is_thread (c k).objects p → TagSays c acts ((writers c acts k).word p) (tag_of (heap_of (c k).words p))
-    pub placed : (p : ℕ) → (IsWordPlace is_thread (c k).objects p → ⊥) → (writers c acts k).word p ≡ []
+    pub placed : (p : ℕ) → ((writers c acts k).word p ≡ []) ⊎ IsWordPlace is_thread (c k).objects p
     pub before : (p : ℕ) → AreBefore k ((writers c acts k).word p)
     pub old : (u : ℕ) → OldWordsSay c acts (c k).words u (log_of ((c k).threads u)) ((writers c acts k).old u)
     pub old_before : (u : ℕ) → AllBefore k ((writers c acts k).old u)
@@ -95,6 +95,10 @@ module _ {S : Type 0} (code : Code S) (b : Bounds) (is_thread : ℕ → Bool) (f
 
     own_there : (c (suc k)).threads t ≡ Some (after_answer code b at.from step a)
     own_there = steps.own_there code b is_thread first classes c acts run k t step a here at
+
+    -- what is no word of an object has no writer
+    unplaced : (p : ℕ) → (IsWordPlace is_thread (c k).objects p → ⊥) → (writers c acts k).word p ≡ []
+    unplaced p not_word = elim (so.placed p) [ inl none ↦ none | inr word ↦ absurd (not_word word) ]
 
     -- the thread's log, and the writers of what is in it, make up what is so of them
     abbrev OwnOld : List Noted → List (List ℕ) → Type 0
@@ -150,9 +154,9 @@ module _ {S : Type 0} (code : Code S) (b : Bounds) (is_thread : ℕ → Bool) (f
         says = λ p word. elim (steps.came code b is_thread first classes c acts run k t step a here at p word) [
           | old_word was ↦ subst (TagSays c acts ((writers c acts (suc k)).word p)) (ap tag_of (sym (steps.same_word code b is_thread first classes c acts run k t step a here at none p was)))
               (subst (λ w. TagSays c acts w (tag_of (heap_of (c k).words p))) (sym (word_same p)) (so.says p was))
-          | new_word r v sets not_was is_zero ↦ subst (λ w. TagSays c acts w (tag_of (heap_of (c (suc k)).words p))) (sym (word_same p ∙ so.placed p not_was)) (ap tag_of is_zero ∙ zero_tag)
+          | new_word r v sets not_was is_zero ↦ subst (λ w. TagSays c acts w (tag_of (heap_of (c (suc k)).words p))) (sym (word_same p ∙ unplaced p not_was)) (ap tag_of is_zero ∙ zero_tag)
         ];
-        placed = λ p not_word. word_same p ∙ so.placed p (λ was. not_word (steps.word_stays code b is_thread first classes c acts run k t step a here at p was));
+        placed = λ p. elim (so.placed p) [ inl none ↦ inl (word_same p ∙ none) | inr word ↦ inr (steps.word_stays code b is_thread first classes c acts run k t step a here at p word) ];
         before = λ p v there. later v (so.before p v (subst (In v) (word_same p) there));
         old = all_old (kept_old log);
         old_before = all_before (subst (AllBefore (suc k)) (sym old_same) (all_take (length y.log) (suc k) ((writers c acts k).old t) (all_later k ((writers c acts k).old t) (so.old_before t))));
@@ -175,11 +179,7 @@ module _ {S : Type 0} (code : Code S) (b : Bounds) (is_thread : ℕ → Bool) (f
       all_fit = run.laid.wants k t at.from (Write r i v) within at.stands wants
 
       pub placed_word : IsWordPlace is_thread (c k).objects (word_place r i)
-      placed_word = by_object ((c k).objects r) refl all_fit.1 all_fit.2
-        where
-          by_object : (o : Option Object) → (c k).objects r ≡ o → IsSomeAnd o (λ x. i < x.words) → IsSomeAnd o (λ x. is_thread x.class ≡ true → i ≢ 1) → IsWordPlace is_thread (c k).objects (word_place r i)
-          by_object None there low kept = absurd low
-          by_object (Some o) there low kept = record { r = r; i = i; o = o; there = there; low = low; place = refl; kept = kept }
+      placed_word = word_named is_thread (c k).objects r i all_fit.1 all_fit.2
 
       pub found : heap_of (c k).words (word_place r i) ≡ old
       found = (exchanged (c k).words (Area.Object (word_place r i)) old (written_word at.from v) (sym done ∙ at.answered ∙ ap (answer_of (c k).words) sets)).found
@@ -199,7 +199,7 @@ module _ {S : Type 0} (code : Code S) (b : Bounds) (is_thread : ℕ → Bool) (f
       pub unwritten_there : (p : ℕ) → p ≢ word_place r i → (writers c acts (suc k)).word p ≡ (writers c acts k).word p
       unwritten_there p other = ap (λ (w : Writers). w.word p) swapped ∙ set_at-other (writers c acts k).word (word_place r i) ((c k).levels t) p other
 
-      old_more : (writers c acts (suc k)).old t ≡ take (length y.log) ((writers c acts k).word (word_place r i) ∷ (writers c acts k).old t)
+      pub old_more : (writers c acts (suc k)).old t ≡ take (length y.log) ((writers c acts k).word (word_place r i) ∷ (writers c acts k).old t)
       old_more = ap (λ (w : Writers). w.old t) swapped ∙ set_at-hit (writers c acts k).old t (take (length y.log) ((writers c acts k).word (word_place r i) ∷ (writers c acts k).old t))
 
       -- the word is logged with its writer, or nothing is
@@ -285,8 +285,10 @@ module _ {S : Type 0} (code : Code S) (b : Bounds) (is_thread : ℕ → Bool) (f
               (subst (λ n. TagSays c acts ((writers c acts k).word p) (tag_of n)) (sym (steps.elsewhere code b is_thread first classes c acts run k t step a here at (word_place r i) p (ap place_of sets) other))
               (so.says p (was p word)))
         ];
-        placed = λ p not_word. unwritten_there p (λ same. not_word (subst (IsWordPlace is_thread (c (suc k)).objects) (sym same) (steps.word_stays code b is_thread first classes c acts run k t step a here at (word_place r i) placed_word)))
-            ∙ so.placed p (λ word. not_word (steps.word_stays code b is_thread first classes c acts run k t step a here at p word));
+        placed = λ p. elim (same_or_other p (word_place r i)) [
+          | inl same ↦ inr (subst (IsWordPlace is_thread (c (suc k)).objects) (sym same) (steps.word_stays code b is_thread first classes c acts run k t step a here at (word_place r i) placed_word))
+          | inr other ↦ elim (so.placed p) [ inl none ↦ inl (unwritten_there p other ∙ none) | inr word ↦ inr (steps.word_stays code b is_thread first classes c acts run k t step a here at p word) ]
+        ];
         before = λ p v there. elim (same_or_other p (word_place r i)) [
           | inl same ↦ later v (levels_before k t up v (subst (In v) (ap (writers c acts (suc k)).word same ∙ written_here) there))
           | inr other ↦ later v (so.before p v (subst (In v) (unwritten_there p other) there))
@@ -338,8 +340,10 @@ module _ {S : Type 0} (code : Code S) (b : Bounds) (is_thread : ℕ → Bool) (f
           | inr other ↦ subst (λ z. TagSays c acts z (tag_of (heap_of (c (suc k)).words q))) (sym (put_nowhere q other))
               (subst (λ n. TagSays c acts ((writers c acts k).word q) (tag_of n)) (sym (steps.elsewhere code b is_thread first classes c acts run k t step a here at p q (ap place_of sets) other)) (so.says q (was q word)))
         ];
-        placed = λ q not_word. put_nowhere q (λ same. not_word (subst (IsWordPlace is_thread (c (suc k)).objects) (sym same) (steps.word_stays code b is_thread first classes c acts run k t step a here at p logged_word)))
-            ∙ so.placed q (λ word. not_word (steps.word_stays code b is_thread first classes c acts run k t step a here at q word));
+        placed = λ q. elim (same_or_other q p) [
+          | inl same ↦ inr (subst (IsWordPlace is_thread (c (suc k)).objects) (sym same) (steps.word_stays code b is_thread first classes c acts run k t step a here at p logged_word))
+          | inr other ↦ elim (so.placed q) [ inl none ↦ inl (put_nowhere q other ∙ none) | inr word ↦ inr (steps.word_stays code b is_thread first classes c acts run k t step a here at q word) ]
+        ];
         before = λ q v there. elim (same_or_other q p) [
           | inl same ↦ later v (all_first k ((writers c acts k).old t) (so.old_before t) v (subst (In v) (ap (writers c acts (suc k)).word same ∙ put_here) there))
           | inr other ↦ later v (so.before q v (subst (In v) (put_nowhere q other) there))

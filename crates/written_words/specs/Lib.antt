@@ -1,3 +1,4 @@
 pub mod Writers
 pub mod Tags
 pub mod Written
+pub mod Undone

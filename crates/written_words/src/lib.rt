@@ -6,6 +6,7 @@
 ghost use Rattle.written_words.specs.Writers.{OpenLevelsAreOfSections};
 ghost use Rattle.written_words.specs.Tags.{TagsSayWriters, OldTagsSayWriters};
 ghost use Rattle.written_words.specs.Written.{LevelsWriteWhatIsLogged};
+ghost use Rattle.written_words.specs.Undone.{DoomedWritersAreOpen, ObservedLevelsStay, UndoneLevelsHaveWrittenNothing, UndoneSectionsHaveWrittenNothing};
 
 use op_core::ThreadCode;
 
@@ -31,4 +32,25 @@ pub fn old_tags_say_writers<C: ThreadCode>()
 /// then. So it is while the section is live or revoking.
 pub fn levels_write_what_is_logged<C: ThreadCode>()
     ensures { LevelsWriteWhatIsLogged C.code }
+{}
+
+/// A level in the writer of a word that is revoked, then or later, is open still.
+pub fn doomed_writers_are_open<C: ThreadCode>()
+    ensures { DoomedWritersAreOpen C.code }
+{}
+
+/// A level in which a word was written that another thread reads or overwrites is never revoked.
+pub fn observed_levels_stay<C: ThreadCode>()
+    ensures { ObservedLevelsStay C.code }
+{}
+
+/// Where a run ends as a level of a section is marked as undone, no word that carries the section was written in a level that
+/// is revoked.
+pub fn undone_levels_have_written_nothing<C: ThreadCode>()
+    ensures { UndoneLevelsHaveWrittenNothing C.code }
+{}
+
+/// Once the outermost level of a section was undone, no word of an object carries the section.
+pub fn undone_sections_have_written_nothing<C: ThreadCode>()
+    ensures { UndoneSectionsHaveWrittenNothing C.code }
 {}
