@@ -1,8 +1,7 @@
 -- Levels that are revoked, and the writers of words, along a run.
-use Rattle.std.proofs.Common.{◌≡◌, ◌≢◌, ◌⊎◌, inl, inr, ℕ, zero, suc, ◌-◌, ◌<◌, ◌≤◌, Bool, true, false, true≢false, Option, None, Some, List, [], ◌∷◌, length, take, drop, refl, sym, ◌∙◌, ap, subst, arith}
+use Rattle.std.proofs.Common.{◌≡◌, ◌≢◌, ◌⊎◌, inl, inr, ℕ, suc, ◌-◌, ◌<◌, ◌≤◌, Bool, false, true≢false, Some, List, [], ◌∷◌, length, refl, sym, ◌∙◌, ap, subst, arith}
 use Rattle.std.specs.Prelude.{nat_le, slice_get}
-use Rattle.std.proofs.lemmas.Bool.Decides.{leb_tells}
-use Rattle.std.proofs.lemmas.Option.{same_Some, slice_get_within}
+use Rattle.std.proofs.lemmas.Option.{same_Some}
 use Rattle.op_core.specs.ThreadCode.{Code}
 use Rattle.op_core.proofs.PointwiseLemmas.{same_or_other}
 use Rattle.heap_words.specs.declared.areas.Area.TheVariants.{Section}
@@ -10,28 +9,24 @@ use Rattle.heap_words.specs.Words.{tag_of, tag_section}
 use Rattle.section_state.specs.declared.State.TheVariants.{Revoking}
 use Rattle.section_state.specs.SectionWord.{number_of, state_of, pinned_of, revoke_of, undone_of}
 use Rattle.write_log.specs.declared.Noted.{Noted}
-use Rattle.step_port.specs.declared.answer.StepAnswer.{StepAnswer}
 use Rattle.step_port.specs.declared.answer.StepAnswer.TheVariants.{Done}
 use Rattle.step_port.specs.declared.step.Step.{Step}
-use Rattle.step_port.specs.declared.step.Step.TheVariants.{SwapWord, MarkUndone}
+use Rattle.step_port.specs.declared.step.Step.TheVariants.{MarkUndone}
 use Rattle.thread_automaton.specs.declared.Bounds.{Bounds}
 use Rattle.thread_automaton.specs.declared.Move.TheVariants.{Make}
-use Rattle.thread_automaton.specs.declared.Attempt.TheVariants.{Undoing}
-use Rattle.thread_automaton.specs.ThreadState.{ThreadState, Mark, no_mark, nth_or, mark_of, noted_since, from_level}
-use Rattle.thread_automaton.specs.NextMove.{word_place, deepened_since, undo_next, move_of}
-use Rattle.thread_automaton.specs.Checks.{written_word}
-use Rattle.thread_automaton.specs.Told.{after_answer}
+use Rattle.thread_automaton.specs.ThreadState.{ThreadState, no_mark, nth_or, mark_of, noted_since, from_level}
+use Rattle.thread_automaton.specs.NextMove.{deepened_since, undo_next, move_of}
 use Rattle.automaton_rows.specs.Fits.{AttemptFits}
 use Rattle.core_runs.specs.Cores.{Core}
-use Rattle.core_runs.specs.Acts.{Act, quiet, did, beside, DidAt, ActAt, mover}
+use Rattle.core_runs.specs.Acts.{Act, did, DidAt, mover}
 use Rattle.core_runs.specs.Revoked.{IsDoomed}
-use Rattle.level_runs.specs.LevelRun.{is_undone, In, GoesBackAt}
+use Rattle.level_runs.specs.LevelRun.{In, GoesBackAt}
 use Rattle.level_runs.proofs.LevelLemmas.{doomed_are_undone}
 use Rattle.settled_lists.specs.Settled.{notes}
 use Rattle.section_laws.specs.Runs.{IsRun}
 use Rattle.section_laws.proofs.WordLemmas.{state_is}
 use Rattle.section_laws.proofs.DeedLemmas.{above, makes_it}
-use Rattle.section_laws.proofs.RunLemmas.{along, act_at, facts_at}
+use Rattle.section_laws.proofs.RunLemmas.{act_at, facts_at}
 use Rattle.own_sections.specs.OwnWords.{OwnWord, SeesUndoing}
 use Rattle.own_sections.proofs.SeenLemmas.{undoing_seen}
 use Rattle.own_sections.proofs.MoveLemmas.{own_at, own_words_are_known}
@@ -40,21 +35,17 @@ use Rattle.section_levels.proofs.RunLemmas.{counted_at}
 use Rattle.section_levels.proofs.LevelLemmas.{at_place, runs_in_levels, doomed_at}
 use Rattle.open_sections.specs.OpenSections.{IsLiveOrRevoking}
 use Rattle.noted_words.specs.Noted.{heap_of}
-use Rattle.noted_words.proofs.TurnLemmas.{SetsNoWord}
-use Rattle.settled_words.proofs.TurnLemmas.{none_noted, calm, opens, closes, ends_all, undone, writes, puts}
-use Rattle.written_words.specs.Writers.{AreLevelsOf, Writers, log_of, writers_by, writers}
-use Rattle.written_words.specs.Tags.{IsWrittenRun, TagSays, OldWordSays, OldWordsSay}
+use Rattle.settled_words.proofs.TurnLemmas.{none_noted}
+use Rattle.written_words.specs.Writers.{AreLevelsOf, log_of, writers}
+use Rattle.written_words.specs.Tags.{IsWrittenRun, TagSays, OldWordsSay}
 use Rattle.written_words.specs.Written.{has, HasWrittenSince}
-use Rattle.written_words.specs.Undone.{DoomedWritersAreOpen}
 use Rattle.written_words.proofs.LevelLemmas.{levels_at}
 use Rattle.written_words.proofs.PlaceLemmas.{comes_before, is_there, comes_behind, order, place_in, index_of, of_thread, outside, behind_at}
-use Rattle.written_words.proofs.StepLemmas as steps
 use Rattle.written_words.proofs.TagLemmas.{of_section}
 use Rattle.written_words.proofs.SinceLemmas.{in_has, all_logged, AllLack, old_lack}
-use Rattle.written_words.proofs.WrittenLemmas as written
 use Rattle.written_words.proofs.WrittenLemmas.{levels_before}
 use Rattle.written_words.proofs.PartLemmas.{not_old}
-use Rattle.written_words.proofs.RunLemmas.{WrittenAt, written_at}
+use Rattle.written_words.proofs.RunLemmas.{written_at}
 use Rattle.written_words.proofs.LoggedLemmas.{parts_at}
 
 module _ {S : Type 0} (code : Code S) (b : Bounds) (is_thread : ℕ → Bool) (first : S) (classes : ℕ) (c : ℕ → Core S) (acts : List Act) (run : IsWrittenRun code b is_thread first classes c acts) where

@@ -1,24 +1,39 @@
 -- What each open level has written, at each place of a run.
-use Rattle.std.proofs.Common.{◌≡◌, inl, inr, ℕ, suc, ◌-◌, ◌<◌, ◌≤◌, Bool, Some, List, [], length, sym, ◌∙◌, ap, subst, arith}
+use Rattle.std.proofs.Common.{◌≡◌, inl, inr, ℕ, suc, ◌-◌, ◌<◌, ◌≤◌, Bool, true, false, Some, List, [], ◌∷◌, length, nat_eq, refl, sym, ◌∙◌, ap, subst, arith}
+use Rattle.std.proofs.lemmas.Grind.{common_steps}
+use Rattle.std.proofs.lemmas.Bool.Decides.{nat_tests}
 use Rattle.std.specs.Prelude.{slice_get}
 use Rattle.std.proofs.lemmas.Option.{same_Some, slice_get_within}
 use Rattle.op_core.specs.ThreadCode.{Code}
 use Rattle.op_core.proofs.PointwiseLemmas.{same_or_other}
 use Rattle.heap_words.specs.declared.areas.Area.TheVariants.{Section}
+use Rattle.heap_words.specs.Words.{tag_of, tag_section}
 use Rattle.section_state.specs.SectionWord.{pinned_of}
 use Rattle.step_port.specs.declared.answer.StepAnswer.{StepAnswer}
+use Rattle.step_port.specs.declared.answer.StepAnswer.TheVariants.{Done}
 use Rattle.step_port.specs.declared.step.Step.{Step}
+use Rattle.step_port.specs.declared.step.Step.TheVariants.{OpenSection}
 use Rattle.thread_automaton.specs.declared.Bounds.{Bounds}
-use Rattle.thread_automaton.specs.ThreadState.{ThreadState}
+use Rattle.thread_automaton.specs.ThreadState.{ThreadState, no_mark, nth_or}
 use Rattle.thread_automaton.specs.Told.{after_answer, after_quiet}
+use Rattle.automaton_rows.specs.Fits.{IsFit}
 use Rattle.core_runs.specs.Cores.{Core}
 use Rattle.core_runs.specs.Acts.{Act, quiet, did, beside, DidAt, ActAt}
+use Rattle.level_runs.specs.LevelRun.{In}
 use Rattle.section_laws.specs.Runs.{IsRun}
 use Rattle.section_laws.proofs.FactLemmas.{each}
-use Rattle.section_laws.proofs.RunLemmas.{along}
-use Rattle.written_words.specs.Writers.{Writers, writers_by, writers}
-use Rattle.written_words.specs.Tags.{IsWrittenRun}
-use Rattle.written_words.specs.Written.{has, LevelsWriteWhatIsLogged}
+use Rattle.section_laws.proofs.SectionLemmas.{sections_open_once}
+use Rattle.section_laws.proofs.RunLemmas.{along, facts_at}
+use Rattle.section_levels.proofs.RunLemmas.{counted_at}
+use Rattle.noted_words.specs.Noted.{heap_of}
+use Rattle.noted_words.proofs.PartLemmas.{notes_since}
+use Rattle.noted_words.proofs.TagLemmas.{section_of_none}
+use Rattle.written_words.specs.Writers.{AreLevelsOf, Writers, writers_by, writers}
+use Rattle.written_words.specs.Tags.{IsWrittenRun, TagSays}
+use Rattle.written_words.specs.Written.{has, HasWrittenSince, LevelsWriteWhatIsLogged, CarriedWordsAreLogged}
+use Rattle.written_words.proofs.LevelLemmas.{levels_at}
+use Rattle.written_words.proofs.PlaceLemmas.{outermost_one, outermost_place, outermost_opens}
+use Rattle.written_words.proofs.SinceLemmas.{in_has}
 use Rattle.written_words.proofs.StepLemmas as steps
 use Rattle.written_words.proofs.PartLemmas as parts
 use Rattle.written_words.proofs.PartLemmas.{kept_on, others_kept}
@@ -83,3 +98,59 @@ levels_write_what_is_logged code b is_thread first classes c acts run k t n v th
   where
     at_level : (p n l : ℕ) → p < n → n ≤ l → p < l - (l - n)
     at_level p n l deep low = omega (arith, deep, low)
+
+-- ---- words that carry a section with nothing pinned
+
+pub carried_words_are_logged : {S : Type 0} (code : Code S) → CarriedWordsAreLogged code
+carried_words_are_logged {S} code b is_thread first classes c acts run k t p th within there some live none word carries =
+    notes_since p (nth_or no_mark (th.levels - 1) th.marks).noted th.log (sym (part.words p) ∙ in_has found.0 ((writers c acts k).word p) (by_writer ((writers c acts k).word p) refl ((written_at code b is_thread first classes c acts run k within).says p word)))
+  where
+    fits : IsFit code th
+    fits = (facts_at code b c acts run.tagged.monitors.levelled.ordered.run k within).fit t th there
+
+    counted : length ((c k).levels t) ≡ th.levels
+    counted = (counted_at code b first classes c acts run.tagged.monitors.levelled k within).there t th there
+
+    levels_are : AreLevelsOf c acts t th.section ((c k).levels t)
+    levels_are = levels_at code b first classes c acts run.tagged.monitors.levelled k within t th there
+
+    some_open : 0 < length ((c k).levels t)
+    some_open = subst (λ n. 0 < n) (sym counted) (by_section th.section th.levels some fits.kept.levels)
+      where
+        by_section : (s l : ℕ) → 0 < s → nat_eq s 0 ≡ nat_eq l 0 → 0 < l
+        by_section s l some same = by_test (nat_eq l 0) refl
+          where
+            zero_or : (n : ℕ) → nat_eq n 0 ≡ true → n ≡ 0
+            zero_or n is = grind (arith, common_steps, nat_tests)
+
+            some_or : (n : ℕ) → nat_eq n 0 ≡ false → 0 < n
+            some_or n is = grind (arith, common_steps, nat_tests)
+
+            no : (s : ℕ) → 0 < s → s ≡ 0 → ⊥
+            no s some none = omega (arith, some, none)
+
+            by_test : (z : Bool) → nat_eq l 0 ≡ z → 0 < l
+            by_test true is = absurd (no s some (zero_or s (same ∙ is)))
+            by_test false is = some_or l is
+
+    found : (q : ℕ) × (slice_get ((c k).levels t) (length ((c k).levels t) - 1) ≡ Some q)
+    found = outermost_place ((c k).levels t) some_open
+
+    opens : (x : ℕ) × (slice_get acts found.0 ≡ Some (did t (OpenSection th.section x) Done))
+    opens = outermost_opens c acts t th.section found.0 ((c k).levels t) levels_are some_open found.1
+
+    part : HasWrittenSince found.0 (nth_or no_mark (th.levels - 1) th.marks).noted th.log ((writers c acts k).old t) (writers c acts k).word
+    part = parts_at code b is_thread first classes c acts run k within t th there live (th.levels - 1) found.0 (subst (λ n. slice_get ((c k).levels t) (n - 1) ≡ Some found.0) counted found.1)
+        (deep (pinned_of ((c k).words (Section th.section))) th.levels (length ((c k).levels t)) none some_open counted)
+      where
+        deep : (p l n : ℕ) → p ≡ 0 → 0 < n → n ≡ l → p < l - (l - 1)
+        deep p l n none some same = omega (arith, none, some, same)
+
+    by_writer : (writer : List ℕ) → (writers c acts k).word p ≡ writer → TagSays c acts writer (tag_of (heap_of (c k).words p)) → In found.0 ((writers c acts k).word p)
+    by_writer [] is untagged = absurd (no th.section (sym carries ∙ ap tag_section untagged ∙ section_of_none) some)
+      where
+        no : (s : ℕ) → s ≡ 0 → 0 < s → ⊥
+        no s none some = omega (arith, none, some)
+    by_writer (x ∷ writer) is says =
+        let out = outermost_one c acts says.0 th.section x writer (subst (λ n. AreLevelsOf c acts says.0 n (x ∷ writer)) carries says.1) in
+        subst (In found.0) (sym is) (subst (λ n. In n (x ∷ writer)) (sections_open_once code b c acts run.tagged.monitors.levelled.ordered.run out.0 found.0 says.0 t th.section out.1 opens.0 out.2 opens.1) out.3)

@@ -1,17 +1,14 @@
 -- What threads observe of words that were written in levels of others.
-use Rattle.std.proofs.Common.{◌≡◌, ◌≢◌, inl, inr, ℕ, suc, ◌<◌, ◌≤◌, Bool, true, Option, None, Some, List, [], length, refl, sym, ◌∙◌, ap, subst, arith}
+use Rattle.std.proofs.Common.{◌≡◌, ◌≢◌, ℕ, suc, ◌<◌, ◌≤◌, Bool, true, Option, None, Some, List, length, refl, sym, ◌∙◌, ap, subst, arith}
 use Rattle.std.specs.Prelude.{slice_get}
 use Rattle.std.proofs.lemmas.Option.{same_Some, slice_get_within}
 use Rattle.op_core.specs.declared.Op.TheVariants.{Read}
-use Rattle.op_core.specs.declared.Next.TheVariants.{Want}
 use Rattle.op_core.specs.declared.Reply.TheVariants.{Value}
 use Rattle.op_core.specs.ThreadCode.{Code}
 use Rattle.heap_words.specs.declared.areas.Area.{Area}
-use Rattle.heap_words.specs.declared.areas.Area.TheVariants.{Section}
 use Rattle.heap_words.specs.Words.{tag_of, tag_section, tag_level, value_of}
-use Rattle.section_state.specs.SectionWord.{pinned_of}
 use Rattle.step_port.specs.declared.answer.StepAnswer.{StepAnswer}
-use Rattle.step_port.specs.declared.answer.StepAnswer.TheVariants.{Found, Done}
+use Rattle.step_port.specs.declared.answer.StepAnswer.TheVariants.{Found}
 use Rattle.step_port.specs.declared.step.Step.{Step}
 use Rattle.step_port.specs.declared.step.Step.TheVariants.{LoadWord, SwapWord}
 use Rattle.step_port.specs.Steps.{effect_of}
@@ -19,7 +16,7 @@ use Rattle.step_port.specs.Words.{CanAnswer, answer_of}
 use Rattle.thread_automaton.specs.declared.Bounds.{Bounds}
 use Rattle.thread_automaton.specs.ThreadState.{ThreadState}
 use Rattle.thread_automaton.specs.NextMove.{word_place}
-use Rattle.thread_automaton.specs.Checks.{is_safe, written_word}
+use Rattle.thread_automaton.specs.Checks.{is_safe}
 use Rattle.thread_automaton.specs.Told.{advanced, told}
 use Rattle.automaton_rows.proofs.RowLemmas.{answers_are_rows, words_can_answer}
 use Rattle.core_runs.specs.Cores.{Core}
@@ -32,7 +29,6 @@ use Rattle.section_laws.proofs.ClaimLemmas.{found_is}
 use Rattle.section_laws.proofs.RunLemmas.{act_at, facts_at}
 use Rattle.section_levels.proofs.RunLemmas.{counted_at}
 use Rattle.section_levels.proofs.LevelLemmas.{has_section, doomed_levels_are_unpinned}
-use Rattle.open_sections.specs.OpenSections.{IsLiveOrRevoking}
 use Rattle.open_sections.proofs.RunLemmas.{doomed_sections_are_open}
 use Rattle.run_layout.specs.Layout.{IsWordPlace, FitsObjects}
 use Rattle.noted_words.specs.Noted.{heap_of}
@@ -43,7 +39,7 @@ use Rattle.noted_words.proofs.RunLemmas.{noted_at}
 use Rattle.settled_words.proofs.TurnLemmas.{calm, opens, closes, ends_all, undone, writes, puts}
 use Rattle.settled_words.proofs.ReadLemmas.{ReadFinds, finds}
 use Rattle.written_words.specs.Writers.{AreLevelsOf, writers}
-use Rattle.written_words.specs.Tags.{IsWrittenRun, TagSays}
+use Rattle.written_words.specs.Tags.{IsWrittenRun}
 use Rattle.written_words.specs.Undone.{Observes, reads, overwrites, ObservedLevelsStay}
 use Rattle.written_words.proofs.LevelLemmas.{levels_at}
 use Rattle.written_words.proofs.PlaceLemmas.{one_section, at_least, is_level}
@@ -77,9 +73,11 @@ module _ {S : Type 0} (code : Code S) (b : Bounds) (is_thread : ℕ → Bool) (f
       safe_other code b is_thread first classes c acts run.tagged k t u (suc (length ((c v).levels u))) (heap_of (c k).words p) th holds.0 within at holds.1 other
       (has_section code b first classes c acts run.tagged.monitors.levelled k u v holds.0 within holds.1 open_now)
       (doomed_sections_are_open code b first classes c acts run.tagged.monitors.levelled v k u holds.0 within holds.1 doomed open_now)
-      (doomed_levels_are_unpinned code b first classes c acts run.tagged.monitors.levelled v (suc (length ((c v).levels u))) k u holds.0 within holds.1 doomed (is_level c acts u holds.0.section v ((c k).levels u) its_levels open_now))
-      (one.1, deep (suc (length ((c v).levels u))) (length ((writers c acts k).word p)) (tag_level (tag_of (heap_of (c k).words p)))
-      (subst (λ n. suc (length ((c v).levels n)) ≤ length ((writers c acts k).word p)) one.0 (at_least c acts of.0 (tag_section (tag_of (heap_of (c k).words p))) v ((writers c acts k).word p) of.1 there)) of.2) safe
+      (doomed_levels_are_unpinned code b first classes c acts run.tagged.monitors.levelled v (suc (length ((c v).levels u))) k u holds.0 within holds.1 doomed (is_level c acts u holds.0.section v ((c k).levels u) its_levels open_now)) (
+        one.1,
+        deep (suc (length ((c v).levels u))) (length ((writers c acts k).word p)) (tag_level (tag_of (heap_of (c k).words p)))
+            (subst (λ n. suc (length ((c v).levels n)) ≤ length ((writers c acts k).word p)) one.0 (at_least c acts of.0 (tag_section (tag_of (heap_of (c k).words p))) v ((writers c acts k).word p) of.1 there)) of.2,
+      ) safe
     where
       u : ℕ
       u = mover (slice_get acts v)

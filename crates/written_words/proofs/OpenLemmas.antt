@@ -1,5 +1,5 @@
 -- Levels in writers that are revoked are open, at each place of a run.
-use Rattle.std.proofs.Common.{◌≡◌, ◌≢◌, inl, inr, ℕ, zero, suc, ◌<◌, ◌≤◌, Bool, List, [], ◌∷◌, length, take, drop, refl, sym, ◌∙◌, ap, subst, arith}
+use Rattle.std.proofs.Common.{◌≡◌, inl, inr, ℕ, zero, suc, ◌<◌, ◌≤◌, Bool, List, [], ◌∷◌, length, take, drop, sym, ◌∙◌, ap, subst}
 use Rattle.std.specs.Prelude.{Some, slice_get}
 use Rattle.std.proofs.lemmas.Option.{slice_get_within}
 use Rattle.op_core.specs.ThreadCode.{Code}
@@ -7,18 +7,17 @@ use Rattle.op_core.proofs.PointwiseLemmas.{same_or_other}
 use Rattle.step_port.specs.declared.answer.StepAnswer.{StepAnswer}
 use Rattle.step_port.specs.declared.step.Step.{Step}
 use Rattle.thread_automaton.specs.declared.Bounds.{Bounds}
-use Rattle.thread_automaton.specs.ThreadState.{ThreadState, nth_or, is_open}
+use Rattle.thread_automaton.specs.ThreadState.{ThreadState, nth_or}
 use Rattle.thread_automaton.specs.NextMove.{word_place}
 use Rattle.thread_automaton.specs.Told.{after_answer}
 use Rattle.core_runs.specs.Cores.{Core}
-use Rattle.core_runs.specs.Acts.{Act, quiet, did, beside, DidAt, ActAt, mover}
-use Rattle.core_runs.specs.Revoked.{IsDoomed}
+use Rattle.core_runs.specs.Acts.{Act, quiet, did, beside, DidAt, ActAt}
 use Rattle.level_runs.specs.LevelRun.{In}
 use Rattle.section_laws.specs.Runs.{IsRun}
 use Rattle.section_laws.proofs.RunLemmas.{along}
 use Rattle.noted_words.proofs.TurnLemmas.{SetsNoWord}
 use Rattle.settled_words.proofs.TurnLemmas.{calm, opens, closes, ends_all, undone, writes, puts}
-use Rattle.written_words.specs.Writers.{Writers, writers_by, writers}
+use Rattle.written_words.specs.Writers.{writers_by, writers}
 use Rattle.written_words.specs.Tags.{IsWrittenRun}
 use Rattle.written_words.specs.Undone.{DoomedWritersAreOpen}
 use Rattle.written_words.proofs.LevelLemmas.{levels_at}

@@ -8,6 +8,7 @@ use Rattle.step_port.specs.declared.step.Step.TheVariants.{OpenSection, OpenLeve
 use Rattle.core_runs.specs.Cores.{Core}
 use Rattle.core_runs.specs.Acts.{Act, did, mover}
 use Rattle.level_runs.specs.LevelRun.{In, IsLevel}
+use Rattle.level_runs.proofs.LevelLemmas.{has_nth}
 use Rattle.written_words.specs.Writers.{OpensInside, AreLevelsOf}
 
 -- the section in which the step opens a level
@@ -47,6 +48,12 @@ index_of v (q ∷ levels) there = elim there [
   | inl here ↦ (0, ap Some (sym here))
   | inr more ↦ let found = index_of v levels more in (suc found.0, found.1)
 ]
+
+pub outermost_place : (levels : List ℕ) → 0 < length levels → (q : ℕ) × (slice_get levels (length levels - 1) ≡ Some q)
+outermost_place levels some = has_nth (length levels - 1) levels (last (length levels) some)
+  where
+    last : (n : ℕ) → 0 < n → n - 1 < n
+    last n some = omega (arith, some)
 
 module _ {S : Type 0} (c : ℕ → Core S) (acts : List Act) where
   pub of_thread : (t s v : ℕ) (levels : List ℕ) → AreLevelsOf c acts t s levels → In v levels → (mover (slice_get acts v) ≡ t) × (section_by (slice_get acts v) ≡ s)
@@ -124,6 +131,18 @@ module _ {S : Type 0} (c : ℕ → Core S) (acts : List Act) where
     where
       shift : (n i : ℕ) → suc n - suc i ≡ n - i
       shift n i = omega arith
+
+  -- the last of them opened the section
+  pub outermost_opens : (t s q : ℕ) (levels : List ℕ) → AreLevelsOf c acts t s levels → 0 < length levels → slice_get levels (length levels - 1) ≡ Some q → (w : ℕ) × (slice_get acts q ≡ Some (did t (OpenSection s w) Done))
+  outermost_opens t s q levels are some is =
+      subst (OpensInside acts t s q) (empty ((c q).levels t) (alone (length levels) (length ((c q).levels t)) some (depth_at t s (length levels - 1) q levels are is))) (opened_at t s q levels are (place_in (length levels - 1) q levels is))
+    where
+      alone : (n d : ℕ) → 0 < n → n - (n - 1) ≡ suc d → d ≡ 0
+      alone n d some is = omega (arith, some, is)
+
+      empty : (levels : List ℕ) → length levels ≡ 0 → levels ≡ []
+      empty [] none = refl
+      empty (p ∷ levels) none = cc
 
   -- and those behind it are further out
   pub behind_at : (t s i v q : ℕ) (levels : List ℕ) → AreLevelsOf c acts t s levels → slice_get levels i ≡ Some v → (j : ℕ) → i < j → slice_get levels j ≡ Some q → In q ((c v).levels t)

@@ -10,7 +10,7 @@ use Rattle.step_port.specs.declared.step.Step.TheVariants.{OpenSection, SetHeade
 use Rattle.step_port.specs.Words.{Words}
 use Rattle.thread_automaton.specs.ThreadState.{nth_or}
 use Rattle.core_runs.specs.Cores.{Core}
-use Rattle.core_runs.specs.Acts.{Act, did, mover}
+use Rattle.core_runs.specs.Acts.{Act, did}
 use Rattle.level_runs.specs.LevelRun.{In}
 use Rattle.known_sections.specs.Known.{IsCommittedOrPinned}
 use Rattle.noted_words.proofs.TagLemmas.{section_is, level_is}

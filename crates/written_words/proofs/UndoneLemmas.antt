@@ -1,12 +1,11 @@
 -- Words after an undoing.
-use Rattle.std.proofs.Common.{◌≡◌, ◌≢◌, inl, inr, ℕ, zero, suc, ◌+◌, ◌-◌, ◌<◌, ◌≤◌, Bool, Option, None, Some, List, [], ◌∷◌, length, refl, sym, ◌∙◌, ap, subst, arith}
+use Rattle.std.proofs.Common.{◌≡◌, inl, inr, ℕ, suc, ◌+◌, ◌-◌, ◌<◌, ◌≤◌, Bool, Option, None, Some, List, [], ◌∷◌, length, refl, sym, ◌∙◌, ap, subst, arith}
 use Rattle.std.specs.Prelude.{slice_get}
 use Rattle.std.proofs.lemmas.Option.{same_Some, slice_get_within}
 use Rattle.op_core.specs.ThreadCode.{Code}
 use Rattle.heap_words.specs.Words.{tag_of, tag_section, tag_level}
-use Rattle.section_state.specs.SectionWord.{revoke_of, undone_of}
+use Rattle.section_state.specs.SectionWord.{revoke_of}
 use Rattle.step_port.specs.declared.answer.StepAnswer.TheVariants.{Done}
-use Rattle.step_port.specs.declared.step.Step.{Step}
 use Rattle.step_port.specs.declared.step.Step.TheVariants.{OpenSection, MarkUndone}
 use Rattle.thread_automaton.specs.declared.Bounds.{Bounds}
 use Rattle.thread_automaton.specs.declared.Attempt.{Attempt}
@@ -16,7 +15,7 @@ use Rattle.core_runs.specs.Cores.{Core, outermost}
 use Rattle.core_runs.specs.Acts.{Act, did, mover}
 use Rattle.core_runs.specs.Revoked.{RevokesAt, levels_from, IsDoomed}
 use Rattle.level_runs.specs.LevelRun.{is_undone, LevelAt, In, IsDoomedAt, GoesBackAt}
-use Rattle.level_runs.proofs.LevelLemmas.{has_nth, open_since, Since, since, keeps_on, is_gone, were_doomed}
+use Rattle.level_runs.proofs.LevelLemmas.{open_since, Since, since, keeps_on, is_gone, were_doomed}
 use Rattle.section_laws.specs.Runs.{IsRun}
 use Rattle.section_laws.proofs.InRunLemmas.{is_in_list}
 use Rattle.section_laws.proofs.SectionLemmas.{sections_open_once}
@@ -30,11 +29,11 @@ use Rattle.section_levels.proofs.LevelLemmas.{at_place, runs_in_levels, has_sect
 use Rattle.run_layout.specs.Layout.{IsWordPlace}
 use Rattle.noted_words.specs.Noted.{heap_of}
 use Rattle.noted_words.proofs.TagLemmas.{section_of_none}
-use Rattle.written_words.specs.Writers.{OpensInside, AreLevelsOf, writers}
+use Rattle.written_words.specs.Writers.{AreLevelsOf, writers}
 use Rattle.written_words.specs.Tags.{IsWrittenRun, TagSays}
 use Rattle.written_words.specs.Undone.{UndoneLevelsHaveWrittenNothing, UndoneSectionsHaveWrittenNothing}
 use Rattle.written_words.proofs.LevelLemmas.{levels_at}
-use Rattle.written_words.proofs.PlaceLemmas.{place_in, index_of, of_thread, opened_at, outermost_one, one_thread, depth_at}
+use Rattle.written_words.proofs.PlaceLemmas.{place_in, index_of, of_thread, outermost_one, outermost_place, outermost_opens, one_thread}
 use Rattle.written_words.proofs.TagLemmas.{of_section}
 use Rattle.written_words.proofs.WrittenLemmas.{levels_before}
 use Rattle.written_words.proofs.RunLemmas.{written_at}
@@ -162,10 +161,7 @@ module _ {S : Type 0} (code : Code S) (b : Bounds) (is_thread : ℕ → Bool) (f
         one = undoes.level ∙ ap revoke_of (ap seen_word (sym undoes.undoing ∙ ap (λ (x : ThreadState S). x.attempt) (same_Some undoes.th th (sym undoes.stands ∙ stands)) ∙ undoing)) ∙ whole
 
         found : (q : ℕ) × (slice_get ((c k).levels t) (length ((c k).levels t) - 1) ≡ Some q)
-        found = has_nth (length ((c k).levels t) - 1) ((c k).levels t) (last (length ((c k).levels t)) some_open)
-          where
-            last : (n : ℕ) → 0 < n → n - 1 < n
-            last n some = omega (arith, some)
+        found = outermost_place ((c k).levels t) some_open
 
         q : ℕ
         q = found.0
@@ -175,15 +171,7 @@ module _ {S : Type 0} (code : Code S) (b : Bounds) (is_thread : ℕ → Bool) (f
 
         -- it opened the section
         q_opens : (x : ℕ) × (slice_get acts q ≡ Some (did t (OpenSection s x) Done))
-        q_opens = subst (OpensInside acts t s q) (empty ((c q).levels t) (alone (length ((c k).levels t)) (length ((c q).levels t)) some_open (depth_at c acts t s (length ((c k).levels t) - 1) q ((c k).levels t) levels_are found.1)))
-            (opened_at c acts t s q ((c k).levels t) levels_are q_open)
-          where
-            alone : (n d : ℕ) → 0 < n → n - (n - 1) ≡ suc d → d ≡ 0
-            alone n d some is = omega (arith, some, is)
-
-            empty : (levels : List ℕ) → length levels ≡ 0 → levels ≡ []
-            empty [] none = refl
-            empty (p ∷ levels) none = cc
+        q_opens = outermost_opens c acts t s q ((c k).levels t) levels_are some_open found.1
 
         back : GoesBackAt (levels_in c acts t) (runs t).act k level q
         back = record {

@@ -5,7 +5,7 @@
 
 ghost use Rattle.written_words.specs.Writers.{OpenLevelsAreOfSections};
 ghost use Rattle.written_words.specs.Tags.{TagsSayWriters, OldTagsSayWriters};
-ghost use Rattle.written_words.specs.Written.{LevelsWriteWhatIsLogged};
+ghost use Rattle.written_words.specs.Written.{LevelsWriteWhatIsLogged, CarriedWordsAreLogged};
 ghost use Rattle.written_words.specs.Undone.{DoomedWritersAreOpen, ObservedLevelsStay, UndoneLevelsHaveWrittenNothing, UndoneSectionsHaveWrittenNothing};
 
 use op_core::ThreadCode;
@@ -32,6 +32,11 @@ pub fn old_tags_say_writers<C: ThreadCode>()
 /// then. So it is while the section is live or revoking.
 pub fn levels_write_what_is_logged<C: ThreadCode>()
     ensures { LevelsWriteWhatIsLogged C.code }
+{}
+
+/// While a section is live or revoking, and nothing of it is pinned, its thread has logged each word that carries it.
+pub fn carried_words_are_logged<C: ThreadCode>()
+    ensures { CarriedWordsAreLogged C.code }
 {}
 
 /// A level in the writer of a word that is revoked, then or later, is open still.
