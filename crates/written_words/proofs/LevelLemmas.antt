@@ -29,12 +29,15 @@ use Rattle.automaton_rows.specs.Rows.{Row, is_lost, own_stands, pins, is_undone,
 use Rattle.automaton_rows.proofs.RowLemmas.{answers_are_rows, words_can_answer, by_if}
 use Rattle.core_runs.specs.Cores.{Core, threads_by, levels_by}
 use Rattle.core_runs.specs.Acts.{Act, quiet, did, beside, DidAt, ActAt}
+use Rattle.level_runs.specs.LevelRun.{In}
+use Rattle.level_runs.proofs.LevelLemmas.{below, falls}
 use Rattle.section_laws.specs.Runs.{IsRun}
 use Rattle.section_laws.proofs.FactLemmas.{each}
 use Rattle.section_laws.proofs.RunLemmas.{along, facts_at}
-use Rattle.section_levels.specs.Levels.{IsLevelledRun}
+use Rattle.section_levels.specs.Levels.{IsLevelledRun, levels_in, revoked_in}
 use Rattle.section_levels.proofs.RowLemmas.{drop_all, outermost_none}
 use Rattle.section_levels.proofs.RunLemmas.{Counted, counted_at, no_levels, own_levels, other_levels}
+use Rattle.section_levels.proofs.LevelLemmas.{at_place, runs_in_levels}
 use Rattle.written_words.specs.Writers.{OpensInside, AreLevelsOf, OpenLevelsAreOfSections}
 
 -- ---- levels
@@ -230,6 +233,33 @@ module _ {S : Type 0} (code : Code S) (b : Bounds) (first : S) (classes : ℕ) (
     where
       first_levels : LevelsAt 0
       first_levels t th at = subst (AreLevelsOf c acts t th.section) (sym (run.closed t)) tt
+
+  -- a thread with a section has a level open
+  pub some_levels : (k t : ℕ) (th : ThreadState S) → k ≤ length acts → (c k).threads t ≡ Some th → 0 < th.section → 0 < length ((c k).levels t)
+  some_levels k t th within at some = subst (λ n. 0 < n) (sym ((counted_at code b first classes c acts run k within).there t th at)) (by_section th.section th.levels some ((facts_at code b c acts ran k within).fit t th at).kept.levels)
+    where
+      by_section : (s l : ℕ) → 0 < s → nat_eq s 0 ≡ nat_eq l 0 → 0 < l
+      by_section s l some same = by_test (nat_eq l 0) refl
+        where
+          zero_or : (n : ℕ) → nat_eq n 0 ≡ true → n ≡ 0
+          zero_or n is = grind (arith, common_steps, nat_tests)
+
+          some_or : (n : ℕ) → nat_eq n 0 ≡ false → 0 < n
+          some_or n is = grind (arith, common_steps, nat_tests)
+
+          no : (s : ℕ) → 0 < s → s ≡ 0 → ⊥
+          no s some none = omega (arith, some, none)
+
+          by_test : (z : Bool) → nat_eq l 0 ≡ z → 0 < l
+          by_test true is = absurd (no s some (zero_or s (same ∙ is)))
+          by_test false is = some_or l is
+
+  -- levels that are open were opened before
+  pub opened_before : (k t v : ℕ) → k ≤ length acts → In v ((c k).levels t) → v < k
+  opened_before k t v low there =
+      let r = runs_in_levels code b first classes c acts run t in
+      below k v (levels_in c acts t k) (falls (levels_in c acts t) (revoked_in c acts t) r.act r.is_run k)
+      (subst (λ (core : Core S). In v (core.levels t)) (sym (at_place code b first classes c acts run k low)) there)
 
 pub open_levels_are_of_sections : {S : Type 0} (code : Code S) → OpenLevelsAreOfSections code
 open_levels_are_of_sections code b first classes c acts run k t th within at = levels_at code b first classes c acts run k within t th at

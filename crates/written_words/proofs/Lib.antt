@@ -11,4 +11,5 @@ pub mod LoggedLemmas
 pub mod DoomedLemmas
 pub mod OpenLemmas
 pub mod ObservedLemmas
+pub mod GoneLemmas
 pub mod UndoneLemmas

@@ -1,7 +1,5 @@
 -- What each open level has written, at each place of a run.
-use Rattle.std.proofs.Common.{◌≡◌, inl, inr, ℕ, suc, ◌-◌, ◌<◌, ◌≤◌, Bool, true, false, Some, List, [], ◌∷◌, length, nat_eq, refl, sym, ◌∙◌, ap, subst, arith}
-use Rattle.std.proofs.lemmas.Grind.{common_steps}
-use Rattle.std.proofs.lemmas.Bool.Decides.{nat_tests}
+use Rattle.std.proofs.Common.{◌≡◌, inl, inr, ℕ, suc, ◌-◌, ◌<◌, ◌≤◌, Bool, Some, List, [], ◌∷◌, length, refl, sym, ◌∙◌, ap, subst, arith}
 use Rattle.std.specs.Prelude.{slice_get}
 use Rattle.std.proofs.lemmas.Option.{same_Some, slice_get_within}
 use Rattle.op_core.specs.ThreadCode.{Code}
@@ -16,14 +14,13 @@ use Rattle.step_port.specs.declared.step.Step.TheVariants.{OpenSection}
 use Rattle.thread_automaton.specs.declared.Bounds.{Bounds}
 use Rattle.thread_automaton.specs.ThreadState.{ThreadState, no_mark, nth_or}
 use Rattle.thread_automaton.specs.Told.{after_answer, after_quiet}
-use Rattle.automaton_rows.specs.Fits.{IsFit}
 use Rattle.core_runs.specs.Cores.{Core}
 use Rattle.core_runs.specs.Acts.{Act, quiet, did, beside, DidAt, ActAt}
 use Rattle.level_runs.specs.LevelRun.{In}
 use Rattle.section_laws.specs.Runs.{IsRun}
 use Rattle.section_laws.proofs.FactLemmas.{each}
 use Rattle.section_laws.proofs.SectionLemmas.{sections_open_once}
-use Rattle.section_laws.proofs.RunLemmas.{along, facts_at}
+use Rattle.section_laws.proofs.RunLemmas.{along}
 use Rattle.section_levels.proofs.RunLemmas.{counted_at}
 use Rattle.noted_words.specs.Noted.{heap_of}
 use Rattle.noted_words.proofs.PartLemmas.{notes_since}
@@ -31,7 +28,7 @@ use Rattle.noted_words.proofs.TagLemmas.{section_of_none}
 use Rattle.written_words.specs.Writers.{AreLevelsOf, Writers, writers_by, writers}
 use Rattle.written_words.specs.Tags.{IsWrittenRun, TagSays}
 use Rattle.written_words.specs.Written.{has, HasWrittenSince, LevelsWriteWhatIsLogged, CarriedWordsAreLogged}
-use Rattle.written_words.proofs.LevelLemmas.{levels_at}
+use Rattle.written_words.proofs.LevelLemmas.{levels_at, some_levels}
 use Rattle.written_words.proofs.PlaceLemmas.{outermost_one, outermost_place, outermost_opens}
 use Rattle.written_words.proofs.SinceLemmas.{in_has}
 use Rattle.written_words.proofs.StepLemmas as steps
@@ -105,9 +102,6 @@ pub carried_words_are_logged : {S : Type 0} (code : Code S) → CarriedWordsAreL
 carried_words_are_logged {S} code b is_thread first classes c acts run k t p th within there some live none word carries =
     notes_since p (nth_or no_mark (th.levels - 1) th.marks).noted th.log (sym (part.words p) ∙ in_has found.0 ((writers c acts k).word p) (by_writer ((writers c acts k).word p) refl ((written_at code b is_thread first classes c acts run k within).says p word)))
   where
-    fits : IsFit code th
-    fits = (facts_at code b c acts run.tagged.monitors.levelled.ordered.run k within).fit t th there
-
     counted : length ((c k).levels t) ≡ th.levels
     counted = (counted_at code b first classes c acts run.tagged.monitors.levelled k within).there t th there
 
@@ -115,23 +109,7 @@ carried_words_are_logged {S} code b is_thread first classes c acts run k t p th 
     levels_are = levels_at code b first classes c acts run.tagged.monitors.levelled k within t th there
 
     some_open : 0 < length ((c k).levels t)
-    some_open = subst (λ n. 0 < n) (sym counted) (by_section th.section th.levels some fits.kept.levels)
-      where
-        by_section : (s l : ℕ) → 0 < s → nat_eq s 0 ≡ nat_eq l 0 → 0 < l
-        by_section s l some same = by_test (nat_eq l 0) refl
-          where
-            zero_or : (n : ℕ) → nat_eq n 0 ≡ true → n ≡ 0
-            zero_or n is = grind (arith, common_steps, nat_tests)
-
-            some_or : (n : ℕ) → nat_eq n 0 ≡ false → 0 < n
-            some_or n is = grind (arith, common_steps, nat_tests)
-
-            no : (s : ℕ) → 0 < s → s ≡ 0 → ⊥
-            no s some none = omega (arith, some, none)
-
-            by_test : (z : Bool) → nat_eq l 0 ≡ z → 0 < l
-            by_test true is = absurd (no s some (zero_or s (same ∙ is)))
-            by_test false is = some_or l is
+    some_open = some_levels code b first classes c acts run.tagged.monitors.levelled k t th within there some
 
     found : (q : ℕ) × (slice_get ((c k).levels t) (length ((c k).levels t) - 1) ≡ Some q)
     found = outermost_place ((c k).levels t) some_open

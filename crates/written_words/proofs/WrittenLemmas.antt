@@ -27,7 +27,6 @@ use Rattle.automaton_rows.specs.Fits.{IsFit}
 use Rattle.core_runs.specs.Cores.{Core}
 use Rattle.core_runs.specs.Acts.{Act, did, DidAt}
 use Rattle.level_runs.specs.LevelRun.{In}
-use Rattle.level_runs.proofs.LevelLemmas.{below, falls}
 use Rattle.section_laws.specs.Runs.{IsRun}
 use Rattle.section_laws.proofs.ActLemmas.{take_whole}
 use Rattle.section_laws.proofs.WordLemmas.{exchanged}
@@ -36,9 +35,7 @@ use Rattle.section_laws.proofs.RunLemmas.{facts_at}
 use Rattle.own_sections.proofs.MoveLemmas.{moves_at}
 use Rattle.known_sections.specs.Known.{IsCommittedOrPinned}
 use Rattle.known_sections.proofs.KnownLemmas.{move_keeps, known_sections_are_pinned}
-use Rattle.section_levels.specs.Levels.{levels_in, revoked_in}
 use Rattle.section_levels.proofs.RunLemmas.{counted_at}
-use Rattle.section_levels.proofs.LevelLemmas.{at_place, runs_in_levels}
 use Rattle.run_layout.specs.Layout.{IsWordPlace, FitsObjects}
 use Rattle.run_layout.proofs.ListLemmas as lists
 use Rattle.run_layout.proofs.PlaceLemmas.{put_object}
@@ -51,7 +48,7 @@ use Rattle.noted_words.proofs.DidLemmas.{writer}
 use Rattle.noted_words.proofs.RunLemmas.{noted_at}
 use Rattle.written_words.specs.Writers.{AreLevelsOf, Writers, writers_after, log_of, writers}
 use Rattle.written_words.specs.Tags.{TagSays, OldWordSays, OldWordsSay}
-use Rattle.written_words.proofs.LevelLemmas.{levels_at}
+use Rattle.written_words.proofs.LevelLemmas.{levels_at, opened_before}
 use Rattle.written_words.proofs.StepLemmas as steps
 use Rattle.written_words.proofs.StepLemmas.{word_named, sets_none, old_word, new_word}
 use Rattle.written_words.proofs.TagLemmas.{zero_tag, untagged, says_own, old_length, old_first, old_later, own_levels, AreBefore, AllBefore, all_later, all_take, all_drop, all_first, IsHeader}
@@ -71,10 +68,7 @@ module _ {S : Type 0} (code : Code S) (b : Bounds) (is_thread : ℕ → Bool) (f
     pub old_before : (u : ℕ) → AllBefore k ((writers c acts k).old u)
 
   pub levels_before : (k t : ℕ) → k ≤ length acts → AreBefore k ((c k).levels t)
-  levels_before k t low v there =
-      let r = runs_in_levels code b first classes c acts run.monitors.levelled t in
-      below k v (levels_in c acts t k) (falls (levels_in c acts t) (revoked_in c acts t) r.act r.is_run k)
-      (subst (λ (core : Core S). In v (core.levels t)) (sym (at_place code b first classes c acts run.monitors.levelled k low)) there)
+  levels_before k t low v there = opened_before code b first classes c acts run.monitors.levelled k t v low there
 
   pub on : (k : ℕ) → k < length acts → (s depth : ℕ) → IsCommittedOrPinned ((c k).words (Section s)) depth → IsCommittedOrPinned ((c (suc k)).words (Section s)) depth
   on k within s depth is = move_keeps ((c k).words (Section s)) ((c (suc k)).words (Section s)) depth (moves_at code b c acts ran run.monitors.levelled.ordered.in_bits k s within) is
