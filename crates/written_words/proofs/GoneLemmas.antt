@@ -85,6 +85,11 @@ module _ {S : Type 0} (code : Code S) (b : Bounds) (first : S) (classes : ℕ) (
         above : (p r l n : ℕ) → p < r → r ≤ l → n ≡ l → 0 < n
         above p r l n deep low same = omega (arith, deep, low, same)
 
+    pub some_section : 0 < s
+    some_section =
+        let last = outermost_place ((c k).levels t) some_open in
+        subst (λ n. 0 < n) own_section (has_section code b first classes c acts run k t last.0 undoes.th up undoes.stands (place_in (length ((c k).levels t) - 1) last.0 ((c k).levels t) last.1))
+
     -- a writer of this section is levels of this thread
     pub own_writer : (u : ℕ) (levels writer : List ℕ) → 0 < length levels → AreLevelsOf c acts t s levels → 0 < length writer → AreLevelsOf c acts u s writer → u ≡ t
     own_writer u [] writer some are more its = absurd (no some)
@@ -155,9 +160,6 @@ module _ {S : Type 0} (code : Code S) (b : Bounds) (first : S) (classes : ℕ) (
 
           from : (k j : ℕ) → k < j → suc k ≤ j
           from k j later = omega (arith, later)
-
-      pub some_section : 0 < s
-      some_section = subst (λ n. 0 < n) own_section (has_section code b first classes c acts run k t q undoes.th up undoes.stands q_open)
 
       -- whatever are levels of the section, it is the outermost of them
       pub outermost_there : (u x : ℕ) (levels : List ℕ) → AreLevelsOf c acts u s (x ∷ levels) → (u ≡ t) × In q (x ∷ levels)

@@ -89,7 +89,7 @@ module _ {S : Type 0} (code : Code S) (b : Bounds) (is_thread : ℕ → Bool) (f
     none_carries j seen p th stands undoing whole later low word carries = by_writer ((writers c acts j).word p) refl ((written_at code b is_thread first classes c acts run j low).says p word)
       where
         by_writer : (writer : List ℕ) → (writers c acts j).word p ≡ writer → TagSays c acts writer (tag_of (heap_of (c j).words p)) → ⊥
-        by_writer [] is none = no s (sym carries ∙ ap tag_section none ∙ section_of_none) (gone.some_section code b first classes c acts run.tagged.monitors.levelled k t s w here seen th stands undoing whole)
+        by_writer [] is none = no s (sym carries ∙ ap tag_section none ∙ section_of_none) (gone.some_section code b first classes c acts run.tagged.monitors.levelled k t s w here)
           where
             no : (s : ℕ) → s ≡ 0 → 0 < s → ⊥
             no s none some = omega (arith, none, some)
