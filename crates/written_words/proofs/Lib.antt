@@ -11,5 +11,7 @@ pub mod LoggedLemmas
 pub mod DoomedLemmas
 pub mod OpenLemmas
 pub mod ObservedLemmas
+pub mod KnownLemmas
+pub mod KnownRunLemmas
 pub mod GoneLemmas
 pub mod UndoneLemmas

@@ -212,7 +212,7 @@ module _ {S : Type 0} (code : Code S) (b : Bounds) (is_thread : ℕ → Bool) (f
     others_kept u uh other there_then = elim (steps.other_thread code b is_thread first classes c acts run k t step a here at u uh other there_then) [
       | was_there there ↦ kept_on k u uh within there (parts u uh there) (steps.others_levels code b is_thread first classes c acts run k t step a here at u other)
           (steps.others_old code b is_thread first classes c acts run k t step a here at u other) (λ live i v is deep p. word_other u i v uh other there live is deep p)
-      | begins none empty levels ↦ λ live i v is deep. absurd (no (pinned_of ((c (suc k)).words (Section uh.section))) uh.levels i levels deep)
+      | begins number priority l none new ↦ λ live i v is deep. absurd (no (pinned_of ((c (suc k)).words (Section uh.section))) uh.levels i (ap (λ (x : ThreadState S). x.levels) new) deep)
     ]
       where
         no : (p l i : ℕ) → l ≡ 0 → p < l - i → ⊥

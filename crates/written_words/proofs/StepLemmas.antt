@@ -97,7 +97,7 @@ module _ {S : Type 0} (code : Code S) (b : Bounds) (is_thread : ℕ → Bool) (f
   -- Another thread that is there then was there, or begins.
   pub data Other (u : ℕ) (uh : ThreadState S) : Type 0 where
     was_there : (c k).threads u ≡ Some uh → Other u uh
-    begins : (c k).threads u ≡ None → uh.log ≡ [] → uh.levels ≡ 0 → Other u uh
+    begins : (number priority : ℕ) (l : S) → (c k).threads u ≡ None → uh ≡ first_state number priority l → Other u uh
 
   pub other_thread : (u : ℕ) (uh : ThreadState S) → u ≢ t → (c (suc k)).threads u ≡ Some uh → Other u uh
   other_thread u uh other there = by_step step refl (ap (λ (core : Core S). core.threads u) (sym at.leads) ∙ there)
@@ -108,7 +108,7 @@ module _ {S : Type 0} (code : Code S) (b : Bounds) (is_thread : ℕ → Bool) (f
             let z : ThreadState S = first_state n p (code.child at.from.local r) in
             let same : uh ≡ z = same_Some uh z (sym there ∙ ap (set_at (set_at (c k).threads t (Some (after_answer code b at.from step a))) n (Some z)) own
             ∙ set_at-hit (set_at (c k).threads t (Some (after_answer code b at.from step a))) n (Some z)) in
-            begins (ap (c k).threads own ∙ dids.new code b first classes c acts run.monitors k within t step a here at so n r p is) (ap (λ (x : ThreadState S). x.log) same) (ap (λ (x : ThreadState S). x.levels) same)
+            begins n p (code.child at.from.local r) (ap (c k).threads own ∙ dids.new code b first classes c acts run.monitors k within t step a here at so n r p is) same
         | inr apart ↦ was_there (sym (set_at-other (c k).threads t (Some (after_answer code b at.from step a)) u other)
             ∙ sym (set_at-other (set_at (c k).threads t (Some (after_answer code b at.from step a))) n (Some (first_state n p (code.child at.from.local r))) u apart) ∙ there)
       ]
@@ -133,7 +133,7 @@ module _ {S : Type 0} (code : Code S) (b : Bounds) (is_thread : ℕ → Bool) (f
       by_thread None is = ap log_of is ∙ sym (other_gone u other is)
       by_thread (Some uh) is = elim (other_thread u uh other is) [
         | was_there there ↦ ap log_of (is ∙ sym there)
-        | begins none empty levels ↦ ap log_of is ∙ empty ∙ sym (ap log_of none)
+        | begins number priority l none new ↦ ap log_of is ∙ ap (λ (x : ThreadState S). x.log) new ∙ sym (ap log_of none)
       ]
 
   -- ---- words

@@ -2,3 +2,4 @@ pub mod Writers
 pub mod Tags
 pub mod Written
 pub mod Undone
+pub mod Known

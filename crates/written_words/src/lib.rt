@@ -7,6 +7,7 @@ ghost use Rattle.written_words.specs.Writers.{OpenLevelsAreOfSections};
 ghost use Rattle.written_words.specs.Tags.{TagsSayWriters, OldTagsSayWriters};
 ghost use Rattle.written_words.specs.Written.{LevelsWriteWhatIsLogged, CarriedWordsAreLogged};
 ghost use Rattle.written_words.specs.Undone.{DoomedWritersAreOpen, ObservedLevelsStay, UndoneLevelsHaveWrittenNothing, UndoneSectionsHaveWrittenNothing};
+ghost use Rattle.written_words.specs.Known.{KnownSectionsAreOthers};
 
 use op_core::ThreadCode;
 
@@ -25,6 +26,12 @@ pub fn tags_say_writers<C: ThreadCode>()
 /// committed, or pinned so deep that the word is never undone.
 pub fn old_tags_say_writers<C: ThreadCode>()
     ensures { OldTagsSayWriters C.code }
+{}
+
+/// The section that a thread knows as the writer of a word isn't the thread's own, nor undone, and it is known to a level at
+/// least.
+pub fn known_sections_are_others<C: ThreadCode>()
+    ensures { KnownSectionsAreOthers C.code }
 {}
 
 /// A level that is open and isn't pinned is in the writers of exactly those words that its thread has logged since the level
