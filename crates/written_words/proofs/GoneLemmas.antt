@@ -50,6 +50,26 @@ module _ {S : Type 0} (code : Code S) (b : Bounds) (first : S) (classes : ℕ) (
   pub revokes_within : {j s n : ℕ} → RevokesAt acts j s n → j < length acts
   revokes_within {j} (u, old, is) = elim is [ inl here ↦ slice_get_within acts j _ here | inr here ↦ slice_get_within acts j _ here ]
 
+  -- what is revoked in the run of levels of a thread is so by an act
+  pub doomed_of : (t q : ℕ) → IsDoomedAt (levels_in c acts t) (runs t).act q → IsDoomed c acts q
+  doomed_of t q there =
+      let by = (runs t).revokes there.0 there.1 there.2 in
+      let is = index_of q (levels_from there.1 ((c there.0).levels t)) (subst (λ l. In q (levels_from there.1 l)) (here_is there.0 (before there.0 (revokes_within by.2)) t) there.3) in
+      record {
+        place = there.0;
+        section = by.0.section;
+        level = there.1;
+        revokes = by.2;
+        thread = t;
+        th = by.0;
+        stands = by.1;
+        own = refl;
+        was_open = is_in_list (levels_from there.1 ((c there.0).levels t)) is.0 q is.1;
+      }
+    where
+      before : {n : ℕ} (m : ℕ) → m < n → m ≤ n
+      before m low = omega (arith, low)
+
   module _ (k t s w : ℕ) (here : slice_get acts k ≡ Some (did t (MarkUndone s w) Done)) where
     pub within : k < length acts
     within = slice_get_within acts k (did t (MarkUndone s w) Done) here
@@ -131,23 +151,7 @@ module _ {S : Type 0} (code : Code S) (b : Bounds) (first : S) (classes : ℕ) (
       doomed_there = (were_doomed (levels_in c acts t) (revoked_in c acts t) (runs t).act (runs t).is_run k level q back).0
 
       pub doomed : IsDoomed c acts q
-      doomed =
-          let by = (runs t).revokes doomed_there.0 doomed_there.1 doomed_there.2 in
-          let is = index_of q (levels_from doomed_there.1 ((c doomed_there.0).levels t)) (subst (λ l. In q (levels_from doomed_there.1 l)) (here_is doomed_there.0 (before doomed_there.0 (revokes_within by.2)) t) doomed_there.3) in
-          record {
-            place = doomed_there.0;
-            section = by.0.section;
-            level = doomed_there.1;
-            revokes = by.2;
-            thread = t;
-            th = by.0;
-            stands = by.1;
-            own = refl;
-            was_open = is_in_list (levels_from doomed_there.1 ((c doomed_there.0).levels t)) is.0 q is.1;
-          }
-        where
-          before : {n : ℕ} (m : ℕ) → m < n → m ≤ n
-          before m low = omega (arith, low)
+      doomed = doomed_of t q doomed_there
 
       -- that level isn't open later
       pub closed_later : (j : ℕ) → k < j → j ≤ length acts → In q ((c j).levels t) → ⊥

@@ -1,5 +1,5 @@
 -- What a thread knows of the section that it last saw as the writer of a word, with each turn of the thread.
-use Rattle.std.proofs.Common.{◌≡◌, ◌≢◌, ◌⊎◌, inl, inr, ℕ, suc, ◌-◌, ◌<◌, ◌≤◌, ◌&&◌, not, Bool, true, false, None, Some, List, [], nat_eq, refl, sym, ◌∙◌, ap, subst, arith}
+use Rattle.std.proofs.Common.{◌≡◌, ◌≢◌, ◌⊎◌, inl, inr, ℕ, suc, ◌-◌, ◌<◌, ◌&&◌, not, Bool, true, false, None, Some, [], nat_eq, refl, sym, subst, arith}
 use Rattle.std.specs.Prelude.{nat_le, if◌then◌else◌}
 use Rattle.std.proofs.lemmas.Grind.{common_steps}
 use Rattle.std.proofs.lemmas.Bool.Decides.{nat_tests}
@@ -15,7 +15,7 @@ use Rattle.heap_words.specs.declared.areas.Area.TheVariants.{Section}
 use Rattle.heap_words.specs.Words.{tag_of, tag_level}
 use Rattle.section_state.specs.SectionWord.{pinned_of, revoke_of}
 use Rattle.step_port.specs.declared.answer.StepAnswer.{StepAnswer}
-use Rattle.step_port.specs.declared.answer.StepAnswer.TheVariants.{Found, Done}
+use Rattle.step_port.specs.declared.answer.StepAnswer.TheVariants.{Found}
 use Rattle.step_port.specs.declared.step.Step.{Step}
 use Rattle.step_port.specs.declared.step.Step.TheVariants.{LoadWord, OpenSection, Release}
 use Rattle.step_port.specs.Steps.{place_of}

@@ -1,6 +1,6 @@
 -- What threads know of the sections that they last saw as writers of words, at each place of a run.
 use Rattle.std.proofs.Common.{◌≡◌, ◌≢◌, ◌⊎◌, inl, inr, ℕ, suc, ◌<◌, ◌≤◌, ◌^◌, ◌||◌, ◌&&◌, Bool, true, false, true≢false, Some, List, [], ◌∷◌, length, nat_eq, refl, sym, ◌∙◌, ap, subst, arith}
-use Rattle.std.specs.Prelude.{nat_le, slice_get, if◌then◌else◌}
+use Rattle.std.specs.Prelude.{nat_le, slice_get}
 use Rattle.std.proofs.lemmas.Grind.{common_steps}
 use Rattle.std.proofs.lemmas.Bool.Decides.{nat_tests}
 use Rattle.std.proofs.lemmas.Option.{same_Some, slice_get_within}
@@ -8,11 +8,10 @@ use Rattle.op_core.specs.declared.Op.TheVariants.{Read, Write}
 use Rattle.op_core.specs.declared.Next.{Next}
 use Rattle.op_core.specs.declared.Next.TheVariants.{Want}
 use Rattle.op_core.specs.ThreadCode.{Code}
-use Rattle.op_core.specs.OrdinaryState.{set_at}
 use Rattle.op_core.proofs.PointwiseLemmas.{same_or_other}
 use Rattle.heap_words.specs.declared.areas.Area.TheVariants.{Section}
 use Rattle.heap_words.specs.Words.{tag_of, tag_section, tag_level}
-use Rattle.section_state.specs.SectionWord.{state_of, pinned_of, depth_of, revoke_of, undone_of}
+use Rattle.section_state.specs.SectionWord.{state_of, pinned_of, depth_of, revoke_of}
 use Rattle.step_port.specs.declared.answer.StepAnswer.{StepAnswer}
 use Rattle.step_port.specs.declared.answer.StepAnswer.TheVariants.{Found}
 use Rattle.step_port.specs.declared.step.Step.{Step}
@@ -20,7 +19,7 @@ use Rattle.step_port.specs.declared.step.Step.TheVariants.{LoadWord, OpenSection
 use Rattle.step_port.specs.Steps.{effect_of}
 use Rattle.step_port.specs.Words.{CanAnswer, answer_of}
 use Rattle.thread_automaton.specs.declared.Bounds.{Bounds}
-use Rattle.thread_automaton.specs.ThreadState.{ThreadState, first_state}
+use Rattle.thread_automaton.specs.ThreadState.{ThreadState}
 use Rattle.thread_automaton.specs.NextMove.{word_place}
 use Rattle.thread_automaton.specs.Changes.{changed}
 use Rattle.thread_automaton.specs.Checks.{is_safe}
@@ -55,7 +54,7 @@ use Rattle.written_words.proofs.KnownLemmas.{KnowTurn, keeps, learns, MeetsDeep,
 
 -- ---- a section that is undone isn't pinned
 
-not_four : {A : Type 0} (n m : ℕ) → n ≡ 4 → n ≡ m → m < 4 → A
+pub not_four : {A : Type 0} (n m : ℕ) → n ≡ 4 → n ≡ m → m < 4 → A
 not_four n m four is low = absurd (no n m four is low)
   where
     no : (n m : ℕ) → n ≡ 4 → n ≡ m → m < 4 → ⊥
@@ -67,21 +66,23 @@ four_five n four is = absurd (no n four is)
     no : (n : ℕ) → n ≡ 4 → n ≡ 5 → ⊥
     no n four is = omega (arith, four, is)
 
-abbrev IsUnpinned : ℕ → Type 0
-IsUnpinned w = state_of w ≡ 4 → pinned_of w ≡ 0
+-- It was undone before, or was revoked as a whole.
+pub data MovedUndone (old new : ℕ) : Type 0 where
+  stays_undone : state_of old ≡ 4 → new ≡ old → MovedUndone old new
+  turns_undone : state_of old ≡ 3 → revoke_of old ≡ 1 → pinned_of new ≡ pinned_of old → MovedUndone old new
 
-unpinned_move : (old new : ℕ) → SaysOfRevoking old → Move old new → IsUnpinned old → IsUnpinned new
-unpinned_move old new says (Move.stays is) was four = ap pinned_of is ∙ was (ap state_of (sym is) ∙ four)
-unpinned_move old new says (Move.opens number priority number_low priority_low none is) was four = not_four (state_of new) 1 four (ap state_of is ∙ state_packed 1 number priority 0 1 0 (omega arith)) (omega arith)
-unpinned_move old new says (Move.pins n live deeper low is) was four = not_four (state_of new) 1 four (ap state_of is ∙ (pinned_says old n low).1.0 ∙ live) (omega arith)
-unpinned_move old new says (Move.revokes n live free there is) was four = not_four (state_of new) 3 four (ap state_of is ∙ (revoked_says old n (below n (depth_of old) there (depth_low old))).1.0) (omega arith)
+pub move_undone : (old new : ℕ) → Move old new → state_of new ≡ 4 → MovedUndone old new
+move_undone old new (Move.stays is) four = stays_undone (ap state_of (sym is) ∙ four) is
+move_undone old new (Move.opens number priority number_low priority_low none is) four = not_four (state_of new) 1 four (ap state_of is ∙ state_packed 1 number priority 0 1 0 (omega arith)) (omega arith)
+move_undone old new (Move.pins n live deeper low is) four = not_four (state_of new) 1 four (ap state_of is ∙ (pinned_says old n low).1.0 ∙ live) (omega arith)
+move_undone old new (Move.revokes n live free there is) four = not_four (state_of new) 3 four (ap state_of is ∙ (revoked_says old n (below n (depth_of old) there (depth_low old))).1.0) (omega arith)
   where
     below : (m n : ℕ) → m ≤ n → n < 2 ^ 8 → m < 2 ^ 8
     below m n low high = omega (arith, low, high)
-unpinned_move old new says (Move.opens_level live room is) was four = not_four (state_of new) 1 four (ap state_of is ∙ (opened_says old room).1.0 ∙ live) (omega arith)
-unpinned_move old new says (Move.closes_to n live some low is) was four = not_four (state_of new) 1 four (ap state_of is ∙ (deep_says old n low).1.0 ∙ live) (omega arith)
-unpinned_move old new says (Move.commits live is) was four = four_five (state_of new) four (ap state_of is ∙ (committed_says old).1.0)
-unpinned_move old new says (Move.undoes turned some is) was four = by_test (nat_le (revoke_of old) 1) refl
+move_undone old new (Move.opens_level live room is) four = not_four (state_of new) 1 four (ap state_of is ∙ (opened_says old room).1.0 ∙ live) (omega arith)
+move_undone old new (Move.closes_to n live some low is) four = not_four (state_of new) 1 four (ap state_of is ∙ (deep_says old n low).1.0 ∙ live) (omega arith)
+move_undone old new (Move.commits live is) four = four_five (state_of new) four (ap state_of is ∙ (committed_says old).1.0)
+move_undone old new (Move.undoes turned some is) four = by_test (nat_le (revoke_of old) 1) refl
   where
     at_most_one : (n : ℕ) → nat_le n 1 ≡ true → n ≤ 1
     at_most_one n is = grind (arith, common_steps, nat_tests)
@@ -89,12 +90,24 @@ unpinned_move old new says (Move.undoes turned some is) was four = by_test (nat_
     more_than_one : (n : ℕ) → nat_le n 1 ≡ false → 1 < n
     more_than_one n is = grind (arith, common_steps, nat_tests)
 
-    none : (p r n : ℕ) → p < r → r ≤ 1 → n ≡ p → n ≡ 0
-    none p r n deep low is = omega (arith, deep, low, is)
+    one : (r : ℕ) → 0 < r → r ≤ 1 → r ≡ 1
+    one r some low = omega (arith, some, low)
 
-    by_test : (t : Bool) → nat_le (revoke_of old) 1 ≡ t → pinned_of new ≡ 0
-    by_test true low = none (pinned_of old) (revoke_of old) (pinned_of new) (says.revoked turned).0 (at_most_one (revoke_of old) low) (ap pinned_of is ∙ (undone_says old (at_most_one (revoke_of old) low)).1.3)
+    by_test : (t : Bool) → nat_le (revoke_of old) 1 ≡ t → MovedUndone old new
+    by_test true low = turns_undone turned (one (revoke_of old) some (at_most_one (revoke_of old) low)) (ap pinned_of is ∙ (undone_says old (at_most_one (revoke_of old) low)).1.3)
     by_test false high = not_four (state_of new) 1 four (ap state_of is ∙ (goes_on_says old (more_than_one (revoke_of old) high)).1.0) (omega arith)
+
+abbrev IsUnpinned : ℕ → Type 0
+IsUnpinned w = state_of w ≡ 4 → pinned_of w ≡ 0
+
+unpinned_move : (old new : ℕ) → SaysOfRevoking old → Move old new → IsUnpinned old → IsUnpinned new
+unpinned_move old new says move was four = elim (move_undone old new move four) [
+  | stays_undone undone is ↦ ap pinned_of is ∙ was undone
+  | turns_undone turned whole pinned ↦ none (pinned_of old) (revoke_of old) (pinned_of new) (says.revoked turned).0 whole pinned
+]
+  where
+    none : (p r n : ℕ) → p < r → r ≡ 1 → n ≡ p → n ≡ 0
+    none p r n deep one is = omega (arith, deep, one, is)
 
 pinned_of_zero : pinned_of 0 ≡ 0
 unfolding pinned_of
@@ -195,11 +208,14 @@ module _ {S : Type 0} (code : Code S) (b : Bounds) (is_thread : ℕ → Bool) (f
           | inl none ↦ inl none
           | inr some ↦ elim (before t at.from at.stands).0 [
             | inl none ↦ absurd (some (known ∙ none))
-            | inr was ↦ inr (subst (λ n. 0 < n) (sym depth) was.0, λ is. elim section [
-              | inl stays ↦ was.1 (sym known ∙ is ∙ stays)
-              | inr (inl ends) ↦ some (is ∙ ends)
-              | inr (inr opened) ↦ not_opened opened.0 opened.1 opened.2 was.0 (sym known ∙ is ∙ opened.3)
-            ])
+            | inr was ↦ inr (
+              subst (λ n. 0 < n) (sym depth) was.0,
+              λ is. elim section [
+                | inl stays ↦ was.1 (sym known ∙ is ∙ stays)
+                | inr (inl ends) ↦ some (is ∙ ends)
+                | inr (inr opened) ↦ not_opened opened.0 opened.1 opened.2 was.0 (sym known ∙ is ∙ opened.3)
+              ],
+            )
           ]
         ]
 
@@ -227,10 +243,14 @@ module _ {S : Type 0} (code : Code S) (b : Bounds) (is_thread : ℕ → Bool) (f
   knows_other : (k t : ℕ) (th : ThreadState S) → k ≤ length acts → (c k).threads t ≡ Some th → th.known ≢ 0 → KnowsOther th (c k).words
   knows_other k t th within there some = elim (known_at k within t th there).0 [
     | inl none ↦ absurd (some none)
-    | inr knows ↦ record { deep = knows.0; done = λ four. elim (known_sections_are_pinned code b c acts ran in_bits k t th within there) [
-      | inl committed ↦ four_five (state_of ((c k).words (Section th.known))) four committed
-      | inr pinned ↦ no_depth th.known_depth (pinned_of ((c k).words (Section th.known))) knows.0 pinned (unpinned_at k within th.known four)
-    ]; other = knows.1 }
+    | inr knows ↦ record {
+      deep = knows.0;
+      done = λ four. elim (known_sections_are_pinned code b c acts ran in_bits k t th within there) [
+        | inl committed ↦ four_five (state_of ((c k).words (Section th.known))) four committed
+        | inr pinned ↦ no_depth th.known_depth (pinned_of ((c k).words (Section th.known))) knows.0 pinned (unpinned_at k within th.known four)
+      ];
+      other = knows.1;
+    }
   ]
     where
       no_depth : (d p : ℕ) → 0 < d → d ≤ p → p ≡ 0 → ⊥

@@ -14,4 +14,5 @@ pub mod ObservedLemmas
 pub mod KnownLemmas
 pub mod KnownRunLemmas
 pub mod GoneLemmas
+pub mod CarriedLemmas
 pub mod UndoneLemmas

@@ -5,7 +5,9 @@ use Rattle.op_core.specs.declared.Next.TheVariants.{Want}
 use Rattle.op_core.specs.declared.Reply.TheVariants.{Value}
 use Rattle.op_core.specs.ThreadCode.{Code}
 use Rattle.heap_words.specs.Words.{tag_of, tag_section}
-use Rattle.section_state.specs.SectionWord.{revoke_of}
+use Rattle.heap_words.specs.declared.areas.Area.TheVariants.{Section}
+use Rattle.section_state.specs.declared.State.TheVariants.{Undone}
+use Rattle.section_state.specs.SectionWord.{number_of, state_of, revoke_of}
 use Rattle.step_port.specs.declared.answer.StepAnswer.{StepAnswer}
 use Rattle.step_port.specs.declared.answer.StepAnswer.TheVariants.{Done}
 use Rattle.step_port.specs.declared.step.Step.{Step}
@@ -55,3 +57,8 @@ abbrev pub UndoneSectionsHaveWrittenNothing : {S : Type 0} → Code S → Type 0
 UndoneSectionsHaveWrittenNothing {S} code = (b : Bounds) (is_thread : ℕ → Bool) (first : S) (classes : ℕ) (c : ℕ → Core S) (acts : List Act) → IsWrittenRun code b is_thread first classes c acts
     → (k j t s w seen p : ℕ) (th : ThreadState S) → slice_get acts k ≡ Some (did t (MarkUndone s w) Done) → (c k).threads t ≡ Some th → th.attempt ≡ Undoing seen → revoke_of seen ≡ 1
     → k < j → j ≤ length acts → IsWordPlace is_thread (c j).objects p → tag_section (tag_of (heap_of (c j).words p)) ≡ s → ⊥
+
+-- So no tag names a section that is undone.
+abbrev pub TagsNameNoUndoneSection : {S : Type 0} → Code S → Type 0
+TagsNameNoUndoneSection {S} code = (b : Bounds) (is_thread : ℕ → Bool) (first : S) (classes : ℕ) (c : ℕ → Core S) (acts : List Act) → IsWrittenRun code b is_thread first classes c acts
+    → (k p : ℕ) → k ≤ length acts → IsWordPlace is_thread (c k).objects p → state_of ((c k).words (Section (tag_section (tag_of (heap_of (c k).words p))))) ≢ number_of Undone

@@ -6,7 +6,7 @@
 ghost use Rattle.written_words.specs.Writers.{OpenLevelsAreOfSections};
 ghost use Rattle.written_words.specs.Tags.{TagsSayWriters, OldTagsSayWriters};
 ghost use Rattle.written_words.specs.Written.{LevelsWriteWhatIsLogged, CarriedWordsAreLogged};
-ghost use Rattle.written_words.specs.Undone.{DoomedWritersAreOpen, ObservedLevelsStay, UndoneLevelsHaveWrittenNothing, UndoneSectionsHaveWrittenNothing};
+ghost use Rattle.written_words.specs.Undone.{DoomedWritersAreOpen, ObservedLevelsStay, UndoneLevelsHaveWrittenNothing, UndoneSectionsHaveWrittenNothing, TagsNameNoUndoneSection};
 ghost use Rattle.written_words.specs.Known.{KnownSectionsAreOthers};
 
 use op_core::ThreadCode;
@@ -65,4 +65,9 @@ pub fn undone_levels_have_written_nothing<C: ThreadCode>()
 /// Once the outermost level of a section was undone, no word of an object carries the section.
 pub fn undone_sections_have_written_nothing<C: ThreadCode>()
     ensures { UndoneSectionsHaveWrittenNothing C.code }
+{}
+
+/// No tag of a word of an object names a section that is undone.
+pub fn tags_name_no_undone_section<C: ThreadCode>()
+    ensures { TagsNameNoUndoneSection C.code }
 {}
