@@ -47,6 +47,7 @@ use Rattle.noted_words.specs.Noted.{heap_of}
 use Rattle.written_words.specs.Writers.{writers}
 use Rattle.written_words.specs.Tags.{IsWrittenRun, TagSays}
 use Rattle.written_words.specs.Known.{KnowsOther, KnownSectionsAreOthers}
+use Rattle.settled_words.proofs.RoundLemmas as rounds
 use Rattle.written_words.proofs.StepLemmas as steps
 use Rattle.written_words.proofs.StepLemmas.{word_named, was_there, begins}
 use Rattle.written_words.proofs.RunLemmas.{written_at}
@@ -221,7 +222,7 @@ module _ {S : Type 0} (code : Code S) (b : Bounds) (is_thread : ℕ → Bool) (f
 
     did_known : KnownAt (suc k)
     did_known u uh there = elim (same_or_other u t) [
-      | inl own ↦ subst Knows (same_Some (after_answer code b at.from step a) uh (sym (steps.own_there code b is_thread first classes c acts run.tagged k t step a here at) ∙ ap (c (suc k)).threads (sym own) ∙ there)) own_knows
+      | inl own ↦ subst Knows (same_Some (after_answer code b at.from step a) uh (sym (rounds.own_there code b is_thread first classes c acts run.tagged k t step a here at) ∙ ap (c (suc k)).threads (sym own) ∙ there)) own_knows
       | inr other ↦ elim (steps.other_thread code b is_thread first classes c acts run.tagged k t step a here at u uh other there) [
         | was_there was ↦ before u uh was
         | begins number priority l none new ↦ subst Knows (sym new) (inl refl, tt)

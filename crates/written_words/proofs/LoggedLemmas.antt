@@ -31,7 +31,7 @@ use Rattle.written_words.specs.Written.{has, HasWrittenSince, LevelsWriteWhatIsL
 use Rattle.written_words.proofs.LevelLemmas.{levels_at, some_levels}
 use Rattle.written_words.proofs.PlaceLemmas.{outermost_one, outermost_place, outermost_opens}
 use Rattle.written_words.proofs.SinceLemmas.{in_has}
-use Rattle.written_words.proofs.StepLemmas as steps
+use Rattle.settled_words.proofs.RoundLemmas as rounds
 use Rattle.written_words.proofs.PartLemmas as parts
 use Rattle.written_words.proofs.PartLemmas.{kept_on, others_kept}
 use Rattle.written_words.proofs.OwnLemmas.{own_kept}
@@ -50,7 +50,7 @@ module _ {S : Type 0} (code : Code S) (b : Bounds) (is_thread : ℕ → Bool) (f
   did_parts : (k t : ℕ) (step : Step) (a : StepAnswer) → slice_get acts k ≡ Some (did t step a) → DidAt code b c k t step a → PartsAt k → PartsAt (suc k)
   did_parts k t step a here at before u uh there = elim (same_or_other u t) [
     | inl own ↦
-        let same : after_answer code b at.from step a ≡ uh = same_Some (after_answer code b at.from step a) uh (sym (steps.own_there code b is_thread first classes c acts run.tagged k t step a here at) ∙ ap (c (suc k)).threads (sym own) ∙ there) in
+        let same : after_answer code b at.from step a ≡ uh = same_Some (after_answer code b at.from step a) uh (sym (rounds.own_there code b is_thread first classes c acts run.tagged k t step a here at) ∙ ap (c (suc k)).threads (sym own) ∙ there) in
         subst (λ n. PartsOf (suc k) n uh) (sym own) (subst (PartsOf (suc k) t) same (own_kept code b is_thread first classes c acts run.tagged k t step a here at (written_at code b is_thread first classes c acts run k (up k within)) (before t at.from at.stands)))
     | inr other ↦ others_kept code b is_thread first classes c acts run.tagged k t step a here at (written_at code b is_thread first classes c acts run k (up k within)) before u uh other there
   ]

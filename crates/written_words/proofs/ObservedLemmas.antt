@@ -43,7 +43,7 @@ use Rattle.written_words.specs.Tags.{IsWrittenRun}
 use Rattle.written_words.specs.Undone.{Observes, reads, overwrites, ObservedLevelsStay}
 use Rattle.written_words.proofs.LevelLemmas.{levels_at}
 use Rattle.written_words.proofs.PlaceLemmas.{one_section, at_least, is_level}
-use Rattle.written_words.proofs.StepLemmas as steps
+use Rattle.settled_words.proofs.RoundLemmas as rounds
 use Rattle.written_words.proofs.StepLemmas.{word_named}
 use Rattle.written_words.proofs.TagLemmas.{of_section}
 use Rattle.written_words.proofs.WrittenLemmas as written
@@ -141,7 +141,7 @@ module _ {S : Type 0} (code : Code S) (b : Bounds) (is_thread : ℕ → Bool) (f
         not_none none = absurd (subst (SetsNoWord (SwapWord p old new)) done (subst (λ s. SetsNoWord s a) sets none))
 
         placed : IsWordPlace is_thread (c k).objects p
-        placed = elim (steps.turn code b is_thread first classes c acts run.tagged k t step a here at) [
+        placed = elim (rounds.turn code b is_thread first classes c acts run.tagged k t step a here at) [
           | calm none unseen stay leaves ↦ not_none none
           | opens silents held none unseen stay leaves ↦ not_none none
           | closes n none unseen other stay leaves ↦ not_none none

@@ -22,6 +22,7 @@ use Rattle.written_words.specs.Tags.{IsWrittenRun}
 use Rattle.written_words.specs.Undone.{DoomedWritersAreOpen}
 use Rattle.written_words.proofs.LevelLemmas.{levels_at}
 use Rattle.written_words.proofs.PlaceLemmas.{of_thread}
+use Rattle.settled_words.proofs.RoundLemmas as rounds
 use Rattle.written_words.proofs.StepLemmas as steps
 use Rattle.written_words.proofs.WrittenLemmas as written
 use Rattle.written_words.proofs.RunLemmas.{written_at}
@@ -57,10 +58,10 @@ module _ {S : Type 0} (code : Code S) (b : Bounds) (is_thread : ℕ → Bool) (f
 
   module _ (k t : ℕ) (step : Step) (a : StepAnswer) (here : slice_get acts k ≡ Some (did t step a)) (at : DidAt code b c k t step a) (before : OpenAt k) where
     within : k < length acts
-    within = steps.within code b is_thread first classes c acts run.tagged k t step a here at
+    within = rounds.within code b is_thread first classes c acts run.tagged k t step a here at
 
     up : k ≤ length acts
-    up = steps.up code b is_thread first classes c acts run.tagged k t step a here at
+    up = rounds.up code b is_thread first classes c acts run.tagged k t step a here at
 
     abbrev y : ThreadState S
     y = after_answer code b at.from step a
@@ -91,7 +92,7 @@ module _ {S : Type 0} (code : Code S) (b : Bounds) (is_thread : ℕ → Bool) (f
     }
 
     did_open : OpenAt (suc k)
-    did_open = elim (steps.turn code b is_thread first classes c acts run.tagged k t step a here at) [
+    did_open = elim (rounds.turn code b is_thread first classes c acts run.tagged k t step a here at) [
       | calm none unseen same leaves ↦ none_set none
       | opens silents held none unseen same leaves ↦ none_set none
       | closes n none unseen other same leaves ↦ none_set none
@@ -101,7 +102,7 @@ module _ {S : Type 0} (code : Code S) (b : Bounds) (is_thread : ℕ → Bool) (f
         word = λ p. elim (same_or_other p (word_place r i)) [
           | inl here_p ↦ subst (λ n. AreOpen (suc k) ((writers c acts (suc k)).word n)) (sym here_p)
               (subst (AreOpen (suc k)) (sym (written.written_here code b is_thread first classes c acts run.tagged k t step a here at so r i x old wants sets done log))
-              (own_open (steps.own_levels code b is_thread first classes c acts run.tagged k t step a here at ∙ same)))
+              (own_open (rounds.own_levels code b is_thread first classes c acts run.tagged k t step a here at ∙ same)))
           | inr apart ↦ subst (AreOpen (suc k)) (sym (written.unwritten_there code b is_thread first classes c acts run.tagged k t step a here at so r i x old wants sets done log p apart)) (word_then p)
         ];
         old = all_old (subst (AllOpen (suc k)) (sym (written.old_more code b is_thread first classes c acts run.tagged k t step a here at so r i x old wants sets done log))

@@ -46,8 +46,7 @@ use Rattle.written_words.specs.Tags.{OldWordsSay}
 use Rattle.written_words.specs.Written.{has, HasWrittenSince}
 use Rattle.written_words.proofs.LevelLemmas.{levels_at}
 use Rattle.written_words.proofs.PlaceLemmas.{place_in, place_later, one_section, depth_at}
-use Rattle.written_words.proofs.StepLemmas as steps
-use Rattle.written_words.proofs.StepLemmas.{was_there, begins}
+use Rattle.settled_words.proofs.RoundLemmas as rounds
 use Rattle.written_words.proofs.TagLemmas.{old_length, AllBefore}
 use Rattle.written_words.proofs.SinceLemmas.{has_not, since_opened, old_opened, since_same, since_written, since_put}
 use Rattle.written_words.proofs.WrittenLemmas as written
@@ -64,19 +63,19 @@ module _ {S : Type 0} (code : Code S) (b : Bounds) (is_thread : ℕ → Bool) (f
   module _ (k t : ℕ) (step : Step) (a : StepAnswer) (here : slice_get acts k ≡ Some (did t step a)) (at : DidAt code b c k t step a) (so : written.WrittenAt code b is_thread first classes c acts run k)
       (was : parts.PartsOf code b is_thread first classes c acts run k t at.from) where
     within : k < length acts
-    within = steps.within code b is_thread first classes c acts run k t step a here at
+    within = rounds.within code b is_thread first classes c acts run k t step a here at
 
     up : k ≤ length acts
-    up = steps.up code b is_thread first classes c acts run k t step a here at
+    up = rounds.up code b is_thread first classes c acts run k t step a here at
 
     abbrev y : ThreadState S
     y = after_answer code b at.from step a
 
     there_then : (c (suc k)).threads t ≡ Some (after_answer code b at.from step a)
-    there_then = steps.own_there code b is_thread first classes c acts run k t step a here at
+    there_then = rounds.own_there code b is_thread first classes c acts run k t step a here at
 
     abbrev levels_then : List ℕ
-    levels_then = steps.levels_then code b is_thread first classes c acts run k t step a here at
+    levels_then = rounds.levels_then code b is_thread first classes c acts run k t step a here at
 
     own_levels : AreLevelsOf c acts t at.from.section ((c k).levels t)
     own_levels = levels_at code b first classes c acts run.monitors.levelled k up t at.from at.stands
@@ -92,7 +91,7 @@ module _ {S : Type 0} (code : Code S) (b : Bounds) (is_thread : ℕ → Bool) (f
       levels_are = levels_at code b first classes c acts run.monitors.levelled (suc k) within t y there_then
 
       is : slice_get levels_then i ≡ Some v
-      is = subst (λ l. slice_get l i ≡ Some v) (steps.own_levels code b is_thread first classes c acts run k t step a here at) is_then
+      is = subst (λ l. slice_get l i ≡ Some v) (rounds.own_levels code b is_thread first classes c acts run k t step a here at) is_then
 
       -- where all levels are seen pinned there is nothing to say
       shut_none : {P : Type 0} → is_open y ≡ false → P
@@ -224,7 +223,7 @@ module _ {S : Type 0} (code : Code S) (b : Bounds) (is_thread : ℕ → Bool) (f
           (subst (λ l. HasWrittenSince v (nth_or no_mark i at.from.marks).noted l ((writers c acts k).old t) (writers c acts k).word) noted_first.whole (old_part i (subst (λ l. slice_get l i ≡ Some v) same is))))))))
 
       part_then : PartOf (suc k) t y i v
-      part_then = elim (steps.turn code b is_thread first classes c acts run k t step a here at) [
+      part_then = elim (rounds.turn code b is_thread first classes c acts run k t step a here at) [
         | calm none unseen same leaves ↦ dropped 0 none same leaves
         | opens silents held none unseen same leaves ↦ opened silents held none same leaves
         | closes n none unseen other same leaves ↦ dropped (at.from.levels - n) none (same ∙ ap (λ l. drop (l - n) ((c k).levels t)) counted) leaves

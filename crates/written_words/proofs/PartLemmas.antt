@@ -40,6 +40,7 @@ use Rattle.written_words.specs.Tags.{TagSays, OldWordSays}
 use Rattle.written_words.specs.Written.{has, HasWrittenSince}
 use Rattle.written_words.proofs.LevelLemmas.{levels_at}
 use Rattle.written_words.proofs.PlaceLemmas.{place_in, one_section, at_least, depth_at}
+use Rattle.settled_words.proofs.RoundLemmas as rounds
 use Rattle.written_words.proofs.StepLemmas as steps
 use Rattle.written_words.proofs.StepLemmas.{was_there, begins}
 use Rattle.written_words.proofs.TagLemmas.{of_section}
@@ -143,10 +144,10 @@ module _ {S : Type 0} (code : Code S) (b : Bounds) (is_thread : ℕ → Bool) (f
 
   module _ (k t : ℕ) (step : Step) (a : StepAnswer) (here : slice_get acts k ≡ Some (did t step a)) (at : DidAt code b c k t step a) (so : written.WrittenAt code b is_thread first classes c acts run k) (parts : PartsAt k) where
     within : k < length acts
-    within = steps.within code b is_thread first classes c acts run k t step a here at
+    within = rounds.within code b is_thread first classes c acts run k t step a here at
 
     up : k ≤ length acts
-    up = steps.up code b is_thread first classes c acts run k t step a here at
+    up = rounds.up code b is_thread first classes c acts run k t step a here at
 
     abbrev y : ThreadState S
     y = after_answer code b at.from step a
@@ -179,7 +180,7 @@ module _ {S : Type 0} (code : Code S) (b : Bounds) (is_thread : ℕ → Bool) (f
           other (sym (sections_apart code b c acts ran k t u at.from uh up at.stands there part.0 same)))
 
       word_other : (p : ℕ) → has v ((writers c acts (suc k)).word p) ≡ has v ((writers c acts k).word p)
-      word_other p = elim (steps.turn code b is_thread first classes c acts run k t step a here at) [
+      word_other p = elim (rounds.turn code b is_thread first classes c acts run k t step a here at) [
         | calm none unseen same leaves ↦ none_set none
         | opens silents held none unseen same leaves ↦ none_set none
         | closes n none unseen also same leaves ↦ none_set none

@@ -26,7 +26,7 @@ use Rattle.noted_words.specs.Noted.{IsTaggedRun, heap_of}
 use Rattle.settled_words.proofs.TurnLemmas.{Leaves, calm, opens, closes, ends_all, undone, writes, puts}
 use Rattle.written_words.specs.Writers.{log_of, writers_by, writers}
 use Rattle.written_words.specs.Tags.{IsWrittenRun, TagSays, OldWordsSay, TagsSayWriters, OldTagsSayWriters}
-use Rattle.written_words.proofs.StepLemmas as steps
+use Rattle.settled_words.proofs.RoundLemmas as rounds
 use Rattle.written_words.proofs.TagLemmas.{old_later, AllBefore, all_later}
 use Rattle.written_words.proofs.WrittenLemmas as written
 use Rattle.written_words.proofs.WrittenLemmas.{calm_written, swap_written, put_written, on}
@@ -43,32 +43,32 @@ module _ {S : Type 0} (code : Code S) (b : Bounds) (is_thread : ℕ → Bool) (f
 
   module _ (k t : ℕ) (step : Step) (a : StepAnswer) (here : slice_get acts k ≡ Some (did t step a)) (at : DidAt code b c k t step a) where
     within : k < length acts
-    within = steps.within code b is_thread first classes c acts run.tagged k t step a here at
+    within = rounds.within code b is_thread first classes c acts run.tagged k t step a here at
 
     abbrev y : ThreadState S
     y = after_answer code b at.from step a
 
     -- without a level that isn't seen pinned nothing is logged
     shut_log : is_open y ≡ false → y.log ≡ []
-    shut_log shut = ((facts_at code b c acts ran (suc k) within).fit t y (steps.own_there code b is_thread first classes c acts run.tagged k t step a here at)).unlogged shut
+    shut_log shut = ((facts_at code b c acts ran (suc k) within).fit t y (rounds.own_there code b is_thread first classes c acts run.tagged k t step a here at)).unlogged shut
 
     left_log : (log : List Noted) (marks : List Mark) → Leaves at.from.log marks y.log y.marks (is_open y) → (y.log ≡ at.from.log) ⊎ (y.log ≡ [])
     left_log log marks (inl kept) = inl kept.0
     left_log log marks (inr shut) = inr (shut_log shut)
 
     none_open : (c (suc k)).levels t ≡ [] → is_open y ≡ false
-    none_open none = shut y.pinned y.levels (sym ((counted_at code b first classes c acts run.tagged.monitors.levelled (suc k) within).there t y (steps.own_there code b is_thread first classes c acts run.tagged k t step a here at)) ∙ ap length none)
+    none_open none = shut y.pinned y.levels (sym ((counted_at code b first classes c acts run.tagged.monitors.levelled (suc k) within).there t y (rounds.own_there code b is_thread first classes c acts run.tagged k t step a here at)) ∙ ap length none)
       where
         shut : (p l : ℕ) → l ≡ 0 → nat_lt p l ≡ false
         shut p l none = grind (arith, common_steps, nat_tests)
 
     did_written : WrittenAt k → WrittenAt (suc k)
-    did_written so = elim (steps.turn code b is_thread first classes c acts run.tagged k t step a here at) [
+    did_written so = elim (rounds.turn code b is_thread first classes c acts run.tagged k t step a here at) [
       | calm none unseen same leaves ↦ calm_written code b is_thread first classes c acts run.tagged k t step a here at so none (left_log at.from.log _ leaves)
       | opens silents held none unseen same leaves ↦ calm_written code b is_thread first classes c acts run.tagged k t step a here at so none (left_log at.from.log _ leaves)
       | closes n none unseen other same leaves ↦ calm_written code b is_thread first classes c acts run.tagged k t step a here at so none (left_log at.from.log _ leaves)
       | ends_all none unseen other same ↦ calm_written code b is_thread first classes c acts run.tagged k t step a here at so none
-          (inr (shut_log (none_open (steps.own_levels code b is_thread first classes c acts run.tagged k t step a here at ∙ same))))
+          (inr (shut_log (none_open (rounds.own_levels code b is_thread first classes c acts run.tagged k t step a here at ∙ same))))
       | undone w s v none unseen undoing is noted same leaves ↦ calm_written code b is_thread first classes c acts run.tagged k t step a here at so none (left_log at.from.log _ leaves)
       | writes r i v old wants sets done seen same log marks ↦ swap_written code b is_thread first classes c acts run.tagged k t step a here at so r i v old wants sets done log
       | puts w p o undoing sets does unseen same log marks ↦ put_written code b is_thread first classes c acts run.tagged k t step a here at so w p o sets does log

@@ -49,6 +49,7 @@ use Rattle.noted_words.proofs.RunLemmas.{noted_at}
 use Rattle.written_words.specs.Writers.{AreLevelsOf, Writers, writers_after, log_of, writers}
 use Rattle.written_words.specs.Tags.{TagSays, OldWordSays, OldWordsSay}
 use Rattle.written_words.proofs.LevelLemmas.{levels_at, opened_before}
+use Rattle.settled_words.proofs.RoundLemmas as rounds
 use Rattle.written_words.proofs.StepLemmas as steps
 use Rattle.written_words.proofs.StepLemmas.{word_named, sets_none, old_word, new_word}
 use Rattle.written_words.proofs.TagLemmas.{zero_tag, untagged, says_own, old_length, old_first, old_later, own_levels, AreBefore, AllBefore, all_later, all_take, all_drop, all_first, IsHeader}
@@ -75,10 +76,10 @@ module _ {S : Type 0} (code : Code S) (b : Bounds) (is_thread : ℕ → Bool) (f
 
   module _ (k t : ℕ) (step : Step) (a : StepAnswer) (here : slice_get acts k ≡ Some (did t step a)) (at : DidAt code b c k t step a) (so : WrittenAt k) where
     within : k < length acts
-    within = steps.within code b is_thread first classes c acts run k t step a here at
+    within = rounds.within code b is_thread first classes c acts run k t step a here at
 
     up : k ≤ length acts
-    up = steps.up code b is_thread first classes c acts run k t step a here at
+    up = rounds.up code b is_thread first classes c acts run k t step a here at
 
     abbrev y : ThreadState S
     y = after_answer code b at.from step a
@@ -87,7 +88,7 @@ module _ {S : Type 0} (code : Code S) (b : Bounds) (is_thread : ℕ → Bool) (f
     later v low = omega (arith, low)
 
     own_there : (c (suc k)).threads t ≡ Some (after_answer code b at.from step a)
-    own_there = steps.own_there code b is_thread first classes c acts run k t step a here at
+    own_there = rounds.own_there code b is_thread first classes c acts run k t step a here at
 
     -- what is no word of an object has no writer
     unplaced : (p : ℕ) → (IsWordPlace is_thread (c k).objects p → ⊥) → (writers c acts k).word p ≡ []
@@ -145,7 +146,7 @@ module _ {S : Type 0} (code : Code S) (b : Bounds) (is_thread : ℕ → Bool) (f
       pub calm_written : (y.log ≡ at.from.log) ⊎ (y.log ≡ []) → WrittenAt (suc k)
       calm_written log = record {
         says = λ p word. elim (steps.came code b is_thread first classes c acts run k t step a here at p word) [
-          | old_word was ↦ subst (TagSays c acts ((writers c acts (suc k)).word p)) (ap tag_of (sym (steps.same_word code b is_thread first classes c acts run k t step a here at none p was)))
+          | old_word was ↦ subst (TagSays c acts ((writers c acts (suc k)).word p)) (ap tag_of (sym (rounds.same_word code b is_thread first classes c acts run k t step a here at none p was)))
               (subst (λ w. TagSays c acts w (tag_of (heap_of (c k).words p))) (sym (word_same p)) (so.says p was))
           | new_word r v sets not_was is_zero ↦ subst (λ w. TagSays c acts w (tag_of (heap_of (c (suc k)).words p))) (sym (word_same p ∙ unplaced p not_was)) (ap tag_of is_zero ∙ zero_tag)
         ];
@@ -178,7 +179,7 @@ module _ {S : Type 0} (code : Code S) (b : Bounds) (is_thread : ℕ → Bool) (f
       found = (exchanged (c k).words (Area.Object (word_place r i)) old (written_word at.from v) (sym done ∙ at.answered ∙ ap (answer_of (c k).words) sets)).found
 
       new : heap_of (c (suc k)).words (word_place r i) ≡ written_word at.from v
-      new = steps.heap_then code b is_thread first classes c acts run k t step a here at (word_place r i) ∙ ap (λ s. words_after s (c k).words (Area.Object (word_place r i))) sets
+      new = rounds.heap_then code b is_thread first classes c acts run k t step a here at (word_place r i) ∙ ap (λ s. words_after s (c k).words (Area.Object (word_place r i))) sets
           ∙ ap (λ (z : Words). z (Area.Object (word_place r i))) (exchanged (c k).words (Area.Object (word_place r i)) old (written_word at.from v) (sym done ∙ at.answered ∙ ap (answer_of (c k).words) sets)).leaves
           ∙ put_object (c k).words (word_place r i) (written_word at.from v)
 
@@ -275,7 +276,7 @@ module _ {S : Type 0} (code : Code S) (b : Bounds) (is_thread : ℕ → Bool) (f
           | inl same ↦ subst (λ n. TagSays c acts ((writers c acts (suc k)).word n) (tag_of (heap_of (c (suc k)).words n))) (sym same)
               (subst (λ w. TagSays c acts w (tag_of (heap_of (c (suc k)).words (word_place r i)))) (sym written_here) (subst (λ n. TagSays c acts ((c k).levels t) (tag_of n)) (sym new) writes_own))
           | inr other ↦ subst (λ w. TagSays c acts w (tag_of (heap_of (c (suc k)).words p))) (sym (unwritten_there p other))
-              (subst (λ n. TagSays c acts ((writers c acts k).word p) (tag_of n)) (sym (steps.elsewhere code b is_thread first classes c acts run k t step a here at (word_place r i) p (ap place_of sets) other))
+              (subst (λ n. TagSays c acts ((writers c acts k).word p) (tag_of n)) (sym (rounds.elsewhere code b is_thread first classes c acts run k t step a here at (word_place r i) p (ap place_of sets) other))
               (so.says p (was p word)))
         ];
         placed = λ p. elim (same_or_other p (word_place r i)) [
@@ -323,7 +324,7 @@ module _ {S : Type 0} (code : Code S) (b : Bounds) (is_thread : ℕ → Bool) (f
       say_first = old_first c acts (c k).words t noted_first.x (drop 1 at.from.log) ((writers c acts k).old t) (subst (λ l. OldWordsSay c acts (c k).words t l ((writers c acts k).old t)) noted_first.whole own_old)
 
       back : heap_of (c (suc k)).words p ≡ o
-      back = steps.heap_then code b is_thread first classes c acts run k t step a here at p ∙ ap (λ s. words_after s (c k).words (Area.Object p)) sets ∙ put_object (c k).words p o
+      back = rounds.heap_then code b is_thread first classes c acts run k t step a here at p ∙ ap (λ s. words_after s (c k).words (Area.Object p)) sets ∙ put_object (c k).words p o
 
       pub put_written : WrittenAt (suc k)
       put_written = record {
@@ -331,7 +332,7 @@ module _ {S : Type 0} (code : Code S) (b : Bounds) (is_thread : ℕ → Bool) (f
           | inl same ↦ subst (λ n. TagSays c acts ((writers c acts (suc k)).word n) (tag_of (heap_of (c (suc k)).words n))) (sym same)
               (subst (λ z. TagSays c acts z (tag_of (heap_of (c (suc k)).words p))) (sym put_here) (subst (λ n. TagSays c acts (nth_or [] 0 ((writers c acts k).old t)) (tag_of n)) (noted_first.old ∙ sym back) say_first.0.says))
           | inr other ↦ subst (λ z. TagSays c acts z (tag_of (heap_of (c (suc k)).words q))) (sym (put_nowhere q other))
-              (subst (λ n. TagSays c acts ((writers c acts k).word q) (tag_of n)) (sym (steps.elsewhere code b is_thread first classes c acts run k t step a here at p q (ap place_of sets) other)) (so.says q (was q word)))
+              (subst (λ n. TagSays c acts ((writers c acts k).word q) (tag_of n)) (sym (rounds.elsewhere code b is_thread first classes c acts run k t step a here at p q (ap place_of sets) other)) (so.says q (was q word)))
         ];
         placed = λ q. elim (same_or_other q p) [
           | inl same ↦ inr (subst (IsWordPlace is_thread (c (suc k)).objects) (sym same) (steps.word_stays code b is_thread first classes c acts run k t step a here at p logged_word))
