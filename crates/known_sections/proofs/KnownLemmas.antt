@@ -58,7 +58,7 @@ committed_stays old new (Move.closes_to n live some low is) five = not_five (sta
 committed_stays old new (Move.commits live is) five = not_five (state_of old) 1 five live (omega arith)
 committed_stays old new (Move.undoes turned some is) five = not_five (state_of old) 3 five turned (omega arith)
 
-move_keeps : (old new depth : ℕ) → Move old new → IsCommittedOrPinned old depth → IsCommittedOrPinned new depth
+pub move_keeps : (old new depth : ℕ) → Move old new → IsCommittedOrPinned old depth → IsCommittedOrPinned new depth
 move_keeps old new depth move is = elim is [ inl five ↦ inl (committed_stays old new move five) | inr low ↦ inr (up depth (pinned_of old) (pinned_of new) low (pins_rise old new move)) ]
   where
     up : (m n p : ℕ) → m ≤ n → n ≤ p → m ≤ p

@@ -16,19 +16,19 @@ use Rattle.run_layout.proofs.ListLemmas.{In}
 
 -- ---- tags
 
-tag_is : (v tag : ℕ) → v < 2 ^ 32 → tag_of (pack v tag) ≡ tag
+pub tag_is : (v tag : ℕ) → v < 2 ^ 32 → tag_of (pack v tag) ≡ tag
 unfolding tag_of pack
 tag_is v tag low = omega (arith, low)
 
-section_is : (s l : ℕ) → s < 2 ^ 24 → tag_section (pack_tag s l) ≡ s
+pub section_is : (s l : ℕ) → s < 2 ^ 24 → tag_section (pack_tag s l) ≡ s
 unfolding tag_section pack_tag
 section_is s l low = omega (arith, low)
 
-level_is : (s l : ℕ) → s < 2 ^ 24 → tag_level (pack_tag s l) ≡ l
+pub level_is : (s l : ℕ) → s < 2 ^ 24 → tag_level (pack_tag s l) ≡ l
 unfolding tag_level pack_tag
 level_is s l low = omega (arith, low)
 
-section_of_none : tag_section 0 ≡ 0
+pub section_of_none : tag_section 0 ≡ 0
 unfolding tag_section
 section_of_none = refl
 

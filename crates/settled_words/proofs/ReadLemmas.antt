@@ -38,12 +38,12 @@ use Rattle.settled_words.proofs.StepLemmas as steps
 use Rattle.settled_words.proofs.RunLemmas.{settled_at}
 
 -- where a read is answered, its word was loaded, and is safe
-abbrev ReadFinds : {S : Type 0} → ThreadState S → Told → Next → Step → StepAnswer → Type 0
+abbrev pub ReadFinds : {S : Type 0} → ThreadState S → Told → Next → Step → StepAnswer → Type 0
 ReadFinds th (advanced (Some (Value v))) (Want (Read r i)) step a = (w : ℕ) × (step ≡ LoadWord (word_place r i)) × (a ≡ Found w) × (is_safe th w ≡ true) × (v ≡ value_of w)
 ReadFinds th told next step a = Unit {0}
 
 module _ {S : Type 0} (code : Code S) (b : Bounds) (th : ThreadState S) where
-  abbrev Finds : Next → Step → StepAnswer → Change → Type 0
+  abbrev pub Finds : Next → Step → StepAnswer → Change → Type 0
   Finds next step a change = ReadFinds th (told_of next step a change (shown change)) next step a
 
   pin_finds : (next : Next) (r m : ℕ) → Finds next (LoadMonitor r) (Found m) (goes (to_pin th next))
@@ -57,7 +57,7 @@ module _ {S : Type 0} (code : Code S) (b : Bounds) (th : ThreadState S) where
       behind (Want (Init c)) = tt
       behind next = tt
 
-  finds : {next : Next} {step : Step} {a : StepAnswer} {change : Change} → Row code b th next step a change → Finds next step a change
+  pub finds : {next : Next} {step : Step} {a : StepAnswer} {change : Change} → Row code b th next step a change → Finds next step a change
   finds (is_lost {step = step} {v = v}) = tt
   finds (word_read {r = r} {i = i} {w = w} safe) = (w, refl, refl, safe, refl)
   finds (exits_one {r = r} {m = m} own last more outer) = pin_finds (Want (Exit r)) r m

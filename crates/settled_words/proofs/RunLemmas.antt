@@ -50,13 +50,14 @@ use Rattle.noted_words.proofs.TagLemmas.{PutsFirst, puts_first}
 use Rattle.settled_words.specs.SettledWords.{AreSettledWords, back_words, WordsAreSettled, WordsSettle}
 use Rattle.settled_words.proofs.ReplayLemmas.{none_back}
 use Rattle.settled_words.proofs.TurnLemmas.{Unseen, calm, opens, closes, ends_all, undone, writes, puts}
+use Rattle.settled_words.proofs.RoundLemmas as rounds
 use Rattle.settled_words.proofs.StepLemmas as steps
 use Rattle.settled_words.proofs.SettleLemmas as settles
 
 -- ---- marks and logs
 
 -- each mark was made when no more was logged
-falls_at : (n l : ℕ) (marks : List Mark) → MarksFall l marks → (nth_or no_mark n marks).noted ≤ l
+pub falls_at : (n l : ℕ) (marks : List Mark) → MarksFall l marks → (nth_or no_mark n marks).noted ≤ l
 falls_at n l [] falls = omega arith
 falls_at zero l (m ∷ marks) falls = falls.0
 falls_at (suc n) l (m ∷ marks) falls = let first = falls.0 in let later = falls_at n m.noted marks falls.2 in omega (arith, first, later)
@@ -86,7 +87,7 @@ module _ {S : Type 0} (code : Code S) (b : Bounds) (is_thread : ℕ → Bool) (f
     was_back = steps.was_back code b is_thread first classes c acts run doomed tells k t step a here at
 
     -- where the levels stay
-    now_back : steps.levels_then code b is_thread first classes c acts run doomed tells k t step a here at ≡ (c k).levels t → back (suc k) t ≡ words_back (to_undo doomed ((c k).levels t)) y.marks y.log
+    now_back : rounds.levels_then code b is_thread first classes c acts run k t step a here at ≡ (c k).levels t → back (suc k) t ≡ words_back (to_undo doomed ((c k).levels t)) y.marks y.log
     now_back same = steps.own_back code b is_thread first classes c acts run doomed tells k t step a here at ∙ ap (λ l. words_back (to_undo doomed l) y.marks y.log) same
 
     -- ---- a word is put back
@@ -100,11 +101,11 @@ module _ {S : Type 0} (code : Code S) (b : Bounds) (is_thread : ℕ → Bool) (f
           | opens_one m none section log noted top marks ↦ absurd (subst (λ s. SetsNoWord s a) sets none)
           | writes_word r i v old wants swaps done safe section log whole top marks ↦ absurd (subst IsRestore (sym sets ∙ swaps) tt)
           | puts_word_back u q x also puts_it does section log top marks ↦ subst (λ ms. MarksFall (length (drop 1 at.from.log)) ms) marks (subst (λ l. MarksFall (length l) (marks_of y)) log
-              (marks_fall code b first classes c acts run.monitors.levelled.ordered (suc k) t y within (steps.own_there code b is_thread first classes c acts run doomed tells k t step a here at)))
+              (marks_fall code b first classes c acts run.monitors.levelled.ordered (suc k) t y within (rounds.own_there code b is_thread first classes c acts run k t step a here at)))
         ])
 
     put_so : (w p o : ℕ) → at.from.attempt ≡ Undoing w → step ≡ RestoreWord p o → undo_next at.from w (revoke_of w) ≡ RestoreWord p o → Unseen (told code b at.from step a) (code.next at.from.local)
-        → steps.levels_then code b is_thread first classes c acts run doomed tells k t step a here at ≡ (c k).levels t → y.log ≡ drop 1 at.from.log → y.marks ≡ at.from.marks → SettledAt (suc k)
+        → rounds.levels_then code b is_thread first classes c acts run k t step a here at ≡ (c k).levels t → y.log ≡ drop 1 at.from.log → y.marks ≡ at.from.marks → SettledAt (suc k)
     put_so w p o undoing sets does unseen same log marks = by_count (to_undo doomed ((c k).levels t)) refl
       where
         counts : suc (length ((c k).levels t)) ≤ revoke_of w + to_undo doomed ((c k).levels t)
@@ -146,7 +147,7 @@ module _ {S : Type 0} (code : Code S) (b : Bounds) (is_thread : ℕ → Bool) (f
     -- ---- a word is overwritten
 
     write_so : (r i v old : ℕ) → code.next at.from.local ≡ Want (Write r i v) → step ≡ SwapWord (word_place r i) old (written_word at.from v) → a ≡ StepAnswer.Done
-        → told code b at.from step a ≡ advanced (Some Reply.Done) → steps.levels_then code b is_thread first classes c acts run doomed tells k t step a here at ≡ (c k).levels t
+        → told code b at.from step a ≡ advanced (Some Reply.Done) → rounds.levels_then code b is_thread first classes c acts run k t step a here at ≡ (c k).levels t
         → y.log ≡ noted at.from (word_place r i) old → y.marks ≡ at.from.marks → SettledAt (suc k)
     write_so r i v old wants sets done seen same log marks = by_count (to_undo doomed ((c k).levels t)) refl
       where
@@ -180,7 +181,7 @@ module _ {S : Type 0} (code : Code S) (b : Bounds) (is_thread : ℕ → Bool) (f
     calm_so none unseen = settles.calm_settled code b is_thread first classes c acts run doomed tells settled are k t step a here at before none unseen
 
     did_settled : SettledAt (suc k)
-    did_settled = elim (steps.turn code b is_thread first classes c acts run doomed tells k t step a here at) [
+    did_settled = elim (rounds.turn code b is_thread first classes c acts run k t step a here at) [
       | calm none unseen same leaves ↦ calm_so none unseen
       | opens silents held none unseen same leaves ↦ calm_so none unseen
       | closes n none unseen other same leaves ↦ calm_so none unseen

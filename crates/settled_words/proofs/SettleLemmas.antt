@@ -1,5 +1,5 @@
 -- The words stay settled with each step of a thread.
-use Rattle.std.proofs.Common.{◌≡◌, ◌≢◌, ◌⊎◌, inl, inr, ℕ, zero, suc, ◌+◌, ◌-◌, ◌<◌, ◌≤◌, Bool, true, false, true≢false, Option, None, Some, List, [], ◌∷◌, length, refl, sym, ◌∙◌, ap, subst, arith}
+use Rattle.std.proofs.Common.{◌≡◌, ◌≢◌, ◌⊎◌, inl, inr, ℕ, zero, suc, ◌+◌, ◌<◌, ◌≤◌, Bool, true, false, true≢false, Option, None, Some, List, [], ◌∷◌, length, refl, sym, ◌∙◌, ap, subst, arith}
 use Rattle.std.specs.Prelude.{IsSomeAnd, nat_lt, slice_get, if◌then◌else◌}
 use Rattle.std.proofs.lemmas.Grind.{common_steps}
 use Rattle.std.proofs.lemmas.Bool.Decides.{nat_tests}
@@ -28,7 +28,7 @@ use Rattle.section_laws.specs.Runs.{IsRun}
 use Rattle.section_laws.proofs.WordLemmas.{exchanged}
 use Rattle.section_laws.proofs.ClaimLemmas.{none_some}
 use Rattle.run_layout.specs.Layout.{IsWordPlace, FitsObjects}
-use Rattle.run_layout.proofs.PlaceLemmas.{put_object, stays_or_made, one_place}
+use Rattle.run_layout.proofs.PlaceLemmas.{put_object, one_place}
 use Rattle.run_layout.proofs.RunLemmas.{runs_keep_layout, objects_stay}
 use Rattle.settled_lists.specs.Settled.{to_undo, notes, replay}
 use Rattle.settled_lists.proofs.ReplayLemmas.{noted_or, noted_more, noted_first, replay_unnoted}
@@ -37,12 +37,12 @@ use Rattle.noted_words.specs.Noted.{IsTaggedRun, heap_of}
 use Rattle.noted_words.proofs.TurnLemmas.{SetsNoWord}
 use Rattle.noted_words.proofs.DidLemmas.{writer}
 use Rattle.noted_words.proofs.RunLemmas.{noted_at}
-use Rattle.noted_words.proofs.PlaceLemmas.{stays_there, swaps, puts, word_step}
 use Rattle.settled_words.specs.SettledWords.{words_by, AreSettledWords, WordsAreSettled}
 use Rattle.settled_words.proofs.ReplayLemmas.{replay_noted, zero_value, value_written, set_elsewhere, set_here}
 use Rattle.settled_words.proofs.TurnLemmas.{Unseen}
 use Rattle.settled_words.proofs.StepLemmas as steps
-use Rattle.settled_words.proofs.StepLemmas.{Came, was_there, is_new_one, came}
+use Rattle.settled_words.proofs.RoundLemmas as rounds
+use Rattle.settled_words.proofs.RoundLemmas.{Came, was_there, is_new_one, came}
 
 module _ {S : Type 0} (code : Code S) (b : Bounds) (is_thread : ℕ → Bool) (first : S) (classes : ℕ) (c : ℕ → Core S) (acts : List Act) (run : IsTaggedRun code b is_thread first classes c acts) (doomed : ℕ → Bool)
     (tells : IsDoomedTest c acts doomed) (settled : ℕ → ℕ → ℕ → ℕ) (are : AreSettledWords code b is_thread doomed c acts settled) where
@@ -72,21 +72,10 @@ module _ {S : Type 0} (code : Code S) (b : Bounds) (is_thread : ℕ → Bool) (f
         elim (words p word) [
           | inl old ↦ same_settled word.r word.i ∙ ap (λ r. settled k r word.i) (sym old.1) ∙ ap (settled k old.0.r) (sym old.2) ∙ before.put_back p t old.0 had
               ∙ ap value_of (replay_noted (back k t) (heap_of (c k).words) (heap_of (c (suc k)).words) p had) ∙ ap (λ log. value_of (replay log (heap_of (c (suc k)).words) p)) (sym (same_back t))
-          | inr new ↦ absurd (not_new p word (logged p t had) new.0)
+          | inr new ↦ absurd (rounds.none_there code b is_thread first classes c acts run k p within word (logged p t had) new.0)
         ];
     none = λ r i there. same_settled r i ∙ before.none r i (none_before r there);
   }
-    where
-      not_new : (p : ℕ) (word : IsWordPlace is_thread (c (suc k)).objects p) → IsWordPlace is_thread (c k).objects p → (c k).objects word.r ≡ None → ⊥
-      not_new p word old none =
-          let later = objects_stay code b is_thread c acts run.laid k (suc k) old.r old.o (omega arith) within old.there in
-          let place = old.place in
-          let place_then = word.place in
-          let low = old.low in
-          let low_then = word.low in
-          let one = one_place (c (suc k)).objects (runs_keep_layout code b is_thread c acts run.laid (suc k) within).apart old.r word.r old.o word.o later word.there (2 + old.i) (2 + word.i)
-          (omega (arith, low)) (omega (arith, low_then)) (omega (arith, place, place_then)) in
-          none_some old.o (sym none ∙ ap (c k).objects (sym one.0) ∙ old.there)
 
   module _ (k t : ℕ) (step : Step) (a : StepAnswer) (here : slice_get acts k ≡ Some (did t step a)) (at : DidAt code b c k t step a) (before : SettledAt k) where
     within : k < length acts
@@ -99,14 +88,10 @@ module _ {S : Type 0} (code : Code S) (b : Bounds) (is_thread : ℕ → Bool) (f
     count = to_undo doomed ((c k).levels t)
 
     heap_then : (q : ℕ) → heap_of (c (suc k)).words q ≡ words_after step (c k).words (Area.Object q)
-    heap_then q = ap (λ (core : Core S). core.words (Area.Object q)) at.leads
+    heap_then q = rounds.heap_then code b is_thread first classes c acts run k t step a here at q
 
     elsewhere : (p q : ℕ) → place_of step ≡ Area.Object p → q ≢ p → heap_of (c (suc k)).words q ≡ heap_of (c k).words q
-    elsewhere p q place other = elim (stays_or_made step (c k).words q) [ inl same ↦ heap_then q ∙ same | inr made ↦ absurd (other (ap number (sym made ∙ place))) ]
-      where
-        number : Area → ℕ
-        number (Area.Object n) = n
-        number area = 0
+    elsewhere p q place other = rounds.elsewhere code b is_thread first classes c acts run k t step a here at p q place other
 
     none_before : (r : ℕ) → (c (suc k)).objects r ≡ None → (c k).objects r ≡ None
     none_before r none = by_object ((c k).objects r) refl
@@ -115,8 +100,8 @@ module _ {S : Type 0} (code : Code S) (b : Bounds) (is_thread : ℕ → Bool) (f
         by_object None is = is
         by_object (Some o) is = none_some o (sym none ∙ objects_stay code b is_thread c acts run.laid k (suc k) r o (omega arith) within is)
 
-    came_at : (p : ℕ) (word : IsWordPlace is_thread (c (suc k)).objects p) → Came code b is_thread first classes c acts run doomed tells k t step a here at p word
-    came_at p word = came code b is_thread first classes c acts run doomed tells k t step a here at p word
+    came_at : (p : ℕ) (word : IsWordPlace is_thread (c (suc k)).objects p) → Came code b is_thread first classes c acts run k t step a here at p word
+    came_at p word = came code b is_thread first classes c acts run k t step a here at p word
 
     logged : (p u : ℕ) → notes p (back k u) ≡ true → IsWordPlace is_thread (c k).objects p
     logged p u has = steps.word_logged code b is_thread first classes c acts run doomed tells k u p up (steps.puts_back code b is_thread first classes c acts run doomed tells k u p has)
@@ -150,11 +135,7 @@ module _ {S : Type 0} (code : Code S) (b : Bounds) (is_thread : ℕ → Bool) (f
     -- ---- no word is overwritten or put back
 
     same_word : SetsNoWord step a → (p : ℕ) → IsWordPlace is_thread (c k).objects p → heap_of (c (suc k)).words p ≡ heap_of (c k).words p
-    same_word none p word = elim (word_step code b is_thread c acts run.laid k t step a here at.answered p word) [
-      | stays_there same ↦ heap_then p ∙ same
-      | swaps old new is done found now ↦ absurd (subst (SetsNoWord (SwapWord p old new)) done (subst (λ s. SetsNoWord s a) is none))
-      | puts old is now ↦ absurd (subst (λ s. SetsNoWord s a) is none)
-    ]
+    same_word none p word = rounds.same_word code b is_thread first classes c acts run k t step a here at none p word
 
     pub calm_settled : SetsNoWord step a → Unseen (told code b at.from step a) (code.next at.from.local) → SettledAt (suc k)
     calm_settled none unseen = stays_settled k within (same_word none) (steps.all_back code b is_thread first classes c acts run doomed tells k t step a here at none) (unseen_settled unseen) none_before

@@ -1,28 +1,23 @@
 -- Words and logs round a step of a thread.
 use Rattle.std.proofs.Common.{◌≡◌, ◌≢◌, inl, inr, ℕ, zero, suc, ◌+◌, ◌-◌, ◌<◌, ◌≤◌, Bool, true, Option, None, Some, List, [], length, refl, sym, ◌∙◌, ap, subst, arith}
 use Rattle.std.specs.Prelude.{slice_get}
-use Rattle.std.proofs.lemmas.Option.{same_Some, slice_get_within}
+use Rattle.std.proofs.lemmas.Option.{slice_get_within}
 use Rattle.op_core.specs.ThreadCode.{Code}
-use Rattle.op_core.specs.OrdinaryState.{set_at, Object}
+use Rattle.op_core.specs.OrdinaryState.{set_at}
 use Rattle.op_core.proofs.PointwiseLemmas.{same_or_other, set_at-hit, set_at-other}
 use Rattle.heap_words.specs.declared.areas.Area.TheVariants.{Section}
 use Rattle.section_state.specs.SectionWord.{pinned_of, revoke_of}
 use Rattle.write_log.specs.declared.Noted.{Noted}
 use Rattle.step_port.specs.declared.answer.StepAnswer.{StepAnswer}
 use Rattle.step_port.specs.declared.step.Step.{Step}
-use Rattle.step_port.specs.declared.step.Step.TheVariants.{SetHeader, Split}
-use Rattle.step_port.specs.Steps.{effect_of}
-use Rattle.step_port.specs.Words.{CanAnswer}
+use Rattle.step_port.specs.declared.step.Step.TheVariants.{Split}
 use Rattle.thread_automaton.specs.declared.Bounds.{Bounds}
 use Rattle.thread_automaton.specs.declared.Attempt.{Attempt}
 use Rattle.thread_automaton.specs.declared.Attempt.TheVariants.{Undoing}
 use Rattle.thread_automaton.specs.ThreadState.{ThreadState, no_mark, nth_or, first_state, is_open, mark_of, noted_since}
-use Rattle.thread_automaton.specs.Changes.{changed}
 use Rattle.thread_automaton.specs.Checks.{is_safe}
-use Rattle.thread_automaton.specs.Answers.{change_of}
 use Rattle.thread_automaton.specs.Told.{told, after_answer}
-use Rattle.automaton_rows.proofs.RowLemmas.{answers_are_rows, words_can_answer}
-use Rattle.core_runs.specs.Cores.{Core, threads_by, levels_by}
+use Rattle.core_runs.specs.Cores.{Core, threads_by}
 use Rattle.core_runs.specs.Acts.{Act, did, DidAt}
 use Rattle.section_laws.specs.Runs.{IsRun}
 use Rattle.section_laws.proofs.RunLemmas.{facts_at}
@@ -32,10 +27,9 @@ use Rattle.section_levels.proofs.RunLemmas.{counted_at}
 use Rattle.section_levels.proofs.LevelLemmas.{doomed_levels_are_unpinned}
 use Rattle.open_sections.specs.OpenSections.{IsLiveOrRevoking}
 use Rattle.run_layout.specs.Layout.{IsWordPlace}
-use Rattle.run_layout.proofs.RunLemmas.{is_new, objects_stay, laid_at}
+use Rattle.run_layout.proofs.RunLemmas.{laid_at}
 use Rattle.run_monitors.specs.Held.{top_at}
 use Rattle.run_monitors.proofs.DidLemmas as dids
-use Rattle.run_monitors.proofs.ThreadLemmas.{object_came}
 use Rattle.run_monitors.proofs.RunLemmas.{so_at}
 use Rattle.settled_lists.specs.Settled.{to_undo, words_back, notes}
 use Rattle.settled_monitors.specs.SettledRuns.{IsDoomedTest}
@@ -48,8 +42,8 @@ use Rattle.noted_words.proofs.StepLemmas.{safe_other}
 use Rattle.noted_words.proofs.RunLemmas.{noted_words_are_own}
 use Rattle.settled_words.specs.SettledWords.{back_words}
 use Rattle.settled_words.proofs.ReplayLemmas.{none_back}
-use Rattle.settled_words.proofs.TurnLemmas.{WordTurn, turn_of, counted_turn}
 use Rattle.settled_words.proofs.BackLemmas.{Around, back_same}
+use Rattle.settled_words.proofs.RoundLemmas as rounds
 
 module _ {S : Type 0} (code : Code S) (b : Bounds) (is_thread : ℕ → Bool) (first : S) (classes : ℕ) (c : ℕ → Core S) (acts : List Act) (run : IsTaggedRun code b is_thread first classes c acts) (doomed : ℕ → Bool)
     (tells : IsDoomedTest c acts doomed) where
@@ -168,24 +162,17 @@ module _ {S : Type 0} (code : Code S) (b : Bounds) (is_thread : ℕ → Bool) (f
     abbrev y : ThreadState S
     y = after_answer code b at.from step a
 
-    abbrev pub levels_then : List ℕ
-    levels_then = levels_by k (change_of code b at.from (code.next at.from.local) step a) ((c k).levels t)
+    abbrev levels_then : List ℕ
+    levels_then = rounds.levels_then code b is_thread first classes c acts run k t step a here at
+
+    own_levels : (c (suc k)).levels t ≡ rounds.levels_then code b is_thread first classes c acts run k t step a here at
+    own_levels = rounds.own_levels code b is_thread first classes c acts run k t step a here at
+
+    own_there : (c (suc k)).threads t ≡ Some (after_answer code b at.from step a)
+    own_there = rounds.own_there code b is_thread first classes c acts run k t step a here at
 
     so : dids.So code b first classes c acts run.monitors k
     so = so_at code b first classes c acts run.monitors k up
-
-    pub own_there : (c (suc k)).threads t ≡ Some y
-    own_there = ap (λ (core : Core S). core.threads t) at.leads ∙ dids.own_there code b first classes c acts run.monitors k within t step a here at so
-
-    pub own_levels : (c (suc k)).levels t ≡ levels_then
-    own_levels = ap (λ (core : Core S). core.levels t) at.leads ∙ set_at-hit (c k).levels t levels_then
-
-    pub turn : WordTurn k (code.next at.from.local) at.from y.log y.marks (is_open y) (told code b at.from step a) ((c k).levels t) levels_then step a
-    turn = counted_turn code b at.from k ((c k).levels t) (told code b at.from step a) (told code b at.from step a) (changed code at.from (change_of code b at.from (code.next at.from.local) step a)) levels_then
-        (turn_of code b at.from k ((c k).levels t) (answers_are_rows code b at.from step a ((facts_at code b c acts ran k up).fit t at.from at.stands).attempt at.move can) can)
-      where
-        can : CanAnswer (effect_of step) a
-        can = subst (CanAnswer (effect_of step)) (sym at.answered) (words_can_answer (c k).words step)
 
     pub around : Around doomed at.from (is_open y) ((c k).levels t) levels_then step
     around = record {
@@ -241,32 +228,6 @@ module _ {S : Type 0} (code : Code S) (b : Bounds) (is_thread : ℕ → Bool) (f
 
     pub all_back : SetsNoWord step a → (u : ℕ) → back (suc k) u ≡ back k u
     all_back none u = elim (same_or_other u t) [
-      | inl own ↦ ap (back (suc k)) own ∙ own_back ∙ back_same doomed k (code.next at.from.local) at.from y.log y.marks (is_open y) (told code b at.from step a) ((c k).levels t) levels_then step a around none turn ∙ sym was_back ∙ ap (back k) (sym own)
+      | inl own ↦ ap (back (suc k)) own ∙ own_back ∙ back_same doomed k (code.next at.from.local) at.from y.log y.marks (is_open y) (told code b at.from step a) ((c k).levels t) levels_then step a around none (rounds.turn code b is_thread first classes c acts run k t step a here at) ∙ sym was_back ∙ ap (back k) (sym own)
       | inr other ↦ others_back u other
-    ]
-
-    -- ---- which words there are
-
-    -- a word of an object that was there, or a word 0 of a new object
-    pub data Came (p : ℕ) (word : IsWordPlace is_thread (c (suc k)).objects p) : Type 0 where
-      was_there : (old : IsWordPlace is_thread (c k).objects p) → old.r ≡ word.r → old.i ≡ word.i → Came p word
-      is_new_one : (v : ℕ) → step ≡ SetHeader word.r v → (c k).objects word.r ≡ None → heap_of (c (suc k)).words p ≡ 0 → Came p word
-
-    pub came : (p : ℕ) (word : IsWordPlace is_thread (c (suc k)).objects p) → Came p word
-    came p word = elim (object_came code step at.from.local (code.next at.from.local) (c k).objects word.r (word.o, sym (ap (λ (core : Core S). core.objects word.r) at.leads) ∙ word.there)) [
-      | inl old ↦ was_there (record {
-        r = word.r;
-        i = word.i;
-        o = word.o;
-        there = old.1 ∙ ap Some (same_Some old.0 word.o (sym (objects_stay code b is_thread c acts run.laid k (suc k) word.r old.0 (omega arith) within old.1) ∙ word.there));
-        low = word.low;
-        place = word.place;
-        kept = word.kept;
-      }) refl refl
-      | inr made ↦
-          let new = is_new code b is_thread c acts run.laid k t step a here at word.r made.0 made.1 in
-          let low = word.low in
-          let place = word.place in
-          let size = ap (λ (o : Object). o.words) (same_Some word.o _ (sym word.there ∙ new.3.there)) in
-          is_new_one made.0 made.1 new.3.none (new.3.empty p (omega (arith, place)) (omega (arith, place, low, size)))
     ]

@@ -60,7 +60,7 @@ pub data WordTurn {S : Type 0} (k : ℕ) (next : Next) (x : ThreadState S) (log 
       → log ≡ drop 1 x.log → marks ≡ x.marks → WordTurn k next x log marks open_then told levels levels_then step a
 
 -- the last step of an undo comes where nothing is logged since
-none_noted : (s w v u : ℕ) (log : List Noted) (deepened taken : List Held) → undo_step s w log deepened taken ≡ MarkUndone v u → log ≡ []
+pub none_noted : (s w v u : ℕ) (log : List Noted) (deepened taken : List Held) → undo_step s w log deepened taken ≡ MarkUndone v u → log ≡ []
 none_noted s w v u (x ∷ log) deepened taken is = cc
 none_noted s w v u [] deepened taken is = refl
 

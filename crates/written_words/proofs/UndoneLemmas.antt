@@ -1,0 +1,107 @@
+-- Words after an undoing.
+use Rattle.std.proofs.Common.{◌≡◌, ℕ, suc, ◌+◌, ◌-◌, ◌<◌, ◌≤◌, Bool, None, Some, List, [], ◌∷◌, length, refl, sym, ◌∙◌, ap, subst, arith}
+use Rattle.std.specs.Prelude.{slice_get}
+use Rattle.op_core.specs.ThreadCode.{Code}
+use Rattle.heap_words.specs.Words.{tag_of, tag_section, tag_level}
+use Rattle.section_state.specs.SectionWord.{revoke_of}
+use Rattle.step_port.specs.declared.answer.StepAnswer.TheVariants.{Done}
+use Rattle.step_port.specs.declared.step.Step.TheVariants.{MarkUndone}
+use Rattle.thread_automaton.specs.declared.Bounds.{Bounds}
+use Rattle.thread_automaton.specs.declared.Attempt.TheVariants.{Undoing}
+use Rattle.thread_automaton.specs.ThreadState.{ThreadState}
+use Rattle.core_runs.specs.Cores.{Core}
+use Rattle.core_runs.specs.Acts.{Act, did, mover}
+use Rattle.core_runs.specs.Revoked.{IsDoomed}
+use Rattle.level_runs.specs.LevelRun.{In, IsDoomedAt}
+use Rattle.level_runs.proofs.LevelLemmas.{Since, since, keeps_on, is_gone}
+use Rattle.section_laws.specs.Runs.{IsRun}
+use Rattle.section_levels.specs.Levels.{levels_in, revoked_in}
+use Rattle.section_levels.proofs.LevelLemmas.{runs_in_levels, doomed_at}
+use Rattle.run_layout.specs.Layout.{IsWordPlace}
+use Rattle.noted_words.specs.Noted.{heap_of}
+use Rattle.noted_words.proofs.TagLemmas.{section_of_none}
+use Rattle.written_words.specs.Writers.{AreLevelsOf, writers}
+use Rattle.written_words.specs.Tags.{IsWrittenRun, TagSays}
+use Rattle.written_words.specs.Undone.{UndoneLevelsHaveWrittenNothing, UndoneSectionsHaveWrittenNothing}
+use Rattle.written_words.proofs.PlaceLemmas.{of_thread}
+use Rattle.written_words.proofs.TagLemmas.{of_section}
+use Rattle.written_words.proofs.RunLemmas.{written_at}
+use Rattle.written_words.proofs.OpenLemmas.{open_at}
+use Rattle.section_levels.specs.Levels.{IsLevelledRun}
+use Rattle.written_words.proofs.GoneLemmas as gone
+
+module _ {S : Type 0} (code : Code S) (b : Bounds) (is_thread : ℕ → Bool) (first : S) (classes : ℕ) (c : ℕ → Core S) (acts : List Act) (run : IsWrittenRun code b is_thread first classes c acts) where
+  ran : IsRun code b c acts
+  ran = run.tagged.monitors.levelled.ordered.run
+
+  abbrev levelled : IsLevelledRun code b first classes c acts
+  levelled = run.tagged.monitors.levelled
+
+  module _ (k t s w : ℕ) (here : slice_get acts k ≡ Some (did t (MarkUndone s w) Done)) where
+    -- ---- where the run ends with it
+
+    none_doomed : (p v : ℕ) → suc k ≡ length acts → IsWordPlace is_thread (c (suc k)).objects p → tag_section (tag_of (heap_of (c (suc k)).words p)) ≡ s → In v ((writers c acts (suc k)).word p) → IsDoomed c acts v → ⊥
+    none_doomed p v last word carries there doomed = by_since (since (levels_in c acts t) (revoked_in c acts t) (runs_in_levels code b first classes c acts run.tagged.monitors.levelled t).act (runs_in_levels code b first classes c acts run.tagged.monitors.levelled t).is_run v is_doomed (k - is_doomed.0) (suc k) (sum k is_doomed.0 earlier))
+      where
+        u : ℕ
+        u = mover (slice_get acts v)
+
+        of : (n : ℕ) × AreLevelsOf c acts n (tag_section (tag_of (heap_of (c (suc k)).words p))) ((writers c acts (suc k)).word p) × (tag_level (tag_of (heap_of (c (suc k)).words p)) ≡ length ((writers c acts (suc k)).word p))
+        of = of_section c acts ((writers c acts (suc k)).word p) (tag_of (heap_of (c (suc k)).words p)) v ((written_at code b is_thread first classes c acts run (suc k) (gone.within code b first classes c acts run.tagged.monitors.levelled k t s w here)).says p word) there
+
+        full : (v : ℕ) (levels : List ℕ) → In v levels → 0 < length levels
+        full v [] there = absurd there
+        full v (q ∷ levels) there = omega arith
+
+        own : of.0 ≡ t
+        own = gone.own_writer code b first classes c acts run.tagged.monitors.levelled k t s w here of.0 ((c k).levels t) ((writers c acts (suc k)).word p) (gone.some_open code b first classes c acts run.tagged.monitors.levelled k t s w here) (gone.levels_are code b first classes c acts run.tagged.monitors.levelled k t s w here) (full v ((writers c acts (suc k)).word p) there)
+            (subst (λ n. AreLevelsOf c acts of.0 n ((writers c acts (suc k)).word p)) carries of.1)
+
+        by_own : u ≡ t
+        by_own = (of_thread c acts of.0 (tag_section (tag_of (heap_of (c (suc k)).words p))) v ((writers c acts (suc k)).word p) of.1 there).0 ∙ own
+
+        open_then : In v ((c (suc k)).levels t)
+        open_then = subst (λ n. In v ((c (suc k)).levels n)) by_own ((open_at code b is_thread first classes c acts run (suc k) (gone.within code b first classes c acts run.tagged.monitors.levelled k t s w here)).word p v there doomed)
+
+        is_doomed : IsDoomedAt (levels_in c acts t) (runs_in_levels code b first classes c acts run.tagged.monitors.levelled t).act v
+        is_doomed = doomed_at code b first classes c acts run.tagged.monitors.levelled t v (suc k) (gone.within code b first classes c acts run.tagged.monitors.levelled k t s w here) open_then doomed
+
+        earlier : is_doomed.0 ≤ k
+        earlier = before is_doomed.0 k (gone.revokes_within code b first classes c acts run.tagged.monitors.levelled ((runs_in_levels code b first classes c acts run.tagged.monitors.levelled t).revokes is_doomed.0 is_doomed.1 is_doomed.2).2) last
+          where
+            before : {n : ℕ} (m k : ℕ) → m < n → suc k ≡ n → m ≤ k
+            before m k low is = omega (arith, low, is)
+
+        sum : (k m : ℕ) → m ≤ k → suc k ≡ (k - m) + suc m
+        sum k m low = omega (arith, low)
+
+        by_since : Since (levels_in c acts t) (revoked_in c acts t) (runs_in_levels code b first classes c acts run.tagged.monitors.levelled t).act (runs_in_levels code b first classes c acts run.tagged.monitors.levelled t).is_run v is_doomed (suc k) → ⊥
+        by_since (keeps_on some stays) = no (sym (gone.leaves code b first classes c acts run.tagged.monitors.levelled k t s w here).2 ∙ some)
+          where
+            no : {n : ℕ} → None ≡ Some n → ⊥
+            no is = cc
+        by_since (is_gone none) = none (subst (In v) (sym (gone.here_is code b first classes c acts run.tagged.monitors.levelled (suc k) (gone.within code b first classes c acts run.tagged.monitors.levelled k t s w here) t)) open_then)
+
+    -- ---- where it undoes the section as a whole
+
+    none_carries : (j seen p : ℕ) (th : ThreadState S) → (c k).threads t ≡ Some th → th.attempt ≡ Undoing seen → revoke_of seen ≡ 1 → k < j → j ≤ length acts → IsWordPlace is_thread (c j).objects p
+        → tag_section (tag_of (heap_of (c j).words p)) ≡ s → ⊥
+    none_carries j seen p th stands undoing whole later low word carries = by_writer ((writers c acts j).word p) refl ((written_at code b is_thread first classes c acts run j low).says p word)
+      where
+        by_writer : (writer : List ℕ) → (writers c acts j).word p ≡ writer → TagSays c acts writer (tag_of (heap_of (c j).words p)) → ⊥
+        by_writer [] is none = no s (sym carries ∙ ap tag_section none ∙ section_of_none) (gone.some_section code b first classes c acts run.tagged.monitors.levelled k t s w here)
+          where
+            no : (s : ℕ) → s ≡ 0 → 0 < s → ⊥
+            no s none some = omega (arith, none, some)
+        by_writer (x ∷ writer) is says =
+            let out = gone.outermost_there code b first classes c acts run.tagged.monitors.levelled k t s w here seen th stands undoing whole says.0 x writer (subst (λ n. AreLevelsOf c acts says.0 n (x ∷ writer)) carries says.1) in
+            let open_now = (open_at code b is_thread first classes c acts run j low).word p (gone.q code b first classes c acts run.tagged.monitors.levelled k t s w here seen th stands undoing whole) (subst (In (gone.q code b first classes c acts run.tagged.monitors.levelled k t s w here seen th stands undoing whole)) (sym is) out.1) (gone.doomed code b first classes c acts run.tagged.monitors.levelled k t s w here seen th stands undoing whole) in
+            gone.closed_later code b first classes c acts run.tagged.monitors.levelled k t s w here seen th stands undoing whole j later low (subst (λ n. In (gone.q code b first classes c acts run.tagged.monitors.levelled k t s w here seen th stands undoing whole) ((c j).levels n)) (ap mover (gone.q_opens code b first classes c acts run.tagged.monitors.levelled k t s w here seen th stands undoing whole).1) open_now)
+
+pub undone_levels_have_written_nothing : {S : Type 0} (code : Code S) → UndoneLevelsHaveWrittenNothing code
+undone_levels_have_written_nothing code b is_thread first classes c acts run k t s w p v last here word carries there doomed =
+    none_doomed code b is_thread first classes c acts run k t s w here p v last word carries there doomed
+
+pub undone_sections_have_written_nothing : {S : Type 0} (code : Code S) → UndoneSectionsHaveWrittenNothing code
+undone_sections_have_written_nothing code b is_thread first classes c acts run k j t s w seen p th here stands undoing whole later low word carries =
+    none_carries code b is_thread first classes c acts run k t s w here j seen p th stands undoing whole later low word carries

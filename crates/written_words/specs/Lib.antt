@@ -1,0 +1,5 @@
+pub mod Writers
+pub mod Tags
+pub mod Written
+pub mod Undone
+pub mod Known
