@@ -11,7 +11,7 @@ use Rattle.fixed_objects.specs.declared.Opening.{Opening}
 use Rattle.fixed_objects.specs.Fixed.{fixed_header}
 use Rattle.fixed_objects.specs.Opening.{opening_state}
 use Rattle.heap_words.specs.declared.areas.Area.{Area}
-use Rattle.heap_words.specs.Words.{pack_header, class_word, class_state}
+use Rattle.heap_words.specs.Words.{tag_of, pack_header, class_word, class_state}
 use Rattle.plain_words.specs.Opening.{opening_words}
 use Rattle.opening_law.specs.Laws.{StandFor}
 use Rattle.opening_law.proofs.OpeningLemmas.{own_range, own_threads, is_inside, stand_for}
@@ -26,8 +26,8 @@ use Rattle.run_layout.specs.Layout.{ObjectsLieApart, free_place, object_end}
 use Rattle.run_bits.specs.Bits.{BeginsInBits}
 use Rattle.start_words.specs.Starts.{IsThreadObject, start_word_of, IsStarted, StartWordsSay, BeginsWithStarts}
 use Rattle.kept_cores.specs.KeptCores.{IsBegunRun}
-use Rattle.opening_cores.specs.Openings.{opening_core, CanBegin, OpeningsBeginRuns, OpeningsAreOrdinary}
-use Rattle.opening_cores.proofs.PlaceLemmas.{Fixed, fixed_of, ends, header_word, monitor_word, start_word, lie_apart, empty_from, word_low, started_is, started_main}
+use Rattle.opening_cores.specs.Openings.{opening_core, CanBegin, OpeningsBeginRuns, OpeningsAreOrdinary, OpeningsHaveNoTags}
+use Rattle.opening_cores.proofs.PlaceLemmas.{Fixed, fixed_of, ends, header_word, monitor_word, start_word, lie_apart, empty_from, word_low, untagged, started_is, started_main}
 
 module _ {S : Type 0} (is_thread : ℕ → Bool) (b : Bounds) (opening : Opening) (can : CanBegin is_thread b opening) (l : S) where
   abbrev core : Core S
@@ -186,3 +186,9 @@ openings_begin_runs code is_thread b opening can l c acts is leads = begins_so i
 
 pub openings_are_ordinary : {S : Type 0} (code : Code S) → OpeningsAreOrdinary code
 openings_are_ordinary code is_thread b opening can l = is_ordinary is_thread b opening can l code
+
+pub openings_have_no_tags : {S : Type 0} → OpeningsHaveNoTags S
+openings_have_no_tags is_thread b opening can l p word =
+    let x = object is_thread b opening can l word.r word.o word.there in
+    ap (λ at. tag_of (opening_words opening (Area.Object at))) word.place
+    ∙ untagged opening b.limits is_thread can.place can.ranges can.threads word.r word.i x.object x.found (subst (λ (m : Object). word.i < m.words) (sym x.is) word.low)

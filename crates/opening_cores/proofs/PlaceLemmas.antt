@@ -14,7 +14,7 @@ use Rattle.fixed_objects.specs.declared.Opening.{Opening}
 use Rattle.fixed_objects.specs.Fixed.{fixed_at, fixed_header, fixed_start}
 use Rattle.fixed_objects.specs.Opening.{StartsMain}
 use Rattle.heap_words.specs.declared.areas.Area.{Area}
-use Rattle.heap_words.specs.Words.{pack, pack_header}
+use Rattle.heap_words.specs.Words.{pack, pack_header, tag_of}
 use Rattle.plain_words.specs.Opening.{EndsBelow, HasPlace, lies_over, object_over, word_behind, word_over, first_value, opening_words}
 use Rattle.opening_law.specs.Laws.{HasRanges, TellsThreads}
 use Rattle.opening_law.proofs.PlaceLemmas.{all_found, passes, is_over}
@@ -29,6 +29,10 @@ packed_alone v = omega arith
 header_low : (c n : ℕ) → c < 2 ^ 32 → n < 2 ^ 32 → pack_header c n < 2 ^ 64
 unfolding pack_header
 header_low c n class size = omega (arith, class, size)
+
+no_tag : (v : ℕ) → v < 2 ^ 32 → tag_of (pack v 0) ≡ 0
+unfolding tag_of pack
+no_tag v low = omega (arith, low)
 
 below_or_not : (j k : ℕ) → (j < k) ⊎ (k ≤ j)
 below_or_not j k = elim (leb_tells (1 + j) k) [ inl h ↦ inl (omega (arith, h.1)) | inr h ↦ inr (omega (arith, h.1)) ]
@@ -168,6 +172,15 @@ module _ (opening : Opening) (limits : Limits) (is_thread : ℕ → Bool) (place
           let over = over_by at o found in
           subst (λ v. v < 2 ^ 64) (sym (ap (word_over 0 at) found))
           (behind_low o (all_found HasRanges (lies_over at) opening.objects o ranges found) (at - o.reference) (within at o.reference (length o.words) over.0 over.1))
+
+  -- no section has written a word of an object
+  pub untagged : (r i : ℕ) (o : FixedObject) → fixed_at opening.objects r ≡ Some o → i < length o.words → tag_of (words (Area.Object (r + 2 + i))) ≡ 0
+  untagged r i o found inside =
+      ap tag_of (word_at opening limits is_thread place ranges threads r o found (r + 2 + i) (2 + i) (omega arith) (under (length o.words) inside) ∙ behind_word o (2 + i) i refl)
+      ∙ no_tag (first_value o i) (value_low o (own_range opening limits is_thread place ranges threads r o found) i inside)
+    where
+      under : (n : ℕ) → i < n → 2 + i < 2 + n
+      under n inside = omega (arith, inside)
 
   -- ---- start words
 

@@ -5,12 +5,15 @@ use Rattle.op_core.specs.ThreadCode.{Code}
 use Rattle.op_core.specs.OrdinaryState.{set_at}
 use Rattle.fixed_objects.specs.declared.Opening.{Opening}
 use Rattle.fixed_objects.specs.Opening.{opening_state, StartsMain}
+use Rattle.heap_words.specs.declared.areas.Area.{Area}
+use Rattle.heap_words.specs.Words.{tag_of}
 use Rattle.plain_words.specs.Opening.{HasPlace, opening_words}
 use Rattle.thread_automaton.specs.declared.Bounds.{Bounds}
 use Rattle.thread_automaton.specs.ThreadState.{first_state}
 use Rattle.core_runs.specs.Cores.{Core}
 use Rattle.core_runs.specs.Acts.{Act, ActFrom}
 use Rattle.core_runs.specs.Reading.{ordinary}
+use Rattle.run_layout.specs.Layout.{IsWordPlace}
 use Rattle.opening_law.specs.Laws.{HasRanges, TellsThreads}
 use Rattle.kept_cores.specs.KeptCores.{IsBegunRun}
 
@@ -46,3 +49,8 @@ OpeningsBeginRuns {S} code = (is_thread : ℕ → Bool) (b : Bounds) (opening : 
 abbrev pub OpeningsAreOrdinary : {S : Type 0} → Code S → Type 0
 OpeningsAreOrdinary {S} code = (is_thread : ℕ → Bool) (b : Bounds) (opening : Opening) → CanBegin is_thread b opening
     → (l : S) → ordinary code is_thread (opening_core opening l) ≡ opening_state opening l
+
+-- and no section has written a word of an object there
+abbrev pub OpeningsHaveNoTags : Type 0 → Type 0
+OpeningsHaveNoTags S = (is_thread : ℕ → Bool) (b : Bounds) (opening : Opening) → CanBegin is_thread b opening
+    → (l : S) (p : ℕ) → IsWordPlace is_thread (opening_core opening l).objects p → tag_of ((opening_core opening l).words (Area.Object p)) ≡ 0

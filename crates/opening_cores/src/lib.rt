@@ -3,7 +3,7 @@
 //! Each function does nothing: its contract is the law.
 #![tactic(auto)]
 
-ghost use Rattle.opening_cores.specs.Openings.{OpeningsBeginRuns, OpeningsAreOrdinary};
+ghost use Rattle.opening_cores.specs.Openings.{OpeningsBeginRuns, OpeningsAreOrdinary, OpeningsHaveNoTags};
 
 use op_core::ThreadCode;
 
@@ -16,4 +16,9 @@ pub fn openings_begin_runs<C: ThreadCode>()
 /// The words of an opening, with main's thread at its first local state, stand for the ordinary state of the opening.
 pub fn openings_are_ordinary<C: ThreadCode>()
     ensures { OpeningsAreOrdinary C.code }
+{}
+
+/// No section has written a word of an object of an opening.
+pub fn openings_have_no_tags<C: ThreadCode>()
+    ensures { OpeningsHaveNoTags C.State }
 {}
