@@ -1,5 +1,5 @@
 -- Words after an undoing.
-use Rattle.std.proofs.Common.{◌≡◌, ℕ, suc, ◌+◌, ◌-◌, ◌<◌, ◌≤◌, Bool, None, Some, List, [], ◌∷◌, length, refl, sym, ◌∙◌, ap, subst, arith}
+use Rattle.std.proofs.Common.{◌≡◌, inl, inr, ℕ, zero, suc, ◌+◌, ◌-◌, ◌<◌, ◌≤◌, Bool, None, Some, List, [], ◌∷◌, length, take, refl, sym, ◌∙◌, ap, subst, arith}
 use Rattle.std.specs.Prelude.{slice_get}
 use Rattle.op_core.specs.ThreadCode.{Code}
 use Rattle.heap_words.specs.Words.{tag_of, tag_section, tag_level}
@@ -11,9 +11,9 @@ use Rattle.thread_automaton.specs.declared.Attempt.TheVariants.{Undoing}
 use Rattle.thread_automaton.specs.ThreadState.{ThreadState}
 use Rattle.core_runs.specs.Cores.{Core}
 use Rattle.core_runs.specs.Acts.{Act, did, mover}
-use Rattle.core_runs.specs.Revoked.{IsDoomed}
+use Rattle.core_runs.specs.Revoked.{levels_from, IsDoomed}
 use Rattle.level_runs.specs.LevelRun.{In, IsDoomedAt}
-use Rattle.level_runs.proofs.LevelLemmas.{Since, since, keeps_on, is_gone}
+use Rattle.level_runs.proofs.LevelLemmas.{RevokedBefore, revoked_before, open_since, Since, since, keeps_on, is_gone}
 use Rattle.section_laws.specs.Runs.{IsRun}
 use Rattle.section_levels.specs.Levels.{levels_in, revoked_in}
 use Rattle.section_levels.proofs.LevelLemmas.{runs_in_levels, doomed_at}
@@ -22,13 +22,20 @@ use Rattle.noted_words.specs.Noted.{heap_of}
 use Rattle.noted_words.proofs.TagLemmas.{section_of_none}
 use Rattle.written_words.specs.Writers.{AreLevelsOf, writers}
 use Rattle.written_words.specs.Tags.{IsWrittenRun, TagSays}
-use Rattle.written_words.specs.Undone.{UndoneLevelsHaveWrittenNothing, UndoneSectionsHaveWrittenNothing}
+use Rattle.written_words.specs.Undone.{UndoneLevelsAreInNoWriter, UndoneLevelsHaveWrittenNothing, UndoneSectionsHaveWrittenNothing}
+use Rattle.written_words.proofs.LevelLemmas.{opened_before}
 use Rattle.written_words.proofs.PlaceLemmas.{of_thread}
 use Rattle.written_words.proofs.TagLemmas.{of_section}
 use Rattle.written_words.proofs.RunLemmas.{written_at}
 use Rattle.written_words.proofs.OpenLemmas.{open_at}
 use Rattle.section_levels.specs.Levels.{IsLevelledRun}
 use Rattle.written_words.proofs.GoneLemmas as gone
+
+-- the first levels are levels
+in_levels : (n v : ℕ) (levels : List ℕ) → In v (take n levels) → In v levels
+in_levels zero v levels there = absurd there
+in_levels (suc n) v [] there = absurd there
+in_levels (suc n) v (x ∷ levels) there = elim there [ inl here ↦ inl here | inr more ↦ inr (in_levels n v levels more) ]
 
 module _ {S : Type 0} (code : Code S) (b : Bounds) (is_thread : ℕ → Bool) (first : S) (classes : ℕ) (c : ℕ → Core S) (acts : List Act) (run : IsWrittenRun code b is_thread first classes c acts) where
   ran : IsRun code b c acts
@@ -82,6 +89,56 @@ module _ {S : Type 0} (code : Code S) (b : Bounds) (is_thread : ℕ → Bool) (f
             no is = cc
         by_since (is_gone none) = none (subst (In v) (sym (gone.here_is code b first classes c acts run.tagged.monitors.levelled (suc k) (gone.within code b first classes c acts run.tagged.monitors.levelled k t s w here) t)) open_then)
 
+    -- ---- the level and those further inside
+
+    module _ (seen : ℕ) (th : ThreadState S) (stands : (c k).threads t ≡ Some th) (undoing : th.attempt ≡ Undoing seen) (v : ℕ) (inside : In v (levels_from (revoke_of seen) ((c k).levels t))) where
+      before : RevokedBefore (levels_in c acts t) (revoked_in c acts t) (runs_in_levels code b first classes c acts run.tagged.monitors.levelled t).act (runs_in_levels code b first classes c acts run.tagged.monitors.levelled t).is_run k (gone.level code b first classes c acts run.tagged.monitors.levelled k t s w here)
+      before = revoked_before (levels_in c acts t) (revoked_in c acts t) (runs_in_levels code b first classes c acts run.tagged.monitors.levelled t).act (runs_in_levels code b first classes c acts run.tagged.monitors.levelled t).is_run k (gone.level code b first classes c acts run.tagged.monitors.levelled k t s w here) (gone.leaves code b first classes c acts run.tagged.monitors.levelled k t s w here).1
+
+      abbrev doomed_there : IsDoomedAt (levels_in c acts t) (runs_in_levels code b first classes c acts run.tagged.monitors.levelled t).act v
+      doomed_there = (
+        before.place,
+        (gone.level code b first classes c acts run.tagged.monitors.levelled k t s w here),
+        before.act_is,
+        subst (λ l. In v (levels_from (gone.level code b first classes c acts run.tagged.monitors.levelled k t s w here) l)) before.stays
+            (subst (λ l. In v (levels_from (gone.level code b first classes c acts run.tagged.monitors.levelled k t s w here) l)) (sym (gone.here_is code b first classes c acts run.tagged.monitors.levelled k (gone.up code b first classes c acts run.tagged.monitors.levelled k t s w here) t))
+            (subst (λ n. In v (levels_from n ((c k).levels t))) (sym (gone.undone_level code b first classes c acts run.tagged.monitors.levelled k t s w here seen th stands undoing)) inside)),
+      )
+
+      was_open : In v ((c k).levels t)
+      was_open = in_levels (suc (length ((c k).levels t)) - revoke_of seen) v ((c k).levels t) inside
+
+      in_none : (j p : ℕ) → k < j → j ≤ length acts → In v ((writers c acts j).word p) → ⊥
+      in_none j p later low there = by_since (since (levels_in c acts t) (revoked_in c acts t) (runs_in_levels code b first classes c acts run.tagged.monitors.levelled t).act
+          (runs_in_levels code b first classes c acts run.tagged.monitors.levelled t).is_run v doomed_there (k - before.place) (suc k) (sum k before.place before.earlier))
+        where
+          sum : (k m : ℕ) → m < k → suc k ≡ (k - m) + suc m
+          sum k m low = omega (arith, low)
+
+          own : mover (slice_get acts v) ≡ t
+          own = (of_thread c acts t s v ((c k).levels t) (gone.levels_are code b first classes c acts run.tagged.monitors.levelled k t s w here) was_open).0
+
+          now : In v ((c j).levels t)
+          now = subst (λ n. In v ((c j).levels n)) own ((open_at code b is_thread first classes c acts run j low).word p v there (gone.doomed_of code b first classes c acts run.tagged.monitors.levelled t v doomed_there))
+
+          next : (v k : ℕ) → v < k → v < suc k
+          next v k low = omega (arith, low)
+
+          from : (k j : ℕ) → k < j → suc k ≤ j
+          from k j later = omega (arith, later)
+
+          open_then : In v (levels_in c acts t (suc k))
+          open_then = open_since (levels_in c acts t) (revoked_in c acts t) (runs_in_levels code b first classes c acts run.tagged.monitors.levelled t).act
+              (runs_in_levels code b first classes c acts run.tagged.monitors.levelled t).is_run v j (suc k) (next v k (opened_before code b first classes c acts run.tagged.monitors.levelled k t v (gone.up code b first classes c acts run.tagged.monitors.levelled k t s w here) was_open)) (from k j later)
+              (subst (In v) (sym (gone.here_is code b first classes c acts run.tagged.monitors.levelled j low t)) now)
+
+          by_since : Since (levels_in c acts t) (revoked_in c acts t) (runs_in_levels code b first classes c acts run.tagged.monitors.levelled t).act (runs_in_levels code b first classes c acts run.tagged.monitors.levelled t).is_run v doomed_there (suc k) → ⊥
+          by_since (keeps_on some stays) = no (sym (gone.leaves code b first classes c acts run.tagged.monitors.levelled k t s w here).2 ∙ some)
+            where
+              no : {n : ℕ} → None ≡ Some n → ⊥
+              no is = cc
+          by_since (is_gone none) = none open_then
+
     -- ---- where it undoes the section as a whole
 
     none_carries : (j seen p : ℕ) (th : ThreadState S) → (c k).threads t ≡ Some th → th.attempt ≡ Undoing seen → revoke_of seen ≡ 1 → k < j → j ≤ length acts → IsWordPlace is_thread (c j).objects p
@@ -105,3 +162,7 @@ undone_levels_have_written_nothing code b is_thread first classes c acts run k t
 pub undone_sections_have_written_nothing : {S : Type 0} (code : Code S) → UndoneSectionsHaveWrittenNothing code
 undone_sections_have_written_nothing code b is_thread first classes c acts run k j t s w seen p th here stands undoing whole later low word carries =
     none_carries code b is_thread first classes c acts run k t s w here j seen p th stands undoing whole later low word carries
+
+pub undone_levels_are_in_no_writer : {S : Type 0} (code : Code S) → UndoneLevelsAreInNoWriter code
+undone_levels_are_in_no_writer code b is_thread first classes c acts run k j t s w seen p v th here stands undoing inside later low there =
+    in_none code b is_thread first classes c acts run k t s w here seen th stands undoing v inside j p later low there
