@@ -122,11 +122,16 @@ module _ {S : Type 0} (code : Code S) (b : Bounds) (first : S) (classes : ℕ) (
         no some = omega (arith, some)
     own_writer u (p ∷ levels) (q ∷ writer) some are more its = one_thread c acts (sections_open_once code b c acts ran) t u s p q levels writer are its
 
+    -- it is undone to the level to which the thread saw it revoked
+    pub undone_level : (seen : ℕ) (th : ThreadState S) → (c k).threads t ≡ Some th → th.attempt ≡ Undoing seen → level ≡ revoke_of seen
+    undone_level seen th stands undoing = undoes.level
+        ∙ ap revoke_of (ap seen_word (sym undoes.undoing ∙ ap (λ (x : ThreadState S). x.attempt) (same_Some undoes.th th (sym undoes.stands ∙ stands)) ∙ undoing))
+
     -- ---- where it undoes the section as a whole
 
     module _ (seen : ℕ) (th : ThreadState S) (stands : (c k).threads t ≡ Some th) (undoing : th.attempt ≡ Undoing seen) (whole : revoke_of seen ≡ 1) where
       one : level ≡ 1
-      one = undoes.level ∙ ap revoke_of (ap seen_word (sym undoes.undoing ∙ ap (λ (x : ThreadState S). x.attempt) (same_Some undoes.th th (sym undoes.stands ∙ stands)) ∙ undoing)) ∙ whole
+      one = undone_level seen th stands undoing ∙ whole
 
       pub found : (q : ℕ) × (slice_get ((c k).levels t) (length ((c k).levels t) - 1) ≡ Some q)
       found = outermost_place ((c k).levels t) some_open

@@ -144,7 +144,7 @@ module _ {S : Type 0} (c : ℕ → Core S) (acts : List Act) where
       empty [] none = refl
       empty (p ∷ levels) none = cc
 
-  -- and those behind it are further out
+  -- and those after it are further out
   pub behind_at : (t s i v q : ℕ) (levels : List ℕ) → AreLevelsOf c acts t s levels → slice_get levels i ≡ Some v → (j : ℕ) → i < j → slice_get levels j ≡ Some q → In q ((c v).levels t)
   behind_at t s i v q [] are is j later also = cc
   behind_at t s i v q (p ∷ levels) are is zero later also = absurd (no i later)

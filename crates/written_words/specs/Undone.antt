@@ -19,15 +19,15 @@ use Rattle.thread_automaton.specs.NextMove.{word_place}
 use Rattle.thread_automaton.specs.Told.{advanced, told}
 use Rattle.core_runs.specs.Cores.{Core}
 use Rattle.core_runs.specs.Acts.{Act, did, mover}
-use Rattle.core_runs.specs.Revoked.{IsDoomed}
+use Rattle.core_runs.specs.Revoked.{levels_from, IsDoomed}
 use Rattle.level_runs.specs.LevelRun.{In}
 use Rattle.run_layout.specs.Layout.{IsWordPlace}
 use Rattle.noted_words.specs.Noted.{heap_of}
 use Rattle.written_words.specs.Writers.{writers}
 use Rattle.written_words.specs.Tags.{IsWrittenRun}
 
--- A level in the writer of a word that is revoked, then or later, is open still: to undo it puts back each word that it has
--- written.
+-- Where a level is in the writer of a word, and is revoked, then or later, it is open still: each word that was written in it is
+-- put back before it is marked as undone.
 abbrev pub DoomedWritersAreOpen : {S : Type 0} → Code S → Type 0
 DoomedWritersAreOpen {S} code = (b : Bounds) (is_thread : ℕ → Bool) (first : S) (classes : ℕ) (c : ℕ → Core S) (acts : List Act) → IsWrittenRun code b is_thread first classes c acts
     → (k p v : ℕ) → k ≤ length acts → In v ((writers c acts k).word p) → IsDoomed c acts v → In v ((c k).levels (mover (slice_get acts v)))
@@ -44,6 +44,12 @@ ObservedLevelsStay {S} code = (b : Bounds) (is_thread : ℕ → Bool) (first : S
     → In v ((writers c acts k).word p) → mover (slice_get acts v) ≢ t → IsDoomed c acts v → ⊥
 
 -- ---- after an undoing
+
+-- Once a thread has marked its section as undone to a level, neither that level nor one further inside is in the writer of a word.
+abbrev pub UndoneLevelsAreInNoWriter : {S : Type 0} → Code S → Type 0
+UndoneLevelsAreInNoWriter {S} code = (b : Bounds) (is_thread : ℕ → Bool) (first : S) (classes : ℕ) (c : ℕ → Core S) (acts : List Act) → IsWrittenRun code b is_thread first classes c acts
+    → (k j t s w seen p v : ℕ) (th : ThreadState S) → slice_get acts k ≡ Some (did t (MarkUndone s w) Done) → (c k).threads t ≡ Some th → th.attempt ≡ Undoing seen → In v (levels_from (revoke_of seen) ((c k).levels t))
+    → k < j → j ≤ length acts → In v ((writers c acts j).word p) → ⊥
 
 -- Where a run ends with an act that marks a level of section s as undone, no word that carries s was written in a level that is
 -- revoked.

@@ -6,7 +6,7 @@
 ghost use Rattle.written_words.specs.Writers.{OpenLevelsAreOfSections};
 ghost use Rattle.written_words.specs.Tags.{TagsSayWriters, OldTagsSayWriters};
 ghost use Rattle.written_words.specs.Written.{LevelsWriteWhatIsLogged, CarriedWordsAreLogged};
-ghost use Rattle.written_words.specs.Undone.{DoomedWritersAreOpen, ObservedLevelsStay, UndoneLevelsHaveWrittenNothing, UndoneSectionsHaveWrittenNothing, TagsNameNoUndoneSection};
+ghost use Rattle.written_words.specs.Undone.{DoomedWritersAreOpen, ObservedLevelsStay, UndoneLevelsAreInNoWriter, UndoneLevelsHaveWrittenNothing, UndoneSectionsHaveWrittenNothing, TagsNameNoUndoneSection};
 ghost use Rattle.written_words.specs.Known.{KnownSectionsAreOthers};
 
 use op_core::ThreadCode;
@@ -23,7 +23,7 @@ pub fn tags_say_writers<C: ThreadCode>()
 {}
 
 /// So has the tag of each old word that a thread has logged; and the section in which it was written is the thread's own, or
-/// committed, or pinned so deep that the word is never undone.
+/// committed, or pinned at least as deep as the word was written.
 pub fn old_tags_say_writers<C: ThreadCode>()
     ensures { OldTagsSayWriters C.code }
 {}
@@ -54,6 +54,12 @@ pub fn doomed_writers_are_open<C: ThreadCode>()
 /// A level in which a word was written that another thread reads or overwrites is never revoked.
 pub fn observed_levels_stay<C: ThreadCode>()
     ensures { ObservedLevelsStay C.code }
+{}
+
+/// Once a thread has undone its section to a level, neither that level nor one further inside is in the writer of a word, then
+/// or later.
+pub fn undone_levels_are_in_no_writer<C: ThreadCode>()
+    ensures { UndoneLevelsAreInNoWriter C.code }
 {}
 
 /// Where a run ends as a level of a section is marked as undone, no word that carries the section was written in a level that
