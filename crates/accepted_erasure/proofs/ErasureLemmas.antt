@@ -36,10 +36,15 @@ use Rattle.sound_priorities.proofs.Whole.{fit_from_start}
 use Rattle.java_cores.proofs.Whole.{core_states_fit}
 use Rattle.sound_priorities.specs.Seen.{IsPriority}
 use Rattle.kept_cores.specs.KeptCores.{CoresAreKept}
+use Rattle.heap_words.specs.declared.areas.Area.{Area}
+use Rattle.heap_words.specs.Words.{tag_of}
+use Rattle.run_layout.specs.Layout.{IsWordPlace}
+use Rattle.grounded_monitors.proofs.RunLemmas.{free_runs_hold_monitors, free_runs_fit_objects}
+use Rattle.written_words.specs.Tags.{IsWrittenRun}
 use Rattle.core_law.specs.Erasure.{is_left_out, Erasure}
 use Rattle.core_law.proofs.ErasureLemmas.{runs_are_erased}
 use Rattle.opening_cores.specs.Openings.{CanBegin, opening_core}
-use Rattle.opening_cores.proofs.OpeningLemmas.{openings_begin_runs, openings_are_ordinary}
+use Rattle.opening_cores.proofs.OpeningLemmas.{openings_begin_runs, openings_are_ordinary, openings_have_no_tags}
 use Rattle.word_runs.specs.Laws.{AreActs}
 use Rattle.word_runs.proofs.TurnLemmas.{turns_are_acts}
 use Rattle.accepted_erasure.specs.Runs.{IsProgramRun, IsErasedRun, ProgramRunsAreErased, ProgramTurnsAreErased}
@@ -110,11 +115,23 @@ module _ (us : List ClassUnit) (order : List ℕ) (sound : IsSound us order) (ro
       by_cut false left = left_is StartsInRange (is_left_out c acts) erasure.entries 0 (λ u. 0) ((fit_from_start us order sound room main is_main).events (kept_by (is_left_out c acts) erasure.entries) (erasure.last, execution))
           k t (Start r p) (Number n) at (ap (is_left_out c acts) (omega arith) ∙ left)
 
+  written : IsWrittenRun java_code b (IsThread us) (first_state us main) classes c acts
+  written = record {
+    tagged = record {
+      monitors = free_runs_hold_monitors java_code b (IsThread us) (first_state us main) classes c acts kept.run;
+      laid = free_runs_fit_objects java_code b (IsThread us) (first_state us main) classes c acts kept.run;
+      sections = run.sections;
+    };
+    begins = subst (λ (x : Core Local). (p : ℕ) → IsWordPlace (IsThread us) x.objects p → tag_of (x.words (Area.Object p)) ≡ 0) (sym run.begins)
+        (openings_have_no_tags (IsThread us) b (opening_of us) can (first_state us main));
+  }
+
   erased : IsErasedRun us main b classes c acts
   erased = record {
     erasure = erasure;
     execution = execution;
     priorities = in_range;
+    written = written;
     kept = kept;
   }
 

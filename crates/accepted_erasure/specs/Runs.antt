@@ -19,6 +19,7 @@ use Rattle.core_runs.specs.Acts.{Act, ActFrom}
 use Rattle.soundness_senses.specs.Runs.{IsThread, MayStand, ObjectFits, RunsLocal}
 use Rattle.sound_priorities.specs.Seen.{IsPriority}
 use Rattle.kept_cores.specs.KeptCores.{CoresAreKept}
+use Rattle.written_words.specs.Tags.{IsWrittenRun}
 use Rattle.core_law.specs.Erasure.{is_left_out, Erasure}
 use Rattle.opening_cores.specs.Openings.{opening_core}
 use Rattle.word_runs.specs.WordTurns.{Progress, word_turns}
@@ -39,6 +40,8 @@ pub record IsErasedRun (us : List ClassUnit) (main : MethodId) (b : Bounds) (cla
   pub execution : Leads java_code (start_of_program us main) (kept_by (is_left_out c acts) erasure.entries) erasure.last
   -- each thread that is started in the run, in a section that is undone or in none, has a priority from 1 to 10
   pub priorities : (k t r p n : ℕ) → slice_get erasure.entries k ≡ Some (event t (Start r p) (Number n)) → IsPriority p
+  -- tags say who wrote the words of objects, so the laws of `written_words` hold of the run
+  pub written : IsWrittenRun java_code b (IsThread us) (first_state us main) classes c acts
   pub kept : CoresAreKept java_code b (IsThread us) (first_state us main) classes c acts (RunsLocal us) (MayStand us) (ObjectFits us)
 
 -- so it is with each run of the program
