@@ -37,8 +37,8 @@ pub record Sense (P : Type 0) : Type 1 where
   -- an operation may be wanted, and a reply may come
   pub may_want : P → Op → Type 0
   pub may_come : P → Op → Reply → Type 0
-  -- A thread that has this of a text may want the operation, and after each reply that may come, however much more is known
-  -- by then, the last argument holds: of what the thread then has of a text, of what is known and of the reply.
+  -- An operation may be wanted by a thread that has this of a text, and whatever reply may come, however much more is known
+  -- by then, it comes to the last argument, which is asked what the thread then has of a text.
   pub steps : Option Making → P → Op → (Option Making → P → Reply → Type 0) → Type 0
 
 -- the steps of a thread that keeps nothing of the texts that it makes apart
