@@ -6,4 +6,5 @@ mod Outcomes
 mod StepsTexts
 mod StartsTexts
 mod Values
+mod Readings
 pub mod Whole

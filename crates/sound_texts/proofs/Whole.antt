@@ -1,5 +1,5 @@
 -- Texts in executions of a sound program.
-use Rattle.std.proofs.Common.{◌≡◌, ◌≢◌, ◌⊎◌, inl, inr, ◌≤◌, ◌^◌, ℕ, Option, None, Some, List, [], ◌∷◌, refl, sym, subst, ◌∙◌}
+use Rattle.std.proofs.Common.{◌≡◌, ◌≢◌, ◌⊎◌, inl, inr, ◌≤◌, ◌^◌, ℕ, Option, None, Some, List, [], ◌∷◌, refl, sym, ap, subst, ◌∙◌}
 use Rattle.builtin_world.specs.declared.word.TheConstants.{STRING_UNITS}
 use Rattle.code_decode.specs.declared.code.ClassUnit.{ClassUnit}
 use Rattle.link_types.specs.declared.operands.MethodId.{MethodId}
@@ -17,9 +17,10 @@ use Rattle.op_core.specs.Execution.{Comes, Leads}
 use Rattle.op_core.specs.OrdinaryState.{Object, OrdinaryState, live}
 use Rattle.op_core.specs.OrdinaryStep.{MayAnswer, after}
 use Rattle.op_core.specs.ThreadCode.{quiet_steps}
-use Rattle.java_rows.specs.Plan.{Plan}
+use Rattle.java_rows.specs.Plan.{Plan, want}
+use Rattle.java_rows.specs.Texts.{reads_text}
 use Rattle.java_rows.specs.Start.{start_of_program}
-use Rattle.text_stages.specs.Reading.{followed_op}
+use Rattle.text_stages.specs.Reading.{Memory, followed, followed_op}
 use Rattle.sound_priorities.proofs.StepFacts.{objects_stay}
 use Rattle.java_rows.specs.Thread.{Local, java_code}
 use Rattle.soundness_senses.specs.Senses.{Making, filling, naming}
@@ -48,6 +49,7 @@ use Rattle.sound_texts.proofs.StringClasses.{is_string}
 use Rattle.sound_texts.proofs.Values.{both_same, literal_text_same, made_text_same, replies_same}
 use Rattle.sound_texts.proofs.TextsKnow.{texts_know}
 use Rattle.sound_texts.proofs.StepsTexts.{come, plan_wants, quiet_local, step_seen}
+use Rattle.sound_texts.proofs.Readings.{followed_next, part_wanted}
 use Rattle.sound_texts.proofs.StartsTexts.{is_literal, start_seen}
 
 module _ (us : List ClassUnit) (order : List ℕ) (sound : IsSound us order) (room : first_free (program_names us) ≤ 2 ^ 32) where
@@ -198,6 +200,11 @@ module _ (us : List ClassUnit) (order : List ℕ) (sound : IsSound us order) (ro
       values = λ s last es r reached leads string has. let now = reached_seen start s reached.0 kept first reached.1 in text_is_value s last es r now.0 now.1 leads string has;
       replies = λ s last es r t op reply k same reached leads string has reads answered.
           let now = reached_seen start s reached.0 kept first reached.1 in replies_are s last es r t op reply k same now.0 now.1 leads string has reads answered;
+      reading = λ s last es r t n op reply k next reached leads string has within e answered.
+          let now = reached_seen start s reached.0 kept first reached.1 in
+          let m : Memory = memory_of s in
+          sym (replies_are s last es r t op reply next (want op next) now.0 now.1 leads string has (part_wanted us s r k op next n within e) answered)
+          ∙ (ap (followed m) (sym e) ∙ sym (followed_next m n (reads_text us r k)));
       read = λ s t n from l r reached begun steps e string. read_there s (reached_seen start s reached.0 kept first reached.1).1 t n from l r begun steps e string;
       printed = λ s t n from l a reached begun steps e. printed_there s (reached_seen start s reached.0 kept first reached.1).1 t n from l a begun steps e;
       line = λ s last es t n from l a reached leads begun steps e i.

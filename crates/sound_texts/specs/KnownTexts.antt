@@ -48,7 +48,7 @@ pub record IsNamed (us : List ClassUnit) (h : Seen us) (r : ℕ) : Type 0 where
 abbrev pub HasText : (us : List ClassUnit) → Seen us → ℕ → Object → Type 0
 HasText us h r o = (fixed_of us r ≡ Some o) ⊎ (h.units r ≢ 0)
 
--- an object that isn't the array of a text, and if it is a String, has one
+-- an object that isn't the array of a text; if it is a String, it has a text
 pub record IsPlain (us : List ClassUnit) (h : Seen us) (r : ℕ) : Type 0 where
   pub object : Object
   pub there : h.known.objects r ≡ Some object

@@ -1,5 +1,5 @@
 -- Texts of Strings in executions.
-use Rattle.std.specs.Prelude.{◌≡◌, ◌≢◌, ◌⊎◌, ◌<◌, ℕ, true, Some, List, length}
+use Rattle.std.specs.Prelude.{◌≡◌, ◌≢◌, ◌⊎◌, ◌<◌, ℕ, suc, true, Some, List, length}
 use Rattle.builtin_world.specs.declared.word.TheConstants.{STRING_UNITS}
 use Rattle.code_decode.specs.declared.code.ClassUnit.{ClassUnit}
 use Rattle.link_rules.specs.FixedObjects.{string_object}
@@ -9,7 +9,8 @@ use Rattle.op_core.specs.declared.Op.{Op}
 use Rattle.op_core.specs.declared.Op.TheVariants.{ClassOf, Read, Print}
 use Rattle.op_core.specs.declared.Reply.{Reply}
 use Rattle.op_core.specs.OrdinaryStep.{MayAnswer}
-use Rattle.java_rows.specs.Plan.{Plan}
+use Rattle.java_rows.specs.Plan.{Plan, want}
+use Rattle.java_rows.specs.Texts.{reads_text}
 use Rattle.op_core.specs.declared.Line.TheVariants as lines
 use Rattle.op_core.specs.declared.Next.TheVariants.{Want}
 use Rattle.op_core.specs.Execution.{IsReached, Leads}
@@ -17,7 +18,7 @@ use Rattle.op_core.specs.ThreadCode.{quiet_steps}
 use Rattle.op_core.specs.OrdinaryState.{Object, OrdinaryState, live}
 use Rattle.java_rows.specs.Thread.{Local, java_code}
 use Rattle.std.specs.Option.{option_map_or}
-use Rattle.text_stages.specs.Reading.{Memory, followed_op, text_in}
+use Rattle.text_stages.specs.Reading.{Memory, followed_by, followed_op, steps_of_text, text_in}
 use Rattle.sound_texts.specs.KnownTexts.{IsString}
 
 -- a String that is there
@@ -73,6 +74,9 @@ pub record TextsStay (us : List ClassUnit) (start : OrdinaryState Local) : Type 
   -- whenever a part of such a text is read, the reply is what the text was before
   pub replies : (s last : OrdinaryState Local) (es : List Event) (r t : ℕ) (op : Op) (reply : Reply) (k : Reply → Plan) (same : Plan) → IsReached java_code start s → Leads java_code s es last → IsStringAt us s r → IsLiteral us r ⊎ (array_in s r ≢ 0)
       → ReadsText s r op → MayAnswer last t op reply → followed_op (memory_of s) op k same ≡ k reply
+  -- and a thread that reads such a text goes on, whatever others do, as in a memory that stays: there it comes to the text
+  pub reading : (s last : OrdinaryState Local) (es : List Event) (r t n : ℕ) (op : Op) (reply : Reply) (k : List ℕ → Plan) (next : Reply → Plan) → IsReached java_code start s → Leads java_code s es last → IsStringAt us s r → IsLiteral us r ⊎ (array_in s r ≢ 0)
+      → n < steps_of_text (memory_of s) r → followed_by (memory_of s) n (reads_text us r k) ≡ want op next → MayAnswer last t op reply → next reply ≡ followed_by (memory_of s) (suc n) (reads_text us r k)
   pub read : (s : OrdinaryState Local) (t n : ℕ) (from l : Local) (r : ℕ) → IsReached java_code start s → s.threads t ≡ live from → quiet_steps java_code n from ≡ Some l → java_code.next l ≡ Want (Read r STRING_UNITS) → IsStringAt us s r
       → IsLiteral us r ⊎ (array_in s r ≢ 0)
   pub printed : (s : OrdinaryState Local) (t n : ℕ) (from l : Local) (a : ℕ) → IsReached java_code start s → s.threads t ≡ live from → quiet_steps java_code n from ≡ Some l → java_code.next l ≡ Want (Print (lines.Made a)) → IsArrayOfOne us s a
