@@ -2,7 +2,7 @@
 use Rattle.std.specs.Prelude.{slice_get, if◌then◌else◌}
 use Rattle.std.specs.List.{AllByRecursion}
 use Rattle.std.proofs.lemmas.Option.{same_Some}
-use Rattle.std.proofs.Common.{sym, refl, ◌≡◌, Bool, true, false, true≢false, zero, ◌+◌, Some, [], ◌∷◌, ◌++◌, ◌<◌, ◌≤◌, ◌^◌, ℕ, suc, List, length, ◌∙◌, ap, subst, arith}
+use Rattle.std.proofs.Common.{None, Option, sym, refl, ◌≡◌, Bool, true, false, true≢false, zero, ◌+◌, Some, [], ◌∷◌, ◌++◌, ◌<◌, ◌≤◌, ◌^◌, ℕ, suc, List, length, ◌∙◌, ap, subst, arith}
 use Rattle.code_decode.specs.declared.code.ClassUnit.{ClassUnit}
 use Rattle.link_types.specs.declared.operands.MethodId.{MethodId}
 use Rattle.link_rules.specs.Classes.{classes_of}
@@ -16,7 +16,7 @@ use Rattle.op_core.specs.declared.Op.{Op}
 use Rattle.op_core.specs.declared.Op.TheVariants.{Start}
 use Rattle.op_core.specs.declared.Reply.{Reply}
 use Rattle.op_core.specs.declared.Reply.TheVariants.{Number}
-use Rattle.op_core.specs.OrdinaryState.{set_at}
+use Rattle.op_core.specs.OrdinaryState.{Object, set_at}
 use Rattle.op_core.specs.InPlaceList.{Entry, silent, event, put_back, give_back, go_back, unseen}
 use Rattle.op_core.specs.CleanCut.{kept_from, kept_by}
 use Rattle.op_core.specs.Execution.{Leads, printed}
@@ -41,13 +41,16 @@ use Rattle.heap_words.specs.Words.{tag_of}
 use Rattle.run_layout.specs.Layout.{IsWordPlace}
 use Rattle.grounded_monitors.proofs.RunLemmas.{free_runs_hold_monitors, free_runs_fit_objects}
 use Rattle.written_words.specs.Tags.{IsWrittenRun}
+use Rattle.plain_words.specs.Opening.{opening_words}
+use Rattle.section_laws.specs.InRuns.{ActsOf}
+use Rattle.section_laws.proofs.ActLemmas.{runs_have_acts}
 use Rattle.core_law.specs.Erasure.{is_left_out, Erasure}
 use Rattle.core_law.proofs.ErasureLemmas.{runs_are_erased}
 use Rattle.opening_cores.specs.Openings.{CanBegin, opening_core}
 use Rattle.opening_cores.proofs.OpeningLemmas.{openings_begin_runs, openings_are_ordinary, openings_have_no_tags}
 use Rattle.word_runs.specs.Laws.{AreActs}
 use Rattle.word_runs.proofs.TurnLemmas.{turns_are_acts}
-use Rattle.accepted_erasure.specs.Runs.{IsProgramRun, IsErasedRun, ProgramRunsAreErased, ProgramTurnsAreErased}
+use Rattle.accepted_erasure.specs.Runs.{IsProgramRun, IsErasedRun, ProgramRunsAreErased, ProgramTurnsAreErased, main_birth, IsErasedList, ProgramListsAreErased}
 use Rattle.accepted_erasure.proofs.OpeningLemmas.{can_begin}
 
 -- ---- events that are left
@@ -154,9 +157,31 @@ program_turns_are_erased us order main sound room is_main b first heap sections 
     all : (classes : ℕ) × IsErasedRun us main b classes are.cores last.state.acts
     all = program_runs_are_erased us order main sound room is_main b are.cores last.state.acts (record { first = first; heap = heap; sections = sections; begins = are.begins; leads = are.leads })
 
+pub program_lists_are_erased : (us : List ClassUnit) (order : List ℕ) (main : MethodId) → IsSound us order → first_free (program_names us) ≤ 2 ^ 32 → IsMainMethod us main → ProgramListsAreErased us main
+program_lists_are_erased us order main sound room is_main b places heap sections first main_is run is_run handed = record {
+  cores = acts.cores;
+  acts = acts.acts;
+  steps = acts.steps;
+  classes = all.0;
+  erased = all.1;
+}
+  where
+    objects : ℕ → Option Object
+    objects = (opening_core (opening_of us) (first_state us main)).objects
+
+    acts : ActsOf java_code b first (main_birth us) (opening_words (opening_of us)) objects run
+    acts = runs_have_acts java_code b first (main_birth us) (opening_words (opening_of us)) run is_run (omega arith) handed objects
+
+    begins : acts.cores 0 ≡ opening_core (opening_of us) (first_state us main)
+    begins = acts.starts ∙ ap (λ th. record (opening_core (opening_of us) (first_state us main)) { threads = set_at (λ t. None) 1 (Some th) }) main_is
+
+    all : (classes : ℕ) × IsErasedRun us main b classes acts.cores acts.acts
+    all = program_runs_are_erased us order main sound room is_main b acts.cores acts.acts (record { first = places; heap = heap; sections = sections; begins = begins; leads = acts.is_run.leads })
+
 pub accepted_are_erased : (p : Accepted) (files : List (List ℕ)) (name : List ℕ) → AreUnits p.units → (link_rules p.units).Hold → HasOrder p.units → IsProgram files name p → (first : ℕ) → first ≡ first_free (program_names p.units) → first < 2 ^ 30
-    → ProgramRunsAreErased p.units p.main × ProgramTurnsAreErased p.units p.main
+    → ProgramRunsAreErased p.units p.main × ProgramTurnsAreErased p.units p.main × ProgramListsAreErased p.units p.main
 accepted_are_erased p files name decoded hold order is first value small =
     let (places, sound, main) = is_sound p files name decoded hold order is in
     let below : first ≤ 2 ^ 32 = omega arith in
-    (program_runs_are_erased p.units places p.main sound (subst (λ n. n ≤ 2 ^ 32) value below) main, program_turns_are_erased p.units places p.main sound (subst (λ n. n ≤ 2 ^ 32) value below) main)
+    let room : first_free (program_names p.units) ≤ 2 ^ 32 = subst (λ n. n ≤ 2 ^ 32) value below in
+    (program_runs_are_erased p.units places p.main sound room main, program_turns_are_erased p.units places p.main sound room main, program_lists_are_erased p.units places p.main sound room main)

@@ -1,8 +1,8 @@
 -- Runs of a program on shared words, with sections that are undone, from the words with which the program begins.
-use Rattle.std.specs.Prelude.{◌≡◌, ◌<◌, ◌≤◌, ◌+◌, ◌^◌, ℕ, Bool, Some, List, length, slice_get}
+use Rattle.std.specs.Prelude.{◌≡◌, ◌<◌, ◌≤◌, ◌+◌, ◌^◌, ℕ, Bool, Some, List, [], length, slice_get}
 use Rattle.code_decode.specs.declared.code.ClassUnit.{ClassUnit}
 use Rattle.link_types.specs.declared.operands.MethodId.{MethodId}
-use Rattle.link_rules.specs.FixedObjects.{first_free}
+use Rattle.link_rules.specs.FixedObjects.{first_free, main_thread_object}
 use Rattle.link_rules.specs.Names.{program_names}
 use Rattle.op_core.specs.declared.Op.TheVariants.{Start}
 use Rattle.op_core.specs.declared.Reply.TheVariants.{Number}
@@ -14,8 +14,15 @@ use Rattle.java_rows.specs.Thread.{Local, java_code, first_state}
 use Rattle.schedules.specs.Schedule.{Rest}
 use Rattle.schedules.specs.Run.{Run, Follows}
 use Rattle.thread_automaton.specs.declared.Bounds.{Bounds}
+use Rattle.plain_words.specs.Opening.{opening_words}
+use Rattle.thread_automaton.specs.ThreadState.{ThreadState}
+use Rattle.thread_automaton.specs.ThreadState.{first_state as thread_at}
+use Rattle.core_runs.specs.WordRuns.{RunEntry}
+use Rattle.core_runs.specs.OwnParts.{Birth}
 use Rattle.core_runs.specs.Cores.{Core}
 use Rattle.core_runs.specs.Acts.{Act, ActFrom}
+use Rattle.section_laws.specs.Runs.{IsRunFrom}
+use Rattle.section_laws.specs.InRuns.{with_entries, BeginAsHandedOut}
 use Rattle.soundness_senses.specs.Runs.{IsThread, MayStand, ObjectFits, RunsLocal}
 use Rattle.sound_priorities.specs.Seen.{IsPriority}
 use Rattle.kept_cores.specs.KeptCores.{CoresAreKept}
@@ -38,7 +45,7 @@ pub record IsProgramRun (us : List ClassUnit) (main : MethodId) (b : Bounds) (c 
 pub record IsErasedRun (us : List ClassUnit) (main : MethodId) (b : Bounds) (classes : ℕ) (c : ℕ → Core Local) (acts : List Act) : Type 0 where
   pub erasure : Erasure java_code b (IsThread us) c acts
   pub execution : Leads java_code (start_of_program us main) (kept_by (is_left_out c acts) erasure.entries) erasure.last
-  -- each thread that is started in the run, in a section that is undone or in none, has a priority from 1 to 10
+  -- each thread that is started in the run has a priority from 1 to 10
   pub priorities : (k t r p n : ℕ) → slice_get erasure.entries k ≡ Some (event t (Start r p) (Number n)) → IsPriority p
   -- tags say who wrote the words of objects, so the laws of `written_words` hold of the run
   pub written : IsWrittenRun java_code b (IsThread us) (first_state us main) classes c acts
@@ -62,3 +69,23 @@ abbrev pub ProgramTurnsAreErased : List ClassUnit → MethodId → Type 0
 ProgramTurnsAreErased us main = (b : Bounds) → b.first ≡ first_free (program_names us) → b.first + b.limits.heap ≤ 2 ^ 32 → b.limits.sections < 2 ^ 24
     → (rest : Rest) (keeps : Bool) (threads : List ℕ) (last : Run (Progress Local)) → Follows (word_turns java_code b) (begun_with (opening_core (opening_of us) (first_state us main)) rest keeps) threads last
     → AreErasedTurns us main b last.state
+
+-- The same of a run that is kept as one list of steps, the newest first: it has acts whose steps these are, in their order, and
+-- what is left of them is an execution of the program.
+pub record IsErasedList (us : List ClassUnit) (main : MethodId) (b : Bounds) (run : List RunEntry) : Type 0 where
+  pub cores : ℕ → Core Local
+  pub acts : List Act
+  pub steps : with_entries acts [] ≡ run
+  pub classes : ℕ
+  pub erased : IsErasedRun us main b classes cores acts
+
+-- main's thread
+abbrev pub main_birth : List ClassUnit → Birth
+main_birth us = record { number = 1; object = main_thread_object (program_names us); priority = 5 }
+
+-- so it is with each such run of the program, in whatever order the steps of its threads come, where each thread that is handed
+-- out begins as the code says (`BeginAsHandedOut` of `section_laws`)
+abbrev pub ProgramListsAreErased : List ClassUnit → MethodId → Type 0
+ProgramListsAreErased us main = (b : Bounds) → b.first ≡ first_free (program_names us) → b.first + b.limits.heap ≤ 2 ^ 32 → b.limits.sections < 2 ^ 24
+    → (first : Birth → ThreadState Local) → first (main_birth us) ≡ thread_at 1 5 (first_state us main) → (run : List RunEntry)
+    → IsRunFrom java_code b first (main_birth us) (opening_words (opening_of us)) run → BeginAsHandedOut java_code b first (main_birth us) run → IsErasedList us main b run

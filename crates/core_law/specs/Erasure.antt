@@ -39,7 +39,7 @@ pub record Erasure {S : Type 0} (code : Code S) (b : Bounds) (is_thread : ℕ �
   -- its classes, the threads that were started, that wait, and that have ended and how, are those of the run's last ordinary
   -- state,
   pub kept : IsKeptOf code (ordinary code is_thread (c 0)) entries (is_left_out c acts) (ordinary code is_thread (c (length acts))) last
-  -- and so are its lines, which those events print
+  -- and so are its lines, of which those events print the ones that the run adds
   pub lines : (c (length acts)).lines ≡ (c 0).lines ++ printed (kept_by (is_left_out c acts) entries)
   -- nothing is left out that told other threads what can't be taken back,
   pub lasting : (k t : ℕ) (op : Op) (reply : Reply) → slice_get entries k ≡ Some (event t op reply) → is_left_out c acts k ≡ true → CanBeCut op reply

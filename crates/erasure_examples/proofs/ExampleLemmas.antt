@@ -32,7 +32,7 @@ use Rattle.opening_cores.specs.Openings.{opening_core}
 use Rattle.opening_law.proofs.OpeningLemmas.{own_threads, is_inside}
 use Rattle.opening_cores.proofs.PlaceLemmas.{fixed_of, ends}
 use Rattle.opening_cores.proofs.OpeningLemmas.{openings_begin_runs, openings_are_ordinary}
-use Rattle.erasure_examples.specs.Example.{steps, first, is_thread, opening, bounds, order, acts, cores, MarksUndone, ARunIsErased}
+use Rattle.erasure_examples.specs.Example.{steps, first, is_thread, opening, bounds, order, acts, cores, MarksUndone, WritesInside, ARunIsErased}
 use Rattle.word_runs.proofs.MoveLemmas.{leads_in, begins_in}
 use Rattle.erasure_examples.proofs.PremiseLemmas.{orderly, start, all_execute, names_there, keep_start_words, makes_none, can_begin}
 
@@ -121,6 +121,14 @@ outermost_undone : MarksUndone acts 35
 unfolding section_word state_of owner_of priority_of pinned_of depth_of revoke_of with_state with_pinned with_depth with_revoke pack_tag tag_section tag_level pack value_of tag_of pack_header wait_word wait_object wait_state class_word class_state class_thread monitor_word monitor_section monitor_depth monitor_level
 outermost_undone = (_, refl)
 
+written : WritesInside acts 14
+unfolding section_word state_of owner_of priority_of pinned_of depth_of revoke_of with_state with_pinned with_depth with_revoke pack_tag tag_section tag_level pack value_of tag_of pack_header wait_word wait_object wait_state class_word class_state class_thread monitor_word monitor_section monitor_depth monitor_level
+written = (_, refl)
+
+left_out : is_left_out cores acts 14 ≡ true
+unfolding section_word state_of owner_of priority_of pinned_of depth_of revoke_of with_state with_pinned with_depth with_revoke pack_tag tag_section tag_level pack value_of tag_of pack_header wait_word wait_object wait_state class_word class_state class_thread monitor_word monitor_section monitor_depth monitor_level
+left_out = refl
+
 lines_are : (cores (length acts)).lines ≡ Empty ∷ []
 unfolding section_word state_of owner_of priority_of pinned_of depth_of revoke_of with_state with_pinned with_depth with_revoke pack_tag tag_section tag_level pack value_of tag_of pack_header wait_word wait_object wait_state class_word class_state class_thread monitor_word monitor_section monitor_depth monitor_level
 lines_are = refl
@@ -142,6 +150,8 @@ a_run_is_erased = record {
   inner_undone = inner_undone;
   outermost = outermost;
   outermost_undone = outermost_undone;
+  written = written;
+  left_out = left_out;
   lines = lines_are;
   erasure = erasure;
   some = some_left;

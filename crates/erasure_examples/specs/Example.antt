@@ -1,5 +1,5 @@
 -- A run of two threads in which first an inner level is undone and then the outermost one.
-use Rattle.std.specs.Prelude.{◌≡◌, ◌≢◌, ℕ, zero, suc, nat_eq, Bool, None, Some, List, [], ◌∷◌, length, slice_get}
+use Rattle.std.specs.Prelude.{◌≡◌, ◌≢◌, ℕ, zero, suc, nat_eq, Bool, true, None, Some, List, [], ◌∷◌, length, slice_get}
 use Rattle.op_core.specs.declared.Line.TheVariants.{Empty}
 use Rattle.op_core.specs.declared.Op.TheVariants.{Write, Enter, Exit, Print, Start, End}
 use Rattle.op_core.specs.declared.script.ScriptStep.{ScriptStep}
@@ -10,8 +10,9 @@ use Rattle.op_core.specs.ScriptLaws.{script_at}
 use Rattle.fixed_objects.specs.declared.FixedObject.{FixedObject}
 use Rattle.fixed_objects.specs.declared.Opening.{Opening}
 use Rattle.fixed_objects.specs.Fixed.{main_thread_at}
+use Rattle.heap_words.specs.Words.{pack_tag, pack}
 use Rattle.step_port.specs.declared.answer.StepAnswer.TheVariants.{Done}
-use Rattle.step_port.specs.declared.step.Step.TheVariants.{MarkUndone}
+use Rattle.step_port.specs.declared.step.Step.TheVariants.{SwapWord, MarkUndone}
 use Rattle.thread_automaton.specs.declared.Bounds.{Bounds}
 use Rattle.core_runs.specs.Cores.{Core}
 use Rattle.core_runs.specs.Acts.{Act, did}
@@ -85,8 +86,12 @@ cores = core_in script_code bounds 0 (opening_core opening first) order
 abbrev pub MarksUndone : List Act → ℕ → Type 0
 MarksUndone acts k = (word : ℕ) × (slice_get acts k ≡ Some (did 1 (MarkUndone 1 word) Done))
 
--- The run meets all that the erasure law asks; level 2 and then level 1 of a section are revoked and undone in it; and what is
--- left of it is an execution that isn't empty, since a line is printed.
+-- act number k writes the word in section 1, at level 2
+abbrev pub WritesInside : List Act → ℕ → Type 0
+WritesInside acts k = (old : ℕ) × (slice_get acts k ≡ Some (did 1 (SwapWord 19 old (pack 7 (pack_tag 1 2))) Done))
+
+-- The run meets all that the erasure law asks; level 2 and then level 1 of a section are revoked and undone in it; the write that
+-- was undone is left out; and what is left of the run is an execution that isn't empty, since a line is printed.
 pub record ARunIsErased : Type 0 where
   pub free : IsFreeRun script_code bounds is_thread first 4 cores acts
   pub count : length acts ≡ 66
@@ -94,6 +99,8 @@ pub record ARunIsErased : Type 0 where
   pub inner_undone : MarksUndone acts 21
   pub outermost : RevokesAt acts 32 1 1
   pub outermost_undone : MarksUndone acts 35
+  pub written : WritesInside acts 14
+  pub left_out : is_left_out cores acts 14 ≡ true
   pub lines : (cores (length acts)).lines ≡ Empty ∷ []
   pub erasure : Erasure script_code bounds is_thread cores acts
   pub some : kept_by (is_left_out cores acts) erasure.entries ≢ []

@@ -29,7 +29,7 @@ UndoneLevelsHoldNoMonitor {S} code = (b : Bounds) (first : S) (classes : ℕ) (c
     → (k t s n r : ℕ) → MarksUndone c acts k t s n → IsObject (c (suc k)) r → monitor_section ((c (suc k)).words (Area.Object (r + 1))) ≡ s
     → monitor_level ((c (suc k)).words (Area.Object (r + 1))) < n
 
--- And after the outermost level was undone the section holds none, at any place.
+-- And after the outermost level was undone the section holds none, at any later place.
 abbrev pub UndoneSectionsHoldNoMonitor : {S : Type 0} → Code S → Type 0
 UndoneSectionsHoldNoMonitor {S} code = (b : Bounds) (first : S) (classes : ℕ) (c : ℕ → Core S) (acts : List Act) → IsMonitorRun code b first classes c acts
     → (k j t s r : ℕ) → MarksUndone c acts k t s 1 → k < j → j ≤ length acts → IsObject (c j) r → monitor_section ((c j).words (Area.Object (r + 1))) ≡ s → ⊥

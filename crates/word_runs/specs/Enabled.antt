@@ -1,4 +1,4 @@
--- Which threads can go on (JLS 17.1, 17.2).
+-- Which threads can go on (JLS 12.4.2, 17.1, 17.2).
 use Rattle.std.specs.Prelude.{ℕ, ◌+◌, ◌&&◌, ◌||◌, Bool, false, true, not, nat_eq}
 use Rattle.op_core.specs.declared.Next.{Next}
 use Rattle.op_core.specs.declared.Next.TheVariants.{Silent, Want, Ended}
@@ -40,7 +40,8 @@ is_alive w r = not (nat_eq (w (Object (r + 3))) 0) && nat_eq (w (Thread (value_o
 abbrev pub is_of_another : ℕ → ℕ → Bool
 is_of_another t word = nat_eq (class_state word) 1 && not (nat_eq (class_thread word) t)
 
--- another thread has to go on before what the thread wants can be done
+-- Another thread has to go on before what the thread wants can be done. No code that goes in order is at its end while its thread
+-- isn't over.
 abbrev pub has_to_wait_for : {S : Type 0} → Words → ThreadState S → Next → Bool
 has_to_wait_for w th (Want (Enter r)) = is_monitor_busy w th r
 has_to_wait_for w th (Want (Rewake r)) = is_waiting w th.number || is_monitor_busy w th r

@@ -9,8 +9,8 @@ use Rattle.core_runs.specs.Cores.{Core}
 use Rattle.core_runs.specs.Acts.{ActFrom}
 use Rattle.word_runs.specs.WordTurns.{Progress, word_turns}
 
--- a turn comes to one thing, and only live threads are enabled: so a schedule has one run from each core (`runs_have_one_end` of
--- `schedules`)
+-- a turn comes to one thing, and only live threads are enabled: so a schedule has at most one run from each core
+-- (`runs_have_one_end` of `schedules`)
 abbrev pub WordTurnsAreDeterminate : {S : Type 0} → Code S → Type 0
 WordTurnsAreDeterminate code = (b : Bounds) → IsDeterminate (word_turns code b)
 

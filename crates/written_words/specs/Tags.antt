@@ -29,8 +29,8 @@ abbrev pub TagsSayWriters : {S : Type 0} → Code S → Type 0
 TagsSayWriters {S} code = (b : Bounds) (is_thread : ℕ → Bool) (first : S) (classes : ℕ) (c : ℕ → Core S) (acts : List Act) → IsWrittenRun code b is_thread first classes c acts
     → (k p : ℕ) → k ≤ length acts → IsWordPlace is_thread (c k).objects p → TagSays c acts ((writers c acts k).word p) (tag_of (heap_of (c k).words p))
 
--- An old word that thread t has logged, which has this writer and this tag. To put it back is safe: the section in which it was
--- written is the thread's own, or committed, or pinned at least as deep as the tag says.
+-- An old word that thread t has logged, which has this writer and this tag. To put it back is safe: no section wrote it, or the
+-- thread itself opened the one that did, or it is committed, or pinned at least as deep as the tag says.
 pub record OldWordSays {S : Type 0} (c : ℕ → Core S) (acts : List Act) (words : Words) (t : ℕ) (writer : List ℕ) (tag : ℕ) : Type 0 where
   pub says : TagSays c acts writer tag
   pub safe : AreLevelsOf c acts t (tag_section tag) writer ⊎ IsCommittedOrPinned (words (Section (tag_section tag))) (tag_level tag)

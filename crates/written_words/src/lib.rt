@@ -22,8 +22,8 @@ pub fn tags_say_writers<C: ThreadCode>()
     ensures { TagsSayWriters C.code }
 {}
 
-/// So has the tag of each old word that a thread has logged; and the section in which it was written is the thread's own, or
-/// committed, or pinned at least as deep as the word was written.
+/// So has the tag of each old word that a thread has logged; and no section wrote it, or the thread itself opened the one that
+/// did, or that is committed, or pinned at least as deep as the word was written.
 pub fn old_tags_say_writers<C: ThreadCode>()
     ensures { OldTagsSayWriters C.code }
 {}
@@ -46,12 +46,13 @@ pub fn carried_words_are_logged<C: ThreadCode>()
     ensures { CarriedWordsAreLogged C.code }
 {}
 
-/// A level in the writer of a word that is revoked, then or later, is open still.
+/// A level that is in the writer of a word and is revoked, then or later, is open still.
 pub fn doomed_writers_are_open<C: ThreadCode>()
     ensures { DoomedWritersAreOpen C.code }
 {}
 
-/// A level in which a word was written that another thread reads or overwrites is never revoked.
+/// Where another thread reads or overwrites a word, no level in which the value there was written is revoked, neither before
+/// nor later.
 pub fn observed_levels_stay<C: ThreadCode>()
     ensures { ObservedLevelsStay C.code }
 {}
@@ -62,8 +63,8 @@ pub fn undone_levels_are_in_no_writer<C: ThreadCode>()
     ensures { UndoneLevelsAreInNoWriter C.code }
 {}
 
-/// Where a run ends as a level of a section is marked as undone, no word that carries the section was written in a level that
-/// is revoked.
+/// Where a run ends as a level of a section is marked as undone, no word that carries the section has a value that was written
+/// in a level that is revoked.
 pub fn undone_levels_have_written_nothing<C: ThreadCode>()
     ensures { UndoneLevelsHaveWrittenNothing C.code }
 {}

@@ -16,3 +16,8 @@ pub returns-clause-turns : goal.returns-clause-turns
 returns-clause-turns c files name is =
     (accepted_are_erased c.args.program.now files name (subst AreUnits c.world-world.ensures c.is_linked.ensures.decoded) (subst (λ us. (link_rules us).Hold) c.world-world.ensures c.is_linked.ensures.linked) (subst HasOrder c.world-world.ensures c.is_linked.ensures.order) is
     c.first_free-first.result (c.first_free-first.ensures.value ∙ ap (λ us. first_free (program_names us)) c.world-world.ensures) c.first_free-first.ensures.small).1
+
+pub returns-clause-lists : goal.returns-clause-lists
+returns-clause-lists c files name is =
+    (accepted_are_erased c.args.program.now files name (subst AreUnits c.world-world.ensures c.is_linked.ensures.decoded) (subst (λ us. (link_rules us).Hold) c.world-world.ensures c.is_linked.ensures.linked) (subst HasOrder c.world-world.ensures c.is_linked.ensures.order) is
+    c.first_free-first.result (c.first_free-first.ensures.value ∙ ap (λ us. first_free (program_names us)) c.world-world.ensures) c.first_free-first.ensures.small).2
