@@ -1,5 +1,5 @@
 -- The acts of a run as one list.
-use Rattle.std.proofs.Common.{◌≡◌, ◌≢◌, inl, inr, ℕ, zero, suc, ◌+◌, ◌<◌, ◌≤◌, Bool, true, false, true≢false, None, Some, List, [], ◌∷◌, ◌++◌, length, take, nat_eq, refl, sym, ◌∙◌, ap, subst, arith}
+use Rattle.std.proofs.Common.{◌≡◌, ◌≢◌, inl, inr, ℕ, zero, suc, ◌+◌, ◌<◌, ◌≤◌, Bool, true, false, true≢false, Option, None, Some, List, [], ◌∷◌, ◌++◌, length, take, nat_eq, refl, sym, ◌∙◌, ap, subst, arith}
 use Rattle.std.specs.Prelude.{Contains, nat_le, if◌then◌else◌}
 use Rattle.std.proofs.lemmas.Grind.{common_steps}
 use Rattle.std.proofs.lemmas.Bool.Decides.{nat_tests, leb_tells}
@@ -7,7 +7,7 @@ use Rattle.std.proofs.lemmas.List.{append_assoc}
 use Rattle.std.proofs.lemmas.Bool.{eq-eqb, ne_eqb}
 use Rattle.std.proofs.lemmas.Option.{same_Some}
 use Rattle.op_core.specs.ThreadCode.{Code, quiet_step}
-use Rattle.op_core.specs.OrdinaryState.{set_at}
+use Rattle.op_core.specs.OrdinaryState.{Object, set_at}
 use Rattle.op_core.proofs.PointwiseLemmas.{set_at-hit, set_at-other, same_or_other}
 use Rattle.heap_words.specs.declared.areas.Area.TheVariants.{Control, Section}
 use Rattle.step_port.specs.declared.step.Step.{Step}
@@ -23,7 +23,7 @@ use Rattle.core_runs.specs.OwnParts.{IsCoreRun, is_beside, Quietly, MakesOwn, Ow
 use Rattle.core_runs.specs.Cores.{Core, threads_by, core_after}
 use Rattle.core_runs.specs.Acts.{Act, quiet, did, beside, ActAt, ActFrom}
 use Rattle.section_laws.specs.Runs.{BeginsAt, IsRun, IsBeginning}
-use Rattle.section_laws.specs.InRuns.{StandsBehind, with_entry, with_entries, IsPlaceIn, ActsOf, BeginsSo, BeginAsHandedOut, RunsHaveActs}
+use Rattle.section_laws.specs.InRuns.{StandsBehind, first_core, with_entry, with_entries, IsPlaceIn, ActsOf, BeginsSo, BeginAsHandedOut, RunsHaveActs}
 use Rattle.section_laws.proofs.ClaimLemmas.{none_some}
 use Rattle.section_laws.proofs.FactLemmas.{Threads, each}
 use Rattle.section_laws.proofs.CoreRunLemmas.{in_front, behind_front, none_there, begun_later, equal, differ, sub_run}
@@ -106,7 +106,11 @@ module _ {S : Type 0} (code : Code S) (b : Bounds) where
   from_more c [] k x leads at = (subst (λ n. ActAt code b c n x) (omega arith) at, tt)
   from_more c (y ∷ acts) k x leads at = (leads.0, from_more c acts (suc k) x leads.1 (subst (λ n. ActAt code b c n x) (omega arith) at))
 
-  module _ (first : Birth → ThreadState S) (main : Birth) (w : Words) where
+  module _ (first : Birth → ThreadState S) (main : Birth) (w : Words) (objects : ℕ → Option Object) where
+    -- the core in which the run begins
+    abbrev beginning : Core S
+    beginning = first_core first main w objects
+
     abbrev Stands : List RunEntry → ℕ → ThreadState S → Type 0
     Stands run t th = StandsBehind code b first main run t th
 
@@ -115,7 +119,7 @@ module _ {S : Type 0} (code : Code S) (b : Bounds) where
       cores : ℕ → Core S
       acts : List Act
       is_run : IsRun code b cores acts
-      starts : (cores 0).words ≡ w
+      starts : cores 0 ≡ beginning
       steps : with_entries acts [] ≡ run
       words : (cores (length acts)).words ≡ words_by w run
       stands : (t : ℕ) (th : ThreadState S) → (cores (length acts)).threads t ≡ Some th → Stands run t th
@@ -144,7 +148,7 @@ module _ {S : Type 0} (code : Code S) (b : Bounds) where
           leads = from_more c p.acts 0 x (from_moved p.cores c p.acts 0 (λ j up within. sym (up_to p.cores n d j (omega (arith, within)))) p.is_run.leads)
               (subst (λ m. ActAt code b c m x) (omega arith) (at c (up_to p.cores n d n (omega arith)) (behind_all p.cores n d)));
         };
-        starts = ap (λ z. z.words) (up_to p.cores n d 0 (omega arith)) ∙ p.starts;
+        starts = up_to p.cores n d 0 (omega arith) ∙ p.starts;
         steps = entries_more p.acts x [] ∙ ap (with_entry x) p.steps ∙ entry;
         words = ap (λ z. z.words) ends ∙ words;
         stands = λ t th is. stands t th (ap (λ z. z.threads t) (sym ends) ∙ is);
@@ -440,16 +444,6 @@ module _ {S : Type 0} (code : Code S) (b : Bounds) where
       path : Path run
       threads : (x : Birth) → Contains (births main run) x → (last path).threads x.number ≡ Some (ys x.number)
 
-    abbrev first_core : Core S
-    first_core = record {
-      words = w;
-      threads = set_at (λ t. None) main.number (Some (first main));
-      starting = λ t. None;
-      objects = λ r. None;
-      levels = λ t. [];
-      lines = [];
-    }
-
     module _ (none : (s : ℕ) → w (Section s) ≡ 0) (fresh : (birth : Birth) → BeginsAt (first birth)) (low : main.number ≤ w (Control 4)) where
       abbrev IsOne : List RunEntry → Type 0
       IsOne run = IsCoreRun code b first main w run
@@ -457,20 +451,20 @@ module _ {S : Type 0} (code : Code S) (b : Bounds) where
       shorter : (e : RunEntry) (run : List RunEntry) → IsOne (e ∷ run) → IsOne run
       shorter e run so = sub_run code b first main w none fresh e run so
 
-      first_stands : (t : ℕ) (th : ThreadState S) → first_core.threads t ≡ Some th → Stands [] t th
+      first_stands : (t : ℕ) (th : ThreadState S) → beginning.threads t ≡ Some th → Stands [] t th
       first_stands t = each (Stands [] t) (λ u. None) main.number (first main) t
           (λ own. record { birth = main; begun = (0, omega arith, refl); number = sym own; last = first main; own = refl; moves = 0; quietly = refl })
           (λ uh other at. none_some uh at)
 
-      first_begun : (x : Birth) → Contains (births main []) x → (th : ThreadState S) × (first_core.threads x.number ≡ Some th)
+      first_begun : (x : Birth) → Contains (births main []) x → (th : ThreadState S) × (beginning.threads x.number ≡ Some th)
       first_begun x at = elim (in_front main x [] at) [
-        | inl is ↦ (first main, ap (λ (y : Birth). first_core.threads y.number) (sym is) ∙ set_at-hit (λ t. None) main.number (Some (first main)))
+        | inl is ↦ (first main, ap (λ (y : Birth). beginning.threads y.number) (sym is) ∙ set_at-hit (λ t. None) main.number (Some (first main)))
         | inr rest ↦ none_there x rest
       ]
 
       first_path : Path []
       first_path = record {
-        cores = λ k. first_core;
+        cores = λ k. beginning;
         acts = [];
         is_run = record {
           begins = record {
@@ -484,7 +478,7 @@ module _ {S : Type 0} (code : Code S) (b : Bounds) where
         words = refl;
         stands = first_stands;
         begun = first_begun;
-        places = λ k within. subst (λ xs. IsPlaceIn code b first main w [] (with_entries xs []) first_core) (sym (take_whole [] k (omega arith)))
+        places = λ k within. subst (λ xs. IsPlaceIn code b first main w [] (with_entries xs []) beginning) (sym (take_whole [] k (omega arith)))
             (record { newer = []; parts = refl; words = refl; threads = first_stands; begun = first_begun });
       }
 
@@ -493,7 +487,7 @@ module _ {S : Type 0} (code : Code S) (b : Bounds) where
       first_reached ys owns = record {
         path = first_path;
         threads = λ x at. elim (in_front main x [] at) [
-          | inl is ↦ ap first_core.threads (ap (λ (y : Birth). y.number) (sym is)) ∙ set_at-hit (λ t. None) main.number (Some (first main))
+          | inl is ↦ ap beginning.threads (ap (λ (y : Birth). y.number) (sym is)) ∙ set_at-hit (λ t. None) main.number (Some (first main))
               ∙ ap Some (owns main (0, omega arith, refl)) ∙ ap (λ (y : Birth). Some (ys y.number)) is
           | inr rest ↦ none_there x rest
         ];
@@ -606,11 +600,11 @@ module _ {S : Type 0} (code : Code S) (b : Bounds) where
             | inr at ↦ later at
           ]
 
-      acts_of : (run : List RunEntry) → IsOne run → BeginAsHandedOut code b first main run → ActsOf code b first main w run
+      acts_of : (run : List RunEntry) → IsOne run → BeginAsHandedOut code b first main run → ActsOf code b first main w objects run
       acts_of run so begins =
           let single = (numbers_at code b first main w none fresh low run so).single in
           let r = reached run so begins (chosen run (births main run) so.own) (chosen_own run (births main run) so.own single) in
           record { cores = r.path.cores; acts = r.path.acts; is_run = r.path.is_run; starts = r.path.starts; steps = r.path.steps; places = r.path.places }
 
 pub runs_have_acts : {S : Type 0} (code : Code S) → RunsHaveActs code
-runs_have_acts code b first main w run so low begins = acts_of code b first main w so.sections so.threads low run so.is_run begins
+runs_have_acts code b first main w run so low begins objects = acts_of code b first main w objects so.sections so.threads low run so.is_run begins

@@ -1,7 +1,8 @@
 -- Runs as one list of entries, newest first: how far threads are in them, which acts they have, and the laws of sections
 -- in them.
-use Rattle.std.specs.Prelude.{◌≡◌, ◌≢◌, ◌<◌, ◌≤◌, ℕ, Some, ◌⊎◌, List, [], ◌∷◌, ◌++◌, Contains, length, take, slice_get}
+use Rattle.std.specs.Prelude.{◌≡◌, ◌≢◌, ◌<◌, ◌≤◌, ℕ, Option, None, Some, ◌⊎◌, List, [], ◌∷◌, ◌++◌, Contains, length, take, slice_get}
 use Rattle.op_core.specs.ThreadCode.{Code}
+use Rattle.op_core.specs.OrdinaryState.{Object, set_at}
 use Rattle.heap_words.specs.declared.areas.Area.TheVariants.{Control, Section}
 use Rattle.step_port.specs.declared.answer.StepAnswer.TheVariants.{Done}
 use Rattle.step_port.specs.declared.step.Step.{Step}
@@ -57,14 +58,26 @@ pub record IsPlaceIn {S : Type 0} (code : Code S) (b : Bounds) (first : Birth �
   pub threads : (t : ℕ) (th : ThreadState S) → core.threads t ≡ Some th → StandsBehind code b first main older t th
   pub begun : (x : Birth) → Contains (births main older) x → (th : ThreadState S) × (core.threads x.number ≡ Some th)
 
+-- the core in which a run begins on these words and objects: its first thread is there alone, with no level open, no thread
+-- is started, and nothing is printed
+abbrev pub first_core : {S : Type 0} → (Birth → ThreadState S) → Birth → Words → (ℕ → Option Object) → Core S
+first_core first main w objects = record {
+  words = w;
+  threads = set_at (λ t. None) main.number (Some (first main));
+  starting = λ t. None;
+  objects = objects;
+  levels = λ t. [];
+  lines = [];
+}
+
 -- The acts are the steps of the run, one after another, with the silent moves of the threads between them: after each
--- act words and threads are those after the entries of the acts so far.
+-- act words and threads are those after the entries of the acts so far. The words w and these objects are the first ones.
 pub record ActsOf {S : Type 0} (code : Code S) (b : Bounds) (first : Birth → ThreadState S) (main : Birth)
-    (w : Words) (run : List RunEntry) : Type 0 where
+    (w : Words) (objects : ℕ → Option Object) (run : List RunEntry) : Type 0 where
   pub cores : ℕ → Core S
   pub acts : List Act
   pub is_run : IsRun code b cores acts
-  pub starts : (cores 0).words ≡ w
+  pub starts : cores 0 ≡ first_core first main w objects
   pub steps : with_entries acts [] ≡ run
   pub places : (k : ℕ) → k ≤ length acts → IsPlaceIn code b first main w run (with_entries (take k acts) []) (cores k)
 
@@ -80,11 +93,12 @@ BeginAsHandedOut code b first main [] = Unit {0}
 BeginAsHandedOut code b first main (e ∷ run) =
     BeginAsHandedOut code b first main run × BeginsSo code b first main e run e.made.step
 
--- a run as one list has acts, where the number of the first thread is one of those drawn before it
+-- A run as one list has acts, where the number of the first thread is one of those drawn before it. It has them whatever the
+-- objects are with which it begins.
 abbrev pub RunsHaveActs : {S : Type 0} → Code S → Type 0
 RunsHaveActs {S} code = (b : Bounds) (first : Birth → ThreadState S) (main : Birth) (w : Words) (run : List RunEntry)
     → IsRunFrom code b first main w run → main.number ≤ w (Control 4) → BeginAsHandedOut code b first main run
-    → ActsOf code b first main w run
+    → (objects : ℕ → Option Object) → ActsOf code b first main w objects run
 
 -- ---- the laws of sections
 
