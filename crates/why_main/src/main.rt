@@ -66,7 +66,7 @@ fn load_words<R: Env + AllocGlobal>(rt: &R) -> io::Result<Vec<String>> {
 }
 
 /// Says that the folder failed, or that there is no memory.
-fn show_fault<R: Print>(rt: &R, fault: DirFault) -> io::Result<u8> {
+fn show_fault<R: Eprint>(rt: &R, fault: DirFault) -> io::Result<u8> {
     match fault {
         DirFault::Failed => {
             eprintln!(rt; "read fault")?;
@@ -77,7 +77,7 @@ fn show_fault<R: Print>(rt: &R, fault: DirFault) -> io::Result<u8> {
 }
 
 /// Judges the class files of a folder, as `jrev load` does, and shows what they come to. Returns the exit status.
-fn explain<R: Print + AllocGlobal + Files>(rt: &R, dir: &str, main: &str) -> io::Result<u8> {
+fn explain<R: Print + Eprint + AllocGlobal + Files>(rt: &R, dir: &str, main: &str) -> io::Result<u8> {
     let alloc = rt.alloc();
     let mut classes = FolderDir::new(rt);
     let mut names = match class_names(alloc, &mut classes, dir) {
@@ -116,7 +116,7 @@ fn explain<R: Print + AllocGlobal + Files>(rt: &R, dir: &str, main: &str) -> io:
 }
 
 /// Explains the program that the words of the command line name. Returns the exit status.
-fn run<R: Print + AllocGlobal + Files + Env>(rt: &R) -> io::Result<u8> {
+fn run<R: Print + Eprint + AllocGlobal + Files + Env>(rt: &R) -> io::Result<u8> {
     let words = load_words(rt)?;
     match words_of(rt.alloc(), words.as_slice()) {
         Ok(Request::Load { dir, main }) => explain(rt, dir.as_str(), main.as_str()),
