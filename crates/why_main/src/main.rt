@@ -18,7 +18,7 @@ use op_core::NoMemory;
 use program_accept::{AcceptRefusal, Program, Refusal, accept};
 use program_input::{class_names, read_files};
 use refused::show_refused;
-use std::alloc::Global;
+use std::alloc::{AllocError, Global};
 use std::env;
 use std::io::{self, ErrorKind};
 use std::process::ExitCode;
@@ -76,8 +76,21 @@ fn show_fault<R: Eprint>(rt: &R, fault: DirFault) -> io::Result<u8> {
     }
 }
 
+/// A copy of the bytes of files: judging them takes them, and what is shown is to be of the same bytes.
+fn copy_of(alloc: Global, files: &[Vec<u8>]) -> Result<Vec<Vec<u8>>, AllocError> {
+    let mut copy = Vec::new(alloc);
+    for file in files {
+        copy.push(Vec::from_slice(alloc, file.as_slice())?)?;
+    }
+    Ok(copy)
+}
+
 /// Judges the class files of a folder, as `jrev load` does, and shows what they come to. Returns the exit status.
-fn explain<R: Print + Eprint + AllocGlobal + Files>(rt: &R, dir: &str, main: &str) -> io::Result<u8> {
+fn explain<R: Print + Eprint + AllocGlobal + Files>(
+    rt: &R,
+    dir: &str,
+    main: &str,
+) -> io::Result<u8> {
     let alloc = rt.alloc();
     let mut classes = FolderDir::new(rt);
     let mut names = match class_names(alloc, &mut classes, dir) {
@@ -90,6 +103,7 @@ fn explain<R: Print + Eprint + AllocGlobal + Files>(rt: &R, dir: &str, main: &st
         Err(fault) => return show_fault(rt, fault),
     };
     let count = files.len();
+    let kept = copy_of(alloc, files.as_slice())?;
     let encoded = encoded_text(alloc, main)?;
     match judge(alloc, files, encoded.as_slice()) {
         Ok(Verdict::Accepted(program)) => {
@@ -97,11 +111,7 @@ fn explain<R: Print + Eprint + AllocGlobal + Files>(rt: &R, dir: &str, main: &st
             Ok(0)
         }
         Ok(Verdict::Refused(refusal)) => {
-            let again = match read_files(alloc, &mut classes, dir, names.as_slice()) {
-                Ok(files) => files,
-                Err(fault) => return show_fault(rt, fault),
-            };
-            show_refused(rt, names.as_slice(), again.as_slice(), refusal)?;
+            show_refused(rt, names.as_slice(), kept.as_slice(), refusal)?;
             Ok(3)
         }
         Ok(Verdict::NoMain) => {
