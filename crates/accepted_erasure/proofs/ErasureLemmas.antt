@@ -50,7 +50,7 @@ use Rattle.opening_cores.specs.Openings.{CanBegin, opening_core}
 use Rattle.opening_cores.proofs.OpeningLemmas.{openings_begin_runs, openings_are_ordinary, openings_have_no_tags}
 use Rattle.word_runs.specs.Laws.{AreActs}
 use Rattle.word_runs.proofs.TurnLemmas.{turns_are_acts}
-use Rattle.accepted_erasure.specs.Runs.{IsProgramRun, IsErasedRun, ProgramRunsAreErased, ProgramTurnsAreErased, main_birth, IsErasedList, ProgramListsAreErased}
+use Rattle.accepted_erasure.specs.Runs.{IsProgramRun, IsErasedRun, ProgramRunsAreErased, ProgramTurnsAreErased, main_birth, ProgramListsAreErased}
 use Rattle.accepted_erasure.proofs.OpeningLemmas.{can_begin}
 
 -- ---- events that are left
