@@ -35,7 +35,7 @@ Quietly {S} code b (suc n) x y =
     (z : ThreadState S) × (l : S) × Quietly code b n x z × (next_move code b z ≡ Quiet) × (quiet_step code z.local ≡ Some l)
     × (y ≡ after_quiet z l)
 
--- the thread z makes the step and is then y; a step of the host leaves it as it is
+-- the thread z makes the step and is then y; a step that is made beside the threads leaves it as it is
 abbrev pub MakesOwn : {S : Type 0} → Bool → Code S → Bounds → StepMade → ThreadState S → ThreadState S → Type 0
 MakesOwn true code b m z y = z ≡ y
 MakesOwn false code b m z y = (next_move code b z ≡ Make m.step) × (y ≡ after_answer code b z m.step m.answer)

@@ -70,7 +70,7 @@ GivesQuiet r t th (Some l) end new = (end ≡ ends.Other) × (new ≡ after_sile
 GivesQuiet r t th None end new = (end ≡ ends.Spent Frames) × (new ≡ r)
 
 -- A turn of thread t, which is th, makes this move, comes to this for the schedule, and leads there. A turn that meets a limit
--- leaves all as it is.
+-- leaves all as it is, and so does one of a thread that is over, which no schedule gives.
 abbrev pub GivesBy : {S : Type 0} → Code S → Bounds → Progress S → ℕ → ThreadState S → Move → TurnEnd → Progress S → Type 0
 GivesBy code b r t th Over end new = (end ≡ ends.Blocked) × (new ≡ r)
 GivesBy code b r t th (Stop limit) end new = (end ≡ ends.Spent limit) × (new ≡ r)
