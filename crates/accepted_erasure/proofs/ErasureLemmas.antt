@@ -88,10 +88,10 @@ left_is P cut (unseen ∷ es) k silents all (suc j) t op reply at left = left_is
 
 module _ (us : List ClassUnit) (order : List ℕ) (sound : IsSound us order) (room : first_free (program_names us) ≤ 2 ^ 32) (main : MethodId) (is_main : IsMainMethod us main)
     (b : Bounds) (c : ℕ → Core Local) (acts : List Act) (run : IsProgramRun us main b c acts) where
-  abbrev classes : ℕ
+  abbrev pub classes : ℕ
   classes = suc (length (classes_of us))
 
-  can : CanBegin (IsThread us) b (opening_of us)
+  pub can : CanBegin (IsThread us) b (opening_of us)
   can = can_begin us order sound room main is_main b run.first run.heap (wide b.limits.sections run.sections)
     where
       wide : (n : ℕ) → n < 2 ^ 24 → n < 2 ^ 32
@@ -100,7 +100,7 @@ module _ (us : List ClassUnit) (order : List ℕ) (sound : IsSound us order) (ro
   at_start : ordinary java_code (IsThread us) (c 0) ≡ start_of_program us main
   at_start = ap (ordinary java_code (IsThread us)) run.begins ∙ openings_are_ordinary java_code (IsThread us) b (opening_of us) can (first_state us main)
 
-  kept : CoresAreKept java_code b (IsThread us) (first_state us main) classes c acts (RunsLocal us) (MayStand us) (ObjectFits us)
+  pub kept : CoresAreKept java_code b (IsThread us) (first_state us main) classes c acts (RunsLocal us) (MayStand us) (ObjectFits us)
   kept = core_states_fit us order sound room main is_main b classes c acts (omega arith)
       (openings_begin_runs java_code (IsThread us) b (opening_of us) can (first_state us main) c acts run.begins run.leads) at_start
 
@@ -118,7 +118,7 @@ module _ (us : List ClassUnit) (order : List ℕ) (sound : IsSound us order) (ro
       by_cut false left = left_is StartsInRange (is_left_out c acts) erasure.entries 0 (λ u. 0) ((fit_from_start us order sound room main is_main).events (kept_by (is_left_out c acts) erasure.entries) (erasure.last, execution))
           k t (Start r p) (Number n) at (ap (is_left_out c acts) (omega arith) ∙ left)
 
-  written : IsWrittenRun java_code b (IsThread us) (first_state us main) classes c acts
+  pub written : IsWrittenRun java_code b (IsThread us) (first_state us main) classes c acts
   written = record {
     tagged = record {
       monitors = free_runs_hold_monitors java_code b (IsThread us) (first_state us main) classes c acts kept.run;

@@ -51,10 +51,10 @@ pub told_unborn : {S : Type 0} (code : Code S) (b : Bounds) (th : ThreadState S)
     → ((n r p : ℕ) → step ≢ Split n r p) → told code b th step answer ≢ born
 told_unborn code b th step answer apart is = unborn_unless_split (code.next th.local) step answer _ _ apart is
 
-plain_says : {C S Pass : Type 0} (meant : JThread C → ThreadState S) (code : Code S) (th : ThreadState S) (step : Step) (handed : Pass → Type 0)
-    (r : Turn C Pass) (tells : Told) → tells ≢ born → SaysPlainly th.number th.silents (code.next th.local) r tells → Says meant code th step handed r tells
-plain_says meant code th step handed r born unborn says = absurd (unborn refl)
-plain_says meant code th step handed r tells unborn says = says
+plain_says : {C S Pass : Type 0} (meant : JThread C → ThreadState S) (code : Code S) (b : Bounds) (th : ThreadState S) (step : Step) (handed : Pass → Type 0)
+    (r : Turn C Pass) (tells : Told) → tells ≢ born → SaysPlainly th.number th.silents (code.next th.local) r tells → Says meant code b th step handed r tells
+plain_says meant code b th step handed r born unborn says = absurd (unborn refl)
+plain_says meant code b th step handed r tells unborn says = says
 
 -- the turn of a step that hands nothing out, from what it was made of
 pub step_made : {C S Pass : Type 0} (meant : JThread C → ThreadState S) (code : Code S) (b x : Bounds) (th y behind : ThreadState S) (next : Next)
@@ -74,5 +74,5 @@ step_made {C} {S} meant code b x th y behind next step answer stepped handed r t
       made = made;
       kind = can;
       goes = goes ∙ ap (λ x. after_answer code x y step answer) same ∙ ap (λ y. after_answer code b y step answer) ready;
-      says = plain_says meant code th step handed r (told code b th step answer) (told_unborn code b th step answer apart) plainly;
+      says = plain_says meant code b th step handed r (told code b th step answer) (told_unborn code b th step answer apart) plainly;
     }

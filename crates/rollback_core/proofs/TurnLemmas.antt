@@ -23,7 +23,7 @@ use Rattle.rollback_core.specs.Turn.{Turned, MoveTakesMemory}
 use Rattle.rollback_core.proofs.CountLemmas.{answers_within, quiet_within}
 use Rattle.rollback_core.proofs.MoveLemmas.{undoing_takes_none}
 
-silent_steps_keep : {S : Type 0} (code : Code S) (th : ThreadState S) (l : S) → IsFit code th → IsFit code (after_quiet th l)
+pub silent_steps_keep : {S : Type 0} (code : Code S) (th : ThreadState S) (l : S) → IsFit code th → IsFit code (after_quiet th l)
 silent_steps_keep code th l fits = record {
   attempt = tt;
   kept = record { saves = fits.kept.saves; few = fits.kept.few; levels = fits.kept.levels; most = fits.kept.most; held = fits.kept.held; in_levels = fits.kept.in_levels; waited = fits.kept.waited };

@@ -39,13 +39,14 @@ abbrev pub IsChild : {S : Type 0} → Code S → ThreadState S → Step → Thre
 IsChild code th (Split n r p) child = child ≡ first_state n p (code.child th.local r)
 IsChild code th step child = ⊥
 
--- A started thread is handed out, with what the port hands out.
-pub record HandsOut {C S Pass : Type 0} (meant : JThread C → ThreadState S) (code : Code S) (th : ThreadState S) (step : Step)
+-- A started thread is handed out, which has the same bounds, with what the port hands out.
+pub record HandsOut {C S Pass : Type 0} (meant : JThread C → ThreadState S) (code : Code S) (b : Bounds) (th : ThreadState S) (step : Step)
     (handed : Pass → Type 0) (r : Turn C Pass) : Type 0 where
   pub child : Box (JThread C)
   pub pass : Pass
   pub says : r ≡ Turn.Born child pass
   pub first : IsChild code th step (meant child.value)
+  pub bounds : child.value.own.bounds ≡ b
   pub passed : handed pass
 
 -- What a turn of a thread of this number says when it reports this, except where a thread is handed out.
@@ -58,9 +59,9 @@ SaysPlainly number silents next r (blocked why) = r ≡ Turn.Blocked why
 SaysPlainly number silents next r born = ⊥
 
 -- what a turn of the thread says when it made the step and reports this
-abbrev pub Says : {C S Pass : Type 0} → (JThread C → ThreadState S) → Code S → ThreadState S → Step → (Pass → Type 0) → Turn C Pass → Told → Type 0
-Says meant code th step handed r born = HandsOut meant code th step handed r
-Says meant code th step handed r tells = SaysPlainly th.number th.silents (code.next th.local) r tells
+abbrev pub Says : {C S Pass : Type 0} → (JThread C → ThreadState S) → Code S → Bounds → ThreadState S → Step → (Pass → Type 0) → Turn C Pass → Told → Type 0
+Says meant code b th step handed r born = HandsOut meant code b th step handed r
+Says meant code b th step handed r tells = SaysPlainly th.number th.silents (code.next th.local) r tells
 
 -- The thread th made the step, got this answer, and is then `behind`. `stepped` says that the port made the step with
 -- an answer, `handed` what it handed out with it.
@@ -70,7 +71,7 @@ pub record MadeStep {C S Pass : Type 0} (meant : JThread C → ThreadState S) (c
   pub made : stepped answer
   pub kind : CanAnswer (effect_of step) answer
   pub goes : behind ≡ after_answer code b th step answer
-  pub says : Says meant code th step handed r (told code b th step answer)
+  pub says : Says meant code b th step handed r (told code b th step answer)
 
 -- its silent step was made, and led to this local state
 pub record MadeQuiet {C S Pass : Type 0} (code : Code S) (th behind : ThreadState S) (r : Turn C Pass) : Type 0 where

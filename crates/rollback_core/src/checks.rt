@@ -16,8 +16,8 @@ use section_state::{State, pinned_of, section_parts};
 use step_port::Step;
 use thread_automaton::Attempt;
 
-// The section of this word is in the state.
-fn is_in(state: State, section: u64) -> bool
+/// Whether the section of this word is in the state.
+pub fn is_in(state: State, section: u64) -> bool
     ensures { result ≡ is_in state section }
 {
     match section_parts(section) {
@@ -54,7 +54,9 @@ impl<C: ThreadCode> JThread<C> {
         }
     }
 
-    fn is_safe(&self, word: u64) -> bool
+    /// Whether the thread may read or overwrite this word of an object at once: no section wrote it, or its own one did, or one
+    /// of which the thread knows that it stays.
+    pub fn is_safe(&self, word: u64) -> bool
         ensures { result ≡ is_safe (thread_of C.state C.saved self.now) word }
     {
         let packed = HeapWord::unpack(word).tag;

@@ -11,6 +11,7 @@ mod monitors;
 mod next_move;
 mod quiet;
 mod ready;
+mod silent;
 mod stack;
 mod thread;
 mod told;
@@ -18,6 +19,7 @@ mod turned;
 mod turning;
 
 pub(crate) use change::ThreadChange;
+pub use checks::is_in;
 pub use mark::SavedMark;
 pub use ready::{ReadyThread, turn};
 pub use stack::Stack;

@@ -1,6 +1,6 @@
 //! A thread that can be given turns, and a turn of it.
 
-ghost use Rattle.std.specs.Prelude.{◌≡◌, ◌+◌, ◌≤◌, ◌^◌, [], ℕ, IfOk, IsOk, OnOk, OnErr};
+ghost use Rattle.std.specs.Prelude.{◌≡◌, ◌+◌, ◌≤◌, ◌^◌, [], ℕ, IfOk, IsOk, OnOk, OnErr, nat_eq, if◌then◌else◌};
 ghost use Rattle.step_port.specs.declared.answer.StepAnswer.{StepAnswer};
 ghost use Rattle.step_port.specs.declared.step.Step.{Step};
 ghost use Rattle.thread_automaton.specs.declared.Attempt.{Attempt};
@@ -10,6 +10,7 @@ ghost use Rattle.thread_automaton.specs.NextMove.{next_move};
 ghost use Rattle.rollback_core.specs.Thread.{thread_of, CanBeAsked};
 ghost use Rattle.rollback_core.specs.Change.{NamesThread};
 ghost use Rattle.rollback_core.specs.Turn.{Turned, MoveTakesMemory, kind_made};
+ghost use Rattle.rollback_core.specs.Quiet.{QuietTurns};
 
 use crate::turning::turn_of;
 use crate::{JThread, Turn};
@@ -68,6 +69,17 @@ impl<C: ThreadCode> ReadyThread<C> {
         ensures { result ≡ next_move C.code self.now.own.bounds (thread_of C.state C.saved self.now) }
     {
         self.thread.move_for(self.thread.code.next())
+    }
+
+    /// Makes some of the silent turns that come next, at most `most`, and says how many. Where these are fewer, there may be
+    /// more to make. Takes no memory but what the thread's code takes.
+    pub fn run_silent(&mut self, most: u64) -> u64
+        ensures most { result ≤ most }
+        ensures turns { QuietTurns C.code self.old.own.bounds result (thread_of C.state C.saved self.old) (thread_of C.state C.saved self.new) }
+        ensures bounds { self.new.own.bounds ≡ self.old.own.bounds }
+        ensures last_kind { self.new.own.last_kind ≡ (if nat_eq result 0 then self.old.own.last_kind else 0) }
+    {
+        self.thread.run_silent(most)
     }
 }
 

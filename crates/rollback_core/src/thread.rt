@@ -1,7 +1,7 @@
 //! A Java thread: its code, and what is kept of it beside the code.
 
 ghost use Rattle.std.specs.Prelude.{◌≡◌, None, [], length, map, reverse};
-ghost use Rattle.thread_automaton.specs.ThreadState.{first_state};
+ghost use Rattle.thread_automaton.specs.ThreadState.{first_state, mark_of};
 ghost use Rattle.automaton_rows.specs.Fits.{IsFit};
 ghost use Rattle.rollback_core.specs.Thread.{printed, thread_of, AreCounted};
 
@@ -10,7 +10,7 @@ use crate::stack::Stack;
 use op_core::{Line, ThreadCode};
 use std::alloc::Global;
 use thread_automaton::{Attempt, Bounds, Held};
-use write_log::WriteLog;
+use write_log::{Noted, WriteLog};
 
 /// A printed line.
 #[derive(Clone, Copy)]
@@ -171,6 +171,23 @@ impl<C: ThreadCode> JThread<C> {
         ensures { result ≡ length (thread_of C.state C.saved self.now).log }
     {
         self.own.log.len()
+    }
+
+    /// The words that it has logged, as they were before it overwrote them, the oldest first.
+    pub fn log(&self) -> &[Noted]
+        ensures { (thread_of C.state C.saved self.now).log ≡ reverse result.now }
+    {
+        self.own.log.as_slice()
+    }
+
+    /// How many words it had logged as a level opened, 0 where that level isn't open.
+    pub fn logged_at(&self, level: u8) -> usize
+        ensures { result ≡ (mark_of (thread_of C.state C.saved self.now) level).noted }
+    {
+        match self.mark_of(level) {
+            Some(mark) => mark.noted,
+            None => 0,
+        }
     }
 
     /// What it printed, the oldest line first.

@@ -4,7 +4,7 @@
 //! is overwritten, so that logging it, and putting words back, takes no memory.
 #![tactic(auto)]
 
-ghost use Rattle.std.specs.Prelude.{◌≡◌, ◌≢◌, ◌+◌, ◌<◌, ◌==◌, [], ◌∷◌, IsOk, OnOk, OnErr, drop, max, slice_get, length};
+ghost use Rattle.std.specs.Prelude.{◌≡◌, ◌≢◌, ◌+◌, ◌<◌, ◌==◌, [], ◌∷◌, IsOk, OnOk, OnErr, drop, max, reverse, slice_get, length};
 
 use op_core::NoMemory;
 use std::alloc::Global;
@@ -77,6 +77,13 @@ impl WriteLog {
         ensures { result ≡ slice_get self.now.noted 0 }
     {
         self.noted.last().copied()
+    }
+
+    /// The words that are logged, oldest first.
+    pub fn as_slice(&self) -> &[Noted]
+        ensures { self.now.noted ≡ reverse result.now }
+    {
+        self.noted.as_slice()
     }
 
     /// Takes off the word that was logged last. The log must not be empty. The word's room becomes spare.

@@ -1,0 +1,3 @@
+pub mod CharArrays
+pub mod PrintedLemmas
+pub mod LeftLemmas

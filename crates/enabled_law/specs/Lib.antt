@@ -1,0 +1,4 @@
+pub mod TurnsAlone
+pub mod Watched
+pub mod Laws
+pub mod Forgetting

@@ -1,0 +1,9 @@
+mod ListLemmas
+mod EndLemmas
+mod CountLemmas
+mod LineLemmas
+mod RunLemmas
+mod OrderLemmas
+mod SilentLemmas
+mod LowestLemmas
+mod StretchLemmas

@@ -1,0 +1,17 @@
+//! Threads on shared words that follow a schedule.
+
+use op_core::ThreadCode;
+use schedules::Remaining;
+use word_machine::WordMachine;
+
+/// Threads on shared words that follow a schedule. Contracts see of which places of a run they are (`IsPlaceOf`).
+#[derive(Drop)]
+pub(crate) struct WordRun<'a, C: ThreadCode> {
+    pub(crate) machine: WordMachine<C>,
+    pub(crate) rest: Remaining<'a>,
+    // room to list the threads that can go on
+    pub(crate) enabled: Vec<u8>,
+    // how many sections were opened, and how often a thread undid levels
+    pub(crate) opened: u64,
+    pub(crate) undone: u64,
+}

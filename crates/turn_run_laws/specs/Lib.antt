@@ -1,0 +1,2 @@
+pub mod GivenTurns
+pub mod Laws

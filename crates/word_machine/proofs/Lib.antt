@@ -1,0 +1,4 @@
+mod SeatLemmas
+mod EndLemmas
+mod TurnLemmas
+mod SilentLemmas

@@ -1,0 +1,4 @@
+pub mod Seats
+pub mod Machine
+pub mod Turns
+pub mod Silent

@@ -1,0 +1,4 @@
+pub mod NamedLemmas
+pub mod OldLemmas
+pub mod BackLemmas
+pub mod TextLemmas

@@ -1,0 +1,3 @@
+pub mod OldWords
+pub mod PutBack
+pub mod Texts
