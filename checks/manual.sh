@@ -38,15 +38,14 @@ if python3 --version >/dev/null 2>&1 && bash --version >/dev/null 2>&1; then
     : >"$folder/classes/\`touch made\`.class"
     : >"$folder/classes/Other.class"
     while read -r command options; do
-        wanted=
-        [ -z "$options" ] || wanted=$(echo "$options" | sed 's/ /= /g; s/$/=/')
-        offers "the options of $command that bash offers" "$wanted" jrev "$command" "$folder/classes" Main ''
+        offers "the options of $command that bash offers" "$options" jrev "$command" "$folder/classes" Main ''
     done <"$folder/words"
     offers "a command that is begun" "make migrate" jrev m
     offers "folders after a command" "$folder/classes" jrev pick "$folder/cl"
     offers "classes after a folder" 'Main Other \`touch\ made\`' jrev load "$folder/classes" ''
     { [ ! -e made ] && echo "ok no name of a file is executed"; } || echo "failed no name of a file is executed"
     offers "no option twice" "--seed= --turns= --heap= --sections=" jrev trace "$folder/classes" Main --order = 1*2 ''
+    offers "no option twice, one without a value" "--order= --seed= --turns= --heap= --sections=" jrev pick "$folder/classes" Main --counts ''
     offers "nothing in the place of a value" "" jrev pick "$folder/classes" Main --seed = ''
 else
     echo "skipped the completion of bash: no python3 or no bash"

@@ -17,14 +17,14 @@ _jrev_classes() {
     done
 }
 
-# The options that aren't given yet.
+# Those of the options that aren't given yet; a `=` is at the end of one that has a value.
 _jrev_options() {
     local option word
-    for option in --order --seed --turns --heap --sections; do
-        for word in "${COMP_WORDS[@]:4}"; do
-            [ "$word" != "$option" ] || continue 2
+    for option in "$@"; do
+        for word in "${COMP_WORDS[@]:4:COMP_CWORD - 4}"; do
+            [ "$word" != "${option%=}" ] || continue 2
         done
-        _jrev_offer "$option="
+        _jrev_offer "$option"
     done
 }
 
@@ -41,8 +41,10 @@ _jrev() {
     *:pick | *:trace)
         # Bash makes a word of its own of `=`, after which comes a value.
         [ "${COMP_WORDS[COMP_CWORD]}" != = ] && [ "${COMP_WORDS[COMP_CWORD - 1]}" != = ] || return
+        set -- --order= --seed= --turns= --heap= --sections=
+        [ "${COMP_WORDS[1]}" != pick ] || set -- "$@" --counts
         compopt -o nospace 2>/dev/null
-        _jrev_options
+        _jrev_options "$@"
         ;;
     esac
 }

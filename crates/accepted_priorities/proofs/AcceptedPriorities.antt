@@ -8,8 +8,8 @@ use Rattle.linker.specs.Tables.{HasOrder}
 use Rattle.program_accept.specs.Accepted.{Accepted, IsProgram}
 use Rattle.java_rows.specs.Start.{start_of_program}
 use Rattle.accepted_programs.proofs.MainMethods.{is_sound}
-use Rattle.sound_priorities.specs.Priorities.{PrioritiesFit}
-use Rattle.sound_priorities.proofs.Whole.{fit_from_start}
+use Rattle.program_soundness.specs.Priorities.{PrioritiesFit}
+use Rattle.program_soundness.proofs.PriorityLaws.{fit_from_start}
 
 pub priorities_are_fit : (p : Accepted) (files : List (List ℕ)) (name : List ℕ) → AreUnits p.units → (link_rules p.units).Hold → HasOrder p.units → IsProgram files name p → (first : ℕ) → first ≡ first_free (program_names p.units) → first < 2 ^ 30
     → PrioritiesFit (start_of_program p.units p.main)

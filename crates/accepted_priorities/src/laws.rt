@@ -3,7 +3,7 @@
 ghost use Rattle.std.specs.Prelude.{ℕ, List};
 ghost use Rattle.java_rows.specs.Start.{start_of_program};
 ghost use Rattle.program_accept.specs.Accepted.{IsProgram};
-ghost use Rattle.sound_priorities.specs.Priorities.{PrioritiesFit};
+ghost use Rattle.program_soundness.specs.Priorities.{PrioritiesFit};
 
 use program_accept::Program;
 

@@ -17,21 +17,21 @@ use Rattle.link_rules.specs.Names.{program_names}
 use Rattle.link_rules.specs.Units.{AreUnits}
 use Rattle.link_rules.proofs.Lists.{Found, found_at}
 use Rattle.linker.specs.Tables.{HasOrder}
-use Rattle.linked_operands.proofs.Methods.{from_map, methods_of_file}
+use Rattle.program_soundness.proofs.Methods.{from_map, methods_of_file}
 use Rattle.op_core.specs.Orderly.{IsOrderly}
 use Rattle.program_accept.specs.Accepted.{Accepted, IsProgram}
 use Rattle.program_accept.specs.Main.{is_main, is_named, main_of_file, main_at, main_method}
 use Rattle.type_rules.specs.VerifyRules.{method_of_file}
-use Rattle.java_sound.specs.Sound.{HasRoom}
+use Rattle.program_soundness.specs.Soundness.{HasRoom}
 use Rattle.java_rows.specs.Thread.{java_code, first_state}
 use Rattle.java_rows.specs.Start.{start_of_program}
-use Rattle.sound_programs.specs.Programs.{IsMainMethod}
-use Rattle.sound_starts.specs.Starts.{RunsFit}
-use Rattle.sound_starts.proofs.Whole.{runs_fit}
+use Rattle.program_soundness.specs.Programs.{IsMainMethod}
+use Rattle.program_soundness.specs.Starts.{RunsFit}
+use Rattle.program_soundness.proofs.StartLaws.{runs_fit}
 use Rattle.waiting_runs.specs.Waiting.{StuckRunsWait}
 use Rattle.waiting_runs.proofs.Waiting.{stuck_wait}
-use Rattle.sound_programs.proofs.Programs.{go_in_order}
-use Rattle.sound_programs.proofs.ThreadLaws.{programs_have_room}
+use Rattle.program_soundness.proofs.Programs.{go_in_order}
+use Rattle.program_soundness.proofs.ThreadLaws.{programs_have_room}
 use Rattle.accepted_programs.specs.Programs.{IsSoundProgram}
 
 then_some : {A B : Type 0} (f : A → Option B) (o : Option A) (b : B) → option_and_then f o ≡ Some b → (a : A) × (o ≡ Some a) × (f a ≡ Some b)

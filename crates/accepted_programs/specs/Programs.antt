@@ -1,8 +1,8 @@
 -- What an accepted program is.
 use Rattle.std.specs.Prelude.{ℕ, List}
-use Rattle.linked_operands.specs.Sound.{IsSound}
+use Rattle.program_soundness.specs.SoundPrograms.{IsSound}
 use Rattle.program_accept.specs.Accepted.{Accepted, IsProgram}
-use Rattle.sound_programs.specs.Programs.{IsMainMethod}
+use Rattle.program_soundness.specs.Programs.{IsMainMethod}
 
 -- decoded, linked in an order of its classes, and verified; and it begins with a method of its own
 abbrev pub IsSoundProgram : Accepted → Type 0

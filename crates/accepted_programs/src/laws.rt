@@ -1,14 +1,14 @@
 //! What holds of the programs that are accepted.
 
 ghost use Rattle.std.specs.Prelude.{ℕ, List, ◌<◌, length};
-ghost use Rattle.java_sound.specs.Sound.{HasRoom};
+ghost use Rattle.program_soundness.specs.Soundness.{HasRoom};
 ghost use Rattle.java_rows.specs.Thread.{java_code, first_state};
 ghost use Rattle.link_rules.specs.Classes.{classes_of};
 ghost use Rattle.op_core.specs.Orderly.{IsOrderly};
 ghost use Rattle.program_accept.specs.Accepted.{IsProgram};
 ghost use Rattle.accepted_programs.specs.Programs.{IsSoundProgram};
 ghost use Rattle.java_rows.specs.Start.{start_of_program};
-ghost use Rattle.sound_starts.specs.Starts.{RunsFit};
+ghost use Rattle.program_soundness.specs.Starts.{RunsFit};
 ghost use Rattle.waiting_runs.specs.Waiting.{StuckRunsWait};
 
 use program_accept::Program;

@@ -1,12 +1,12 @@
 -- A request has one answer over what a folder and an input hold.
-use Rattle.std.proofs.Common.{◌≡◌, inl, inr, ℕ, ◌+◌, ◌%◌, ◌^◌, List, [], ◌∷◌, map, take, length, Option, Some, None, IfSome, Result, Ok, Err, refl, sym, ◌∙◌, ap, subst}
+use Rattle.std.proofs.Common.{◌≡◌, inl, inr, ℕ, ◌+◌, ◌%◌, ◌^◌, Bool, false, List, [], ◌∷◌, map, take, length, Option, Some, None, IfSome, Result, Ok, Err, refl, sym, ◌∙◌, ap, subst}
 use Rattle.std.specs.List.Sorted.{IsPermutation}
 use Rattle.op_core.specs.declared.Event.{Event}
 use Rattle.op_core.specs.declared.Limits.{Limits}
 use Rattle.op_core.specs.declared.Outcome.{Outcome}
 use Rattle.schedules.specs.declared.order.Schedule.{Schedule}
 use Rattle.ordinary_machine.specs.Machine.{Machine}
-use Rattle.ordinary_runs.specs.ScheduledRun.{all_steps, a_journal}
+use Rattle.ordinary_runs.specs.ScheduledRun.{a_journal}
 use Rattle.ordinary_runs.proofs.LawLemmas.{one_outcome}
 use Rattle.ordinary_runs.proofs.MadeLemmas.{made_one}
 use Rattle.trace_journal.specs.declared.item.JournalFault.{JournalFault}
@@ -19,7 +19,9 @@ use Rattle.journal_check.proofs.LawLemmas.{one_check}
 use Rattle.code_decode.specs.declared.code.ClassUnit.{ClassUnit}
 use Rattle.java_rows.specs.Thread.{Local, java_code}
 use Rattle.java_machine.specs.Lines.{line_bytes}
-use Rattle.java_run.specs.Run.{answer_of, journal_answer, machine_at_start}
+use Rattle.java_words.specs.WordRun.{machine_at_start}
+use Rattle.java_words.proofs.OutcomeLemmas.{one_word_run}
+use Rattle.java_run.specs.Run.{answer_of, journal_answer}
 use Rattle.java_run.specs.Check.{Shows}
 use Rattle.java_run.specs.declared.checking.Checked.{Checked}
 use Rattle.java_run.specs.declared.checking.Checked.TheVariants.{Execution, NotExecution}
@@ -52,10 +54,9 @@ AnswersOnce answers = (count : ℕ) (program : Accepted) (answer other : Answer)
 counts_once : AnswersOnce Counts
 counts_once count program answer other one two = two ∙ sym one
 
-runs_once : (schedule : Schedule) (limits : Limits) → AnswersOnce (Runs schedule limits)
-runs_once schedule limits count program answer other one two =
-    let outcomes : two.outcome ≡ one.outcome = one_outcome java_code (machine_at_start program.units program.main) schedule limits all_steps one.outcome two.outcome one.run.ran two.run.ran in
-    two.answered ∙ ap (answer_of program.units) outcomes ∙ sym one.answered
+runs_once : (schedule : Schedule) (limits : Limits) (counts : Bool) → AnswersOnce (Runs schedule limits counts)
+runs_once schedule limits counts count program answer other one two =
+    two.answered ∙ ap (answer_of program.units counts) (one_word_run program.units program.main schedule limits one.outcome two.outcome one.run two.run) ∙ sym one.answered
 
 same_events : (es fs : List Event) → (let x : Option (List Event) = Some es in let y : Option (List Event) = Some fs in x ≡ y) → es ≡ fs
 same_events es fs same = cc
@@ -180,12 +181,12 @@ one_class (text ∷ ts) (file ∷ files) (other ∷ others) are are_too =
 
 twice_once : (number : ℕ) → AnswersOnce (RunsTwice number)
 twice_once number count program answer other (first, runs, rest) (another, runs_too, rest_too) =
-    let same : another ≡ first = runs_once (seeded number) stress_limits count program first another runs runs_too in
+    let same : another ≡ first = runs_once (seeded number) stress_limits false count program first another runs runs_too in
     second rest (subst (λ a. IsSecond number count program a other) same rest_too)
   where
     second : IsSecond number count program first answer → IsSecond number count program first other → other ≡ answer
     second (inl (well, one, again, is)) (inl (well_too, two, again_too, is_too)) =
-        is_too ∙ ap (second_answer first) (runs_once (seeded ((number + 1) % 2 ^ 64)) stress_limits count program one two again again_too) ∙ sym is
+        is_too ∙ ap (second_answer first) (runs_once (seeded ((number + 1) % 2 ^ 64)) stress_limits false count program one two again again_too) ∙ sym is
     second (inr (ill, is)) (inr (ill_too, is_too)) = is_too ∙ sym is
     second (inl (well, one, again, is)) (inr (ill, is_too)) = absurd (ill well)
     second (inr (ill, is)) (inl (well, two, again, is_too)) = absurd (ill well)
@@ -204,7 +205,7 @@ one_text input told text is of = subst (λ (o : Option (List ℕ)). IsText o tex
 one_answer_to : (request : Request) (files : List File) (input : List ℕ) (outside another : Outside) (answer other : Answer) → AreDifferent (names_of files)
     → Tells files input outside → Tells files input another → IsAnswerTo request outside answer → IsAnswerTo request another other → other ≡ answer
 one_answer_to (Pick dir main limits schedule counts) files input outside another answer other different here there one two =
-    one_of_program (Runs schedule limits) dir (encoded_text main) files input outside another answer other (runs_once schedule limits) different here there one two
+    one_of_program (Runs schedule limits counts) dir (encoded_text main) files input outside another answer other (runs_once schedule limits counts) different here there one two
 one_answer_to (Load dir main) files input outside another answer other different here there one two =
     one_of_program Counts dir (encoded_text main) files input outside another answer other counts_once different here there one two
 one_answer_to (Trace dir main limits schedule) files input outside another answer other different here there one two =

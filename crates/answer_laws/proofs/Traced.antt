@@ -25,7 +25,7 @@ use Rattle.program_answers.specs.Output.{journal_pieces}
 use Rattle.program_answers.specs.declared.answer.Answer.{Answer}
 use Rattle.java_rows.specs.Thread.{Local, java_code}
 use Rattle.java_machine.specs.Lines.{line_bytes}
-use Rattle.java_run.specs.Run.{machine_at_start}
+use Rattle.java_words.specs.WordRun.{machine_at_start}
 use Rattle.java_run.specs.declared.checking.Checked.TheVariants.{Execution}
 use Rattle.answer_laws.specs.Traced.{TracesAreAccepted}
 

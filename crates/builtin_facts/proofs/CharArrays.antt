@@ -12,7 +12,7 @@ use Rattle.link_rules.specs.Classes.{classes_of}
 use Rattle.link_rules.specs.Names.{program_names, array_number, array_numbered, type_named, class_count}
 use Rattle.link_rules.proofs.Arrays.{arrays}
 use Rattle.link_rules.proofs.Lists.{contains_head}
-use Rattle.soundness_senses.specs.Texts.{char_array}
+use Rattle.row_soundness.specs.Texts.{char_array}
 use Rattle.builtin_facts.specs.Facts.{HasCharArrays}
 
 type_is : (us : List ClassUnit) → type_named (program_names us) (primitive_array Char) ≡ char_array

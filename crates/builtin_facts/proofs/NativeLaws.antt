@@ -20,7 +20,7 @@ use Rattle.link_rules.specs.Methods.{method_named, parameter_types, result_type,
 use Rattle.link_rules.specs.Names.{program_names, class_count}
 use Rattle.link_rules.proofs.Numbers.{class_count_is}
 use Rattle.java_rows.specs.Program.{body_of}
-use Rattle.soundness_senses.specs.Natives.{native_takes, native_gives, native_static}
+use Rattle.row_soundness.specs.Natives.{native_takes, native_gives, native_static}
 use Rattle.builtin_facts.specs.Facts.{BuiltInClassesHaveNumbers, NativesFitTheirTable, RunsTakeNothing, FitsTable, IsDeclaredBy}
 use Rattle.builtin_facts.proofs.Table.{IsInTable, AreInTable, library_is_in_table}
 

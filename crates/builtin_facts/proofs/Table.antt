@@ -10,7 +10,7 @@ use Rattle.class_names.specs.Kinds.{kinds_within}
 use Rattle.code_decode.specs.declared.code.ClassUnit.{ClassUnit}
 use Rattle.link_rules.specs.Methods.{parameter_types, result_type}
 use Rattle.link_rules.specs.Names.{program_names}
-use Rattle.soundness_senses.specs.Natives.{native_takes, native_gives, native_static}
+use Rattle.row_soundness.specs.Natives.{native_takes, native_gives, native_static}
 use Rattle.builtin_facts.specs.Facts.{IsDeclaredBy}
 
 -- a method of the class of a number is as the table says

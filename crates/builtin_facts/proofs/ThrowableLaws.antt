@@ -23,7 +23,7 @@ use Rattle.link_rules.proofs.Throwables.{throwables}
 use Rattle.type_rules.specs.Assignable.{is_object_assignable}
 use Rattle.type_rules.specs.Environments.{hierarchy_of}
 use Rattle.java_rows.specs.Program.{is_subclass}
-use Rattle.soundness_senses.specs.Natives.{IsNativeOf, IsThrowable}
+use Rattle.row_soundness.specs.Natives.{IsNativeOf, IsThrowable}
 use Rattle.builtin_facts.specs.Facts.{FitsTable, IsDeclaredBy, NativesFit}
 use Rattle.builtin_facts.proofs.NativeLaws.{numbers, natives}
 

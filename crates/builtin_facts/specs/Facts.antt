@@ -13,8 +13,8 @@ use Rattle.link_rules.specs.Linked.{IsLinked}
 use Rattle.link_rules.specs.Names.{program_names, type_numbered, is_class_number}
 use Rattle.link_rules.specs.Readers.{primitive_array_number}
 use Rattle.java_rows.specs.Program.{method_has, thread_run, runnable_run}
-use Rattle.soundness_senses.specs.Natives.{FitsNative, IsNative, IsNativeOf, native_takes, native_gives, native_static}
-use Rattle.soundness_senses.specs.Texts.{char_array}
+use Rattle.row_soundness.specs.Natives.{FitsNative, IsNative, IsNativeOf, native_takes, native_gives, native_static}
+use Rattle.row_soundness.specs.Texts.{char_array}
 use Rattle.type_rules.specs.Environments.{parameters_of_method, result_of_method}
 
 -- each built-in class is a class of the program

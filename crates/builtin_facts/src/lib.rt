@@ -1,6 +1,6 @@
 //! What holds of the built-in classes and their methods in every program, and in linked ones. Laws alone.
 //!
-//! Each is a part of `Accepted` of `soundness_senses`.
+//! Each is a part of `Accepted` of `row_soundness`.
 #![tactic(auto)]
 
 mod laws;

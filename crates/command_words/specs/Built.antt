@@ -1,5 +1,5 @@
 -- What is built of the grammar.
-use Rattle.std.specs.Prelude.{ℕ, ◌&&◌, not, Bool, true, false, List, if◌then◌else◌, Option, None, Some}
+use Rattle.std.specs.Prelude.{ℕ, Bool, true, false, List, if◌then◌else◌, Option, None, Some}
 use Rattle.std.specs.List.{list_all}
 use Rattle.std.specs.Option.{option_and_then}
 use Rattle.command_words.specs.declared.request.Request.{Request}
@@ -8,14 +8,14 @@ use Rattle.schedules.specs.declared.order.OrderItem.{OrderItem}
 use Rattle.schedules.specs.declared.order.OrderItem.TheVariants.{Turns, Until}
 use Rattle.command_words.specs.Grammar.{request_of}
 
--- an item of an order that gives turns; one up to a step of a kind waits for steps that have kinds
+-- an item of an order that gives turns, rather than turns up to a step of a kind
 abbrev pub gives_turns : OrderItem → Bool
 gives_turns (Turns t n) = true
 gives_turns (Until t kind) = false
 
--- the commands that are carried out: all but run; pick and trace by an order of turns, and pick without counts
+-- the commands that are carried out: all but run; trace where each item of its order gives turns
 abbrev pub is_built : Request → Bool
-is_built (Pick dir main limits schedule counts) = not counts && list_all gives_turns schedule.order
+is_built (Pick dir main limits schedule counts) = true
 is_built (Trace dir main limits schedule) = list_all gives_turns schedule.order
 is_built (Run dir main limits workers slice counts) = false
 is_built (Check dir main) = true

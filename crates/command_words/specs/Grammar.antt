@@ -1,5 +1,5 @@
 -- The grammar of the command line.
-use Rattle.std.specs.Prelude.{ℕ, ◌==◌, ◌&&◌, Bool, true, false, not, List, [], ◌∷◌, map, codes, if◌then◌else◌, Option, None, Some, unwrap_or, option_map}
+use Rattle.std.specs.Prelude.{ℕ, ◌≤◌, ◌==◌, ◌&&◌, Bool, true, false, not, List, [], ◌∷◌, map, codes, if◌then◌else◌, Option, None, Some, unwrap_or, option_map}
 use Rattle.std.specs.Option.{option_and_then}
 use Rattle.std.specs.List.{list_all, list_any}
 use Rattle.std.specs.Str.{bytes_eq}
@@ -60,6 +60,18 @@ limits_of given = record {
   heap = unwrap_or (number_given Heap given) 4194304;
   sections = unwrap_or (number_given Sections given) 4194304;
 }
+
+-- the limits are in the ranges of their options
+pub record AreLimits (limits : Limits) : Type 0 where
+  pub turns : limits.turns ≤ 1000000000
+  pub sections : limits.sections ≤ 16777215
+
+-- so they are where a request has limits
+abbrev pub HasLimits : Request → Type 0
+HasLimits (Pick dir main limits schedule counts) = AreLimits limits
+HasLimits (Trace dir main limits schedule) = AreLimits limits
+HasLimits (Run dir main limits workers slice counts) = AreLimits limits
+HasLimits _ = Unit {0}
 
 abbrev pub schedule_of : List CommandOption → Schedule
 schedule_of given = record { order = order_given given; seed = number_given Seed given }

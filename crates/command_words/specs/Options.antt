@@ -1,5 +1,5 @@
 -- The options of the command line, and what they say.
-use Rattle.std.specs.Prelude.{ℕ, ◌≤◌, ◌&&◌, Bool, true, false, not, List, [], ◌∷◌, length, codes, nat_le, if◌then◌else◌, Option, None, Some, option_map}
+use Rattle.std.specs.Prelude.{ℕ, ◌≤◌, ◌&&◌, ◌||◌, Bool, true, false, not, List, [], ◌∷◌, length, codes, nat_le, if◌then◌else◌, Option, None, Some, option_map}
 use Rattle.std.specs.Option.{option_and_then, option_or}
 use Rattle.std.specs.List.{list_any, find}
 use Rattle.std.specs.Str.{bytes_eq}
@@ -49,9 +49,13 @@ each_of value (text ∷ texts) = option_and_then (λ a. option_map (λ others. a
 abbrev pub turns_item : List ℕ → Option OrderItem
 turns_item text = option_and_then (λ p. option_and_then (λ t. option_map (λ n. items.Turns t n) (number_between 1 1000000 p.1)) (number_between 1 255 p.0)) (cut 42 text)
 
+-- the number of a kind of steps that turns make: 1 to 27, 32 or 33
+abbrev pub kind_in : List ℕ → Option ℕ
+kind_in text = option_and_then (λ k. if nat_le k 27 || nat_le 32 k then Some k else None) (number_between 1 33 text)
+
 -- T@K
 abbrev pub until_item : List ℕ → Option OrderItem
-until_item text = option_and_then (λ p. option_and_then (λ t. option_map (λ k. items.Until t k) (number_between 1 27 p.1)) (number_between 1 255 p.0)) (cut 64 text)
+until_item text = option_and_then (λ p. option_and_then (λ t. option_map (λ k. items.Until t k) (kind_in p.1)) (number_between 1 255 p.0)) (cut 64 text)
 
 abbrev pub item_of : List ℕ → Option OrderItem
 item_of text = option_or (turns_item text) (until_item text)

@@ -3,7 +3,7 @@
 ghost use Rattle.std.specs.Prelude.{◌≡◌, ◌≤◌, IfOk, IfSome, None, Some, map, string_bytes};
 ghost use Rattle.std.specs.List.{All, list_any};
 ghost use Rattle.std.specs.Str.{bytes_eq};
-ghost use Rattle.command_words.specs.Grammar.{limits_of, schedule_of};
+ghost use Rattle.command_words.specs.Grammar.{AreLimits, limits_of, schedule_of};
 ghost use Rattle.command_words.specs.Options.{are_different, each_of, is_counts, most, number_given, option_name, option_of, order_given, IsInRange};
 
 use crate::options::{CommandOption, NumberOption, option_of};
@@ -87,7 +87,8 @@ pub(crate) fn counts_given(given: &[CommandOption]) -> bool
 /// The limits of a run.
 pub(crate) fn limits_of(given: &[CommandOption]) -> Limits
     requires { All IsInRange given.now }
-    ensures { result ≡ limits_of given.now }
+    ensures value { result ≡ limits_of given.now }
+    ensures ranges { AreLimits result }
 {
     Limits {
         turns: number_given(NumberOption::Turns, given).unwrap_or(1_000_000_000),

@@ -1,8 +1,8 @@
 //! The order of turns: `T*N` and `T@K`, between commas.
 
-ghost use Rattle.std.specs.Prelude.{◌≡◌, ◌≤◌, ◌<◌, ◌⊎◌, ◌∷◌, ◌++◌, [], None, Some, IfOk, OnOk, length};
+ghost use Rattle.std.specs.Prelude.{◌≡◌, ◌≤◌, ◌<◌, ◌⊎◌, ◌∷◌, ◌++◌, [], None, Some, IfOk, IfSome, OnOk, length};
 ghost use Rattle.command_words.specs.Cut.{pieces};
-ghost use Rattle.command_words.specs.Options.{turns_item, until_item, item_of, order_of, each_of};
+ghost use Rattle.command_words.specs.Options.{kind_in, turns_item, until_item, item_of, order_of, each_of};
 
 use crate::cut::cut;
 use crate::values::number_between;
@@ -22,12 +22,20 @@ fn turns_item(text: &[u8]) -> Option<OrderItem>
     Some(OrderItem::Turns(thread as u8, turns as u32))
 }
 
+// A kind of steps that turns make.
+fn kind_in(text: &[u8]) -> Option<u64>
+    ensures value { result ≡ kind_in text.now }
+    ensures bound { IfSome result (λ k. k ≤ 33) }
+{
+    number_between(1, 33, text).filter(|kind| *kind <= 27 || 32 <= *kind)
+}
+
 fn until_item(text: &[u8]) -> Option<OrderItem>
     ensures { result ≡ until_item text.now }
 {
     let (thread, kind) = cut(b'@', text)?;
     let thread = number_between(1, 255, thread)?;
-    let kind = number_between(1, 27, kind)?;
+    let kind = kind_in(kind)?;
     Some(OrderItem::Until(thread as u8, kind as u8))
 }
 

@@ -1,6 +1,6 @@
 //! The words of the command line.
 
-ghost use Rattle.std.specs.Prelude.{◌≡◌, ◌≤◌, ℕ, List, None, Some, IfOk, map, string_bytes};
+ghost use Rattle.std.specs.Prelude.{◌≡◌, ◌≤◌, ℕ, List, None, Some, IfOk, IfSome, map, string_bytes};
 ghost use Rattle.std.specs.List.{All, list_all};
 ghost use Rattle.std.specs.Option.{option_and_then};
 ghost use Rattle.command_words.specs.Grammar as grammar;
@@ -147,7 +147,8 @@ fn request_for(
     given: &[CommandOption],
 ) -> Result<Request, AllocError>
     requires { All options.IsInRange given.now }
-    ensures { IfOk result (λ request. request ≡ grammar.request_for command dir main given.now) }
+    ensures value { IfOk result (λ request. request ≡ grammar.request_for command dir main given.now) }
+    ensures limits { IfOk result grammar.HasLimits }
 {
     let limits = limits_of(given);
     match command {
@@ -186,6 +187,7 @@ fn command_request(
     written: &[String],
 ) -> Result<Request, WordsRefusal>
     ensures found { IfOk result (λ request. grammar.command_request command (string_bytes dir.now) (string_bytes name.now) (map string_bytes written.now) ≡ Some request) }
+    ensures limits { IfOk result grammar.HasLimits }
     ensures usage { result ≡ Err WordsRefusal.Usage → grammar.command_request command (string_bytes dir.now) (string_bytes name.now) (map string_bytes written.now) ≡ None }
 {
     let given = options_for(alloc, command, written)?;
@@ -204,6 +206,7 @@ fn program_request(
     written: &[String],
 ) -> Result<Request, WordsRefusal>
     ensures found { IfOk result (λ request. grammar.program_request (string_bytes word.now) (string_bytes dir.now) (string_bytes name.now) (map string_bytes written.now) ≡ Some request) }
+    ensures limits { IfOk result grammar.HasLimits }
     ensures usage { result ≡ Err WordsRefusal.Usage → grammar.program_request (string_bytes word.now) (string_bytes dir.now) (string_bytes name.now) (map string_bytes written.now) ≡ None }
 {
     if !is_positional(dir.as_bytes()) || !is_positional(name.as_bytes()) {
@@ -216,7 +219,8 @@ fn program_request(
 }
 
 fn lone_request(word: &[u8]) -> Option<Request>
-    ensures { result ≡ grammar.lone_request word.now }
+    ensures value { result ≡ grammar.lone_request word.now }
+    ensures limits { IfSome result grammar.HasLimits }
 {
     if word == b"make".as_slice() {
         Some(Request::Make)
@@ -232,7 +236,8 @@ fn lone_request(word: &[u8]) -> Option<Request>
 }
 
 fn stress_request(word: &[u8], number: &[u8]) -> Option<Request>
-    ensures { result ≡ grammar.stress_request word.now number.now }
+    ensures value { result ≡ grammar.stress_request word.now number.now }
+    ensures limits { IfSome result grammar.HasLimits }
 {
     if word != b"stress".as_slice() {
         return None;
@@ -241,12 +246,13 @@ fn stress_request(word: &[u8], number: &[u8]) -> Option<Request>
     Some(Request::Stress { number })
 }
 
-/// What the words of the command line, without the program's name, ask for.
+/// What the words of the command line, without the program's name, ask for. Limits are in the ranges of their options.
 ///
 /// # Errors
 /// `Usage` exactly where no command has these words. `NoMemory` may come anywhere.
 pub fn request_of(alloc: Global, words: &[String]) -> Result<Request, WordsRefusal>
     ensures found { IfOk result (λ request. grammar.request_of (map string_bytes words.now) ≡ Some request) }
+    ensures limits { IfOk result grammar.HasLimits }
     ensures usage { result ≡ Err WordsRefusal.Usage → grammar.request_of (map string_bytes words.now) ≡ None }
 {
     match words {

@@ -1,3 +1,11 @@
 pub mod RevokedLemmas
 pub mod EntryLemmas
 pub mod ErasureLemmas
+pub mod ThreadLemmas
+pub mod IdleLemmas
+pub mod StuckLemmas
+pub mod RestLemmas
+pub mod EndLemmas
+pub mod UndoLemmas
+pub mod TextLemmas
+pub mod LeftEndLemmas

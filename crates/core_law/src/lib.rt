@@ -3,10 +3,22 @@
 //! Each function does nothing: its contract is the law.
 #![tactic(auto)]
 
+mod end_laws;
+mod stuck_laws;
+mod text_laws;
+
 ghost use Rattle.core_law.specs.Erasure.{ErasedRunsAreExecutions, RunsAreErased, ErasuresAreOne};
 ghost use Rattle.core_law.specs.RevokedLevels.{RevokedLevelsAreTold};
 
+pub use end_laws::{ends_are_those_left, over_threads_want_their_end};
 use op_core::ThreadCode;
+pub use stuck_laws::{
+    held_up_turns_are_idle, idle_cores_are_stuck, idle_runs_end_stuck,
+    idle_runs_have_nothing_to_undo,
+};
+pub use text_laws::{
+    levels_to_undo_are_told, texts_are_those_left, words_are_those_left, words_to_put_back_are_told,
+};
 
 /// Which acts opened levels that are revoked at any place of a run is computed from the run.
 pub fn revoked_levels_are_told<C: ThreadCode>()

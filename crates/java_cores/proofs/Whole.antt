@@ -15,23 +15,23 @@ use Rattle.java_rows.specs.Start.{start_of_program}
 use Rattle.java_rows.specs.Thread.{Local, java_code, first_state}
 use Rattle.kept_cores.specs.KeptCores.{KeepsFitting}
 use Rattle.kept_cores.proofs.CoreLemmas.{cores_keep}
-use Rattle.soundness_senses.specs.Accepted.{Accepted}
-use Rattle.soundness_senses.specs.Knowledge.{Knows}
-use Rattle.soundness_senses.specs.Runs.{IsThread, MayStand, MayStandFor, ObjectFits, RunsLocal, runs}
-use Rattle.soundness_runs.specs.ClassesFollow.{ClassesFollow}
-use Rattle.soundness_runs.proofs.RunsKnow.{runs_know}
-use Rattle.soundness_rows.proofs.RowsTogether.{rows_fit}
-use Rattle.java_sound.specs.Sound.{HasRoom, StateFits}
-use Rattle.java_sound.proofs.SoundLemmas.{java_keeps}
-use Rattle.java_sound.proofs.Whole as java
-use Rattle.linked_operands.specs.Sound.{IsSound}
-use Rattle.linked_operands.proofs.ClassNumbers.{type_of_class}
-use Rattle.linked_operands.proofs.Whole.{accepted}
-use Rattle.sound_programs.specs.Programs.{IsMainMethod}
-use Rattle.sound_programs.proofs.Programs.{main_begins}
-use Rattle.sound_programs.proofs.ThreadLaws.{programs_have_room}
-use Rattle.sound_objects.proofs.Whole.{classes_follow}
-use Rattle.sound_starts.proofs.Starts.{starts_fit}
+use Rattle.row_soundness.specs.Accepted.{Accepted}
+use Rattle.row_soundness.specs.Knowledge.{Knows}
+use Rattle.row_soundness.specs.Runs.{IsThread, MayStand, MayStandFor, ObjectFits, RunsLocal, runs}
+use Rattle.row_soundness.specs.ClassesFollow.{ClassesFollow}
+use Rattle.row_soundness.proofs.RunsKnow.{runs_know}
+use Rattle.row_soundness.proofs.RowsTogether.{rows_fit}
+use Rattle.program_soundness.specs.Soundness.{HasRoom, StateFits}
+use Rattle.program_soundness.proofs.SoundLemmas.{java_keeps}
+use Rattle.program_soundness.proofs.SoundnessLaws as java
+use Rattle.program_soundness.specs.SoundPrograms.{IsSound}
+use Rattle.program_soundness.proofs.ClassNumbers.{type_of_class}
+use Rattle.program_soundness.proofs.AcceptedPrograms.{accepted}
+use Rattle.program_soundness.specs.Programs.{IsMainMethod}
+use Rattle.program_soundness.proofs.Programs.{main_begins}
+use Rattle.program_soundness.proofs.ThreadLaws.{programs_have_room}
+use Rattle.program_soundness.proofs.ObjectLaws.{classes_follow}
+use Rattle.program_soundness.proofs.Starts.{starts_fit}
 use Rattle.java_cores.specs.JavaCores.{CoreStatesFit}
 
 module _ (us : List ClassUnit) (order : List ℕ) (sound : IsSound us order) (room : first_free (program_names us) ≤ 2 ^ 32) where

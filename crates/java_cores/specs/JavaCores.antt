@@ -10,7 +10,7 @@ use Rattle.core_runs.specs.Reading.{ordinary}
 use Rattle.java_rows.specs.Start.{start_of_program}
 use Rattle.java_rows.specs.Thread.{Local, java_code, first_state}
 use Rattle.kept_cores.specs.KeptCores.{CoresAreKept, IsBegunRun}
-use Rattle.soundness_senses.specs.Runs.{IsThread, MayStand, ObjectFits, RunsLocal}
+use Rattle.row_soundness.specs.Runs.{IsThread, MayStand, ObjectFits, RunsLocal}
 
 -- Along each run that begins at the start of the program: each thread object has a start word, each place fits as threads see
 -- it, objects end within 2^32 places, and what a thread wants that hasn't ended can be asked for in a turn.

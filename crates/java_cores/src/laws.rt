@@ -5,8 +5,8 @@ ghost use Rattle.code_decode.specs.declared.code.ClassUnit.{ClassUnit};
 ghost use Rattle.link_rules.specs.FixedObjects.{first_free};
 ghost use Rattle.link_rules.specs.Names.{program_names};
 ghost use Rattle.link_types.specs.declared.operands.MethodId.{MethodId};
-ghost use Rattle.linked_operands.specs.Sound.{IsSound};
-ghost use Rattle.sound_programs.specs.Programs.{IsMainMethod};
+ghost use Rattle.program_soundness.specs.SoundPrograms.{IsSound};
+ghost use Rattle.program_soundness.specs.Programs.{IsMainMethod};
 ghost use Rattle.java_cores.specs.JavaCores.{CoreStatesFit};
 
 /// Along each run on shared words that begins at the start of a program, each thread object has a start word, each place fits

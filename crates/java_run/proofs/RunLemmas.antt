@@ -1,4 +1,4 @@
--- A run of a program that was accepted.
+-- A run on ordinary monitors of a program that was accepted.
 use Rattle.std.proofs.Common.{◌≡◌, true, Some, None, List, if◌then◌else◌, sym, ◌∙◌, subst, refl}
 use Rattle.code_decode.specs.declared.code.ClassUnit.{ClassUnit}
 use Rattle.link_types.specs.declared.operands.MethodId.{MethodId}
@@ -10,7 +10,8 @@ use Rattle.ordinary_runs.specs.ScheduledRun.{Keeping, no_steps, all_steps, a_jou
 use Rattle.ordinary_runs.specs.Laws.{IsExecuted, RunsAreExecutions}
 use Rattle.java_rows.specs.Thread.{java_code}
 use Rattle.waiting_runs.specs.Waiting.{EndsWaiting, StuckRunsWait}
-use Rattle.java_run.specs.Run.{IsRun, machine_at_start}
+use Rattle.java_words.specs.WordRun.{machine_at_start}
+use Rattle.java_run.specs.Run.{IsOrdinaryRun}
 
 -- the events of a run that keeps its steps are one list
 same_kept : (keeping : Keeping) (es fs : List Event) → keeps_steps keeping ≡ true
@@ -19,10 +20,10 @@ same_kept no_steps es fs keeps same = absurd cc
 same_kept all_steps es fs keeps same = cc
 same_kept a_journal es fs keeps same = cc
 
--- a run that keeps its steps
-pub is_run : (us : List ClassUnit) (main : MethodId) (schedule : Schedule) (limits : Limits) (keeping : Keeping) (outcome : Outcome) → keeps_steps keeping ≡ true
-    → RunsAreExecutions java_code → StuckRunsWait us main → IsOutcome java_code (machine_at_start us main) schedule limits keeping outcome → IsRun us main schedule limits keeping outcome
-is_run us main schedule limits keeping outcome keeps executions waits ran =
+-- a run on ordinary monitors that keeps its steps
+pub is_ordinary_run : (us : List ClassUnit) (main : MethodId) (schedule : Schedule) (limits : Limits) (keeping : Keeping) (outcome : Outcome) → keeps_steps keeping ≡ true
+    → RunsAreExecutions java_code → StuckRunsWait us main → IsOutcome java_code (machine_at_start us main) schedule limits keeping outcome → IsOrdinaryRun us main schedule limits keeping outcome
+is_ordinary_run us main schedule limits keeping outcome keeps executions waits ran =
     let executed : IsExecuted java_code (machine_at_start us main) keeping outcome = executions (machine_at_start us main) schedule limits keeping outcome refl ran in
     record {
       ran = ran;

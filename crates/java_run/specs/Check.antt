@@ -14,7 +14,7 @@ use Rattle.java_machine.specs.Lines.{line_bytes}
 use Rattle.java_run.specs.declared.checking.JournalCheck.{JournalCheck}
 use Rattle.java_run.specs.declared.checking.Checked.{Checked}
 use Rattle.java_run.specs.declared.checking.Checked.TheVariants.{Execution, NotExecution}
-use Rattle.java_run.specs.Run.{machine_at_start}
+use Rattle.java_words.specs.WordRun.{machine_at_start}
 
 -- the local state of a thread's code over a program whose classes are known
 abbrev pub state_in : {P : Type 0} → (P → List ClassUnit) → JavaCode P → Local

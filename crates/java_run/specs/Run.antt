@@ -1,5 +1,6 @@
 -- What a program's execution answers.
-use Rattle.std.specs.Prelude.{◌≡◌, ℕ, List, [], ◌∷◌, ◌++◌, map, filter_map, codes}
+use Rattle.std.specs.Prelude.{◌≡◌, ℕ, Bool, true, false, List, [], ◌∷◌, ◌++◌, map, filter_map, codes}
+use Rattle.std.specs.Fmt.{decimal}
 use Rattle.code_decode.specs.declared.code.ClassUnit.{ClassUnit}
 use Rattle.op_core.specs.declared.Event.{Event}
 use Rattle.op_core.specs.declared.How.{How}
@@ -7,9 +8,7 @@ use Rattle.op_core.specs.declared.How.TheVariants as how
 use Rattle.op_core.specs.declared.Limits.{Limits}
 use Rattle.op_core.specs.declared.Outcome.{Outcome}
 use Rattle.schedules.specs.declared.order.Schedule.{Schedule}
-use Rattle.ordinary_machine.specs.Machine.{Machine}
-use Rattle.ordinary_machine.specs.Start.{start_of}
-use Rattle.ordinary_runs.specs.ScheduledRun.{Keeping, all_steps, a_journal, IsOutcome}
+use Rattle.ordinary_runs.specs.ScheduledRun.{Keeping, a_journal, IsOutcome}
 use Rattle.ordinary_runs.specs.Laws.{IsExecuted}
 use Rattle.program_answers.specs.declared.status.Status.{Status}
 use Rattle.program_answers.specs.declared.status.Status.TheVariants as statuses
@@ -17,11 +16,11 @@ use Rattle.program_answers.specs.declared.answer.Answer.{Answer}
 use Rattle.program_answers.specs.Output.{journal_pieces}
 use Rattle.program_answers.specs.Written.{line}
 use Rattle.link_types.specs.declared.operands.MethodId.{MethodId}
-use Rattle.java_rows.specs.Start.{opening_of}
-use Rattle.java_rows.specs.Thread.{Local, first_state, java_code}
+use Rattle.java_rows.specs.Thread.{java_code}
 use Rattle.java_machine.specs.Ends.{died_line, limit_line}
 use Rattle.java_machine.specs.Lines.{line_bytes}
 use Rattle.waiting_runs.specs.Waiting.{EndsWaiting}
+use Rattle.java_words.specs.WordRun.{machine_at_start, IsWordRun}
 use Rattle.java_run.specs.declared.answering.PrintedRun.{PrintedRun}
 
 abbrev pub status_of : How → Status
@@ -36,16 +35,25 @@ how_lines how.Stuck = line (codes "stuck") ∷ []
 how_lines (how.Limit t limit) = limit_line limit t ∷ []
 how_lines _ = []
 
+-- how many sections were opened, and how often a thread undid levels
+abbrev pub count_line : Outcome → List ℕ
+count_line outcome = line (((codes "counts: opened " ++ decimal outcome.opened) ++ codes " undone ") ++ decimal outcome.undone)
+
 -- on the standard error the threads that died, by number, and then why the run didn't end of itself
 abbrev pub err_lines : List ClassUnit → Outcome → List (List ℕ)
 err_lines us outcome = filter_map (died_line us) outcome.ends ++ how_lines outcome.how
 
+-- after these the counts, where they are asked for
+abbrev pub counted_err_lines : List ClassUnit → Bool → Outcome → List (List ℕ)
+counted_err_lines us false outcome = err_lines us outcome
+counted_err_lines us true outcome = err_lines us outcome ++ count_line outcome ∷ []
+
 -- the answer that prints the lines
-abbrev pub answer_of : List ClassUnit → Outcome → Answer
-answer_of us outcome = record {
+abbrev pub answer_of : List ClassUnit → Bool → Outcome → Answer
+answer_of us counts outcome = record {
   status = status_of outcome.how;
   out = map (line_bytes us outcome.made) outcome.lines;
-  err = err_lines us outcome;
+  err = counted_err_lines us counts outcome;
 }
 
 -- the answer that prints the journal of these events in their place
@@ -56,29 +64,25 @@ journal_answer us events outcome = record {
   err = err_lines us outcome;
 }
 
--- the machine at the start of the program of these classes, which begins with a method
-abbrev pub machine_at_start : List ClassUnit → MethodId → Machine Local
-machine_at_start us main = start_of (opening_of us) (first_state us main)
-
--- The outcome is that of the run of the program of these classes, which begins with a method: the run that follows a schedule
--- under limits. The events that its turns made are an execution of the program from its start that prints the lines and
--- leaves the threads ended as the outcome says. Where it is stuck, some thread hasn't ended after them, no such thread has
--- a step, and each waits for one of five named reasons.
-pub record IsRun (us : List ClassUnit) (main : MethodId) (schedule : Schedule) (limits : Limits) (keeping : Keeping) (outcome : Outcome) : Type 0 where
+-- The outcome is that of the run on ordinary monitors of the program of these classes, which begins with a method: the run that
+-- follows a schedule under limits. The events that its turns made are an execution of the program from its start that prints the
+-- lines and leaves the threads ended as the outcome says. Where it is stuck, some thread hasn't ended after them, no such thread
+-- has a step, and each waits for one of five named reasons.
+pub record IsOrdinaryRun (us : List ClassUnit) (main : MethodId) (schedule : Schedule) (limits : Limits) (keeping : Keeping) (outcome : Outcome) : Type 0 where
   pub ran : IsOutcome java_code (machine_at_start us main) schedule limits keeping outcome
   pub executed : IsExecuted java_code (machine_at_start us main) keeping outcome
   pub stuck : outcome.how ≡ how.Stuck → EndsWaiting us main executed.events
 
--- the answer prints the lines of the run
-pub record IsRunOf (us : List ClassUnit) (main : MethodId) (schedule : Schedule) (limits : Limits) (answer : Answer) : Type 0 where
+-- the answer prints the lines of the run on shared words, with its counts where they are asked for
+pub record IsRunOf (us : List ClassUnit) (main : MethodId) (schedule : Schedule) (limits : Limits) (counts : Bool) (answer : Answer) : Type 0 where
   pub outcome : Outcome
-  pub run : IsRun us main schedule limits all_steps outcome
-  pub answered : answer ≡ answer_of us outcome
+  pub run : IsWordRun us main schedule limits outcome
+  pub answered : answer ≡ answer_of us counts outcome
 
--- the answer prints the journal of the run, which ends at the latest where a journal is full
+-- the answer prints the journal of the run on ordinary monitors, which ends at the latest where a journal is full
 pub record IsTraceOf (us : List ClassUnit) (main : MethodId) (schedule : Schedule) (limits : Limits) (answer : Answer) : Type 0 where
   pub outcome : Outcome
-  pub run : IsRun us main schedule limits a_journal outcome
+  pub run : IsOrdinaryRun us main schedule limits a_journal outcome
   pub answered : answer ≡ journal_answer us run.executed.events outcome
 
 -- a run's status and lines as an answer

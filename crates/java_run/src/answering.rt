@@ -11,7 +11,7 @@ use java_machine::{MadeLines, World, died_line, limit_line, line_bytes};
 use op_core::{How, Line, MadeText, NoMemory, Outcome, ThreadEnd};
 use program_answers::{Answer, Output, Status};
 use rows::{Bytes, Rows};
-use std::alloc::Global;
+use std::alloc::{AllocError, Global};
 
 fn status_of(how: How) -> Status
     ensures { result ≡ spec.status_of how }
@@ -83,12 +83,42 @@ fn push_how(alloc: Global, err: &mut Rows<Bytes>, how: How) -> Result<(), NoMemo
     Ok(())
 }
 
+// How many sections were opened, and how often a thread undid levels.
+fn count_line(alloc: Global, outcome: &Outcome) -> Result<Bytes, AllocError>
+    ensures { IfOk result (λ line. line ≡ spec.count_line outcome.now) }
+{
+    let opened = outcome.opened.to_string(alloc)?;
+    let undone = outcome.undone.to_string(alloc)?;
+    let mut text = Vec::from_slice(alloc, b"counts: opened ")?;
+    text.extend_from_slice(opened.as_bytes())?;
+    text.extend_from_slice(b" undone ")?;
+    text.extend_from_slice(undone.as_bytes())?;
+    text.push(b'\n')?;
+    Ok(Bytes::from_vec(text))
+}
+
 // What goes to the standard error.
 fn err_lines(alloc: Global, world: &World, outcome: &Outcome) -> Result<Rows<Bytes>, NoMemory>
     ensures { IfOk result (λ err. err ≡ spec.err_lines world.now outcome.now) }
 {
     let mut err = died(alloc, world, outcome.ends.as_slice())?;
     push_how(alloc, &mut err, outcome.how)?;
+    Ok(err)
+}
+
+// What goes to the standard error, with the counts where they are asked for.
+fn counted_err_lines(
+    alloc: Global,
+    world: &World,
+    counts: bool,
+    outcome: &Outcome,
+) -> Result<Rows<Bytes>, NoMemory>
+    ensures { IfOk result (λ err. err ≡ spec.counted_err_lines world.now counts outcome.now) }
+{
+    let mut err = err_lines(alloc, world, outcome)?;
+    if counts {
+        err.push(count_line(alloc, outcome)?)?;
+    }
     Ok(err)
 }
 
@@ -100,13 +130,14 @@ pub struct PrintedRun {
     pub err: Rows<Bytes>,
 }
 
-/// The lines of a run that came to this.
+/// The lines of a run that came to this, with its counts where they are asked for.
 pub(crate) fn printed_run(
     alloc: Global,
     world: &World,
+    counts: bool,
     outcome: &Outcome,
 ) -> Result<PrintedRun, NoMemory>
-    ensures { IfOk result (λ run. spec.shown run ≡ spec.answer_of world.now outcome.now) }
+    ensures { IfOk result (λ run. spec.shown run ≡ spec.answer_of world.now counts outcome.now) }
 {
     let lines = printed(
         alloc,
@@ -117,7 +148,7 @@ pub(crate) fn printed_run(
     Ok(PrintedRun {
         status: status_of(outcome.how),
         lines,
-        err: err_lines(alloc, world, outcome)?,
+        err: counted_err_lines(alloc, world, counts, outcome)?,
     })
 }
 

@@ -1,5 +1,6 @@
-//! A program is executed on the ordinary machine: [`execute`] runs its threads by a schedule and answers the printed lines,
-//! [`trace`] answers the journal of the run in their place, and [`JournalCheck`] replays a journal.
+//! A program is executed. [`execute`] runs its threads by a schedule on shared words, where a thread of higher priority takes
+//! monitors back, and answers the printed lines. [`trace`] runs them on ordinary monitors and answers the journal of the run, and
+//! [`JournalCheck`] replays a journal.
 #![tactic(auto)]
 
 mod answering;

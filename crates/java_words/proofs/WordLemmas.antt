@@ -27,12 +27,12 @@ use Rattle.word_runs.specs.WordTurns.{Progress, word_turns}
 use Rattle.word_runs.specs.Laws.{begun_with, AreActs}
 use Rattle.word_runs.proofs.TurnLemmas.{turns_are_acts}
 use Rattle.core_law.specs.Erasure.{is_left_out}
-use Rattle.stuck_law.specs.Idle.{NoneIsEnabled}
-use Rattle.stuck_law.specs.Stuck.{HeldUpTurnsAreIdle}
-use Rattle.accepted_stuck.specs.HeldUp.{IdleRunsEndWaiting}
-use Rattle.accepted_erasure.specs.Runs.{IsErasedRun, ProgramRunsAreErased, AreErasedTurns, ProgramTurnsAreErased}
-use Rattle.accepted_readiness.specs.Ready.{IsReadyCore, ProgramTurnsAreReady}
-use Rattle.accepted_word_texts.specs.Left.{TurnsTellTexts, TurnsTellEnds}
+use Rattle.core_law.specs.Idle.{NoneIsEnabled}
+use Rattle.core_law.specs.Stuck.{HeldUpTurnsAreIdle}
+use Rattle.accepted_runs.specs.HeldUp.{IdleRunsEndWaiting}
+use Rattle.accepted_runs.specs.Runs.{IsErasedRun, ProgramRunsAreErased, AreErasedTurns, ProgramTurnsAreErased}
+use Rattle.accepted_runs.specs.Ready.{IsReadyCore, ProgramTurnsAreReady}
+use Rattle.accepted_runs.specs.Left.{TurnsTellTexts, TurnsTellEnds}
 use Rattle.sched_core.specs.Outcome.{rest_of, bounds_of, IsOutcome}
 use Rattle.sched_core.specs.Readiness.{StaysWell}
 use Rattle.java_words.specs.WordRun.{program_bounds, of_words, IsWordRun}

@@ -18,7 +18,7 @@ use Rattle.thread_automaton.specs.declared.Bounds.{Bounds}
 use Rattle.core_law.specs.Erasure.{is_left_out}
 use Rattle.opening_cores.specs.Openings.{opening_core}
 use Rattle.waiting_runs.specs.Waiting.{EndsWaiting}
-use Rattle.accepted_erasure.specs.Runs.{AreErasedTurns}
+use Rattle.accepted_runs.specs.Runs.{AreErasedTurns}
 use Rattle.sched_core.specs.declared.word_outcome.WordOutcome.{WordOutcome}
 use Rattle.sched_core.specs.Outcome.{bounds_of, IsOutcome}
 
@@ -55,3 +55,8 @@ pub record IsWordRun (us : List ClassUnit) (main : MethodId) (schedule : Schedul
   pub ends : (also : AreErasedTurns us main (program_bounds us limits) run.last.state) → AreEnds also.erased.erasure.last outcome.ends
   pub made : (also : AreErasedTurns us main (program_bounds us limits) run.last.state) → AreMadeTexts also.erased.erasure.last outcome.lines outcome.made
   pub stuck : outcome.how ≡ Stuck → EndsWaiting us main executed.events
+
+-- a program has one outcome under a schedule and limits
+abbrev pub WordRunsHaveOneOutcome : Type 0
+WordRunsHaveOneOutcome = (us : List ClassUnit) (main : MethodId) (schedule : Schedule) (limits : Limits) (outcome other : Outcome)
+    → IsWordRun us main schedule limits outcome → IsWordRun us main schedule limits other → other ≡ outcome

@@ -5,6 +5,8 @@
 //! the program that prints the same lines.
 #![tactic(auto)]
 
+mod laws;
 mod run;
 
+pub use laws::word_runs_have_one_outcome;
 pub use run::run_words;

@@ -4,10 +4,11 @@ ghost use Rattle.std.specs.Prelude.{◌≡◌, ◌<◌, ◌^◌, None, IfOk};
 ghost use Rattle.accepted_programs.specs.Programs.{IsOfFiles};
 ghost use Rattle.java_words.specs.WordRun.{of_words, IsWordRun};
 
-use accepted_erasure::accepted_runs_are_erased;
-use accepted_readiness::accepted_runs_are_ready;
-use accepted_stuck::held_up_programs_wait;
-use accepted_word_texts::{accepted_turns_tell_texts, turns_tell_ends};
+use accepted_runs::{
+    accepted_runs_are_erased, accepted_runs_are_ready, accepted_turns_tell_texts,
+    held_up_programs_wait, turns_tell_ends,
+};
+use core_law::held_up_turns_are_idle;
 use interp_calls::{JavaCode, JavaProgram};
 use java_machine::opening;
 use op_core::{Limits, NoMemory, Outcome};
@@ -16,7 +17,6 @@ use program_accept::Program;
 use sched_core::{WordOutcome, run_schedule};
 use schedules::Schedule;
 use std::alloc::Global;
-use stuck_law::held_up_turns_are_idle;
 
 // What came of a run on shared words of which no events were kept.
 fn outcome_of(run: WordOutcome) -> Result<Outcome, NoMemory>

@@ -1,10 +1,7 @@
 //! Tests of runs in which a call of the folder, the input or an output fails.
 
 use crate::loading::{B, CONDITIONAL};
-use crate::making::ONE_TEXT;
-use crate::picking::PRINTS_1_AND_2;
-use crate::programs::Class;
-use crate::running::{Case, File, is_as_wanted};
+use jrev_cases::{Case, Class, File, ONE_TEXT, PRINTS_1_AND_2, is_as_wanted};
 use std::test::Fail;
 
 /// Each call of the folder, the input and both sinks fails in turn, under each command that makes it, and two together. A

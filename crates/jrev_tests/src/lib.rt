@@ -2,8 +2,6 @@
 #![tactic(auto)]
 
 #[cfg(test)]
-mod executing;
-#[cfg(test)]
 mod failing;
 #[cfg(test)]
 mod loading;
@@ -12,14 +10,6 @@ mod making;
 #[cfg(test)]
 mod naming;
 #[cfg(test)]
-mod picking;
-#[cfg(test)]
-mod programs;
-#[cfg(test)]
-mod running;
-#[cfg(test)]
 mod stressing;
-#[cfg(test)]
-mod tracing;
 #[cfg(test)]
 mod words;

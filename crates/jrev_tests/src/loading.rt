@@ -1,16 +1,9 @@
 //! Tests of load: what it says of a folder of class files, and which files are refused.
 
-use crate::running::{Faults, File, ONE_FILE, Seen, owned_files, run_over};
+use jrev_cases::{File, NO_FAULTS, ONE_FILE, SUM, Seen, owned_files, run_over};
 use std::alloc::Global;
-use std::process::Abort;
 use std::test::Fail;
 use std::thread::Threads;
-
-/// No call fails.
-pub const NO_FAULTS: Faults = (0, 0, 0, 0);
-
-/// The class One, whose main method prints 2 + 3.
-pub const SUM: File = File::One("One.class", &[178, 0, 13, 5, 6, 96, 182, 0, 19, 177]);
 
 /// A class whose main method returns.
 const MAIN: File = File::Text(
@@ -193,11 +186,7 @@ const LOADED: [Load; 13] = [
 ];
 
 /// Whether `load` says of the files what is wanted.
-pub fn is_loaded<R: Abort + Threads + Sync>(
-    rt: &R,
-    alloc: Global,
-    load: &Load,
-) -> Result<bool, Fail> {
+pub fn is_loaded<R: Threads + Sync>(rt: &R, alloc: Global, load: &Load) -> Result<bool, Fail> {
     let files = owned_files(rt, alloc, load.files)?;
     let seen = run_over(rt, alloc, &["load", "D", load.main], files, "", NO_FAULTS)?;
     Ok(
@@ -216,11 +205,7 @@ fn what_load_says_of_a_folder(rt: HostRuntime) -> Result<(), Fail> {
 }
 
 /// Loads the class One of a file with these bytes.
-fn load_bytes<R: Abort + Threads + Sync>(
-    rt: &R,
-    alloc: Global,
-    bytes: Vec<u8>,
-) -> Result<Seen, Fail> {
+fn load_bytes<R: Threads + Sync>(rt: &R, alloc: Global, bytes: Vec<u8>) -> Result<Seen, Fail> {
     let mut files = Vec::new(alloc);
     files.push((String::from_str(alloc, "One.class")?, bytes))?;
     run_over(rt, alloc, &["load", "D", "One"], files, "", NO_FAULTS)

@@ -1,7 +1,7 @@
 //! Tests of names of main classes beyond ASCII.
 
 use crate::loading::{Load, is_loaded};
-use crate::running::File;
+use jrev_cases::File;
 use std::test::Fail;
 
 /// What javac makes of `class é { public static void main(String[] words) {} }`.

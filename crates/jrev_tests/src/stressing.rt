@@ -1,6 +1,6 @@
 //! Tests of stress: the program that is made for a number is executed twice.
 
-use crate::running::{Case, is_as_wanted};
+use jrev_cases::{Case, is_as_wanted};
 use std::test::Fail;
 
 /// Numbers whose programs have 9 threads, 2, and 2 again, since 15 divides 2^64 - 1; with what is printed.

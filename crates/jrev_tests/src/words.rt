@@ -1,11 +1,11 @@
 //! Tests of the words of the command line, of the version and the help, and of the numbers of statuses.
 
-use crate::running::{Case, is_as_wanted, owned_words, run};
+use jrev_cases::{Case, is_as_wanted, owned_words, run};
 use jrev_top::{Request, Status, words_of};
 use std::test::Fail;
 
 /// Words that ask for nothing that there is, or that isn't carried out yet.
-const FAULTY: [&[&str]; 28] = [
+const FAULTY: [&[&str]; 29] = [
     &[],
     &["pick", "D"],
     &["pick", "D", "One", "x"],
@@ -26,9 +26,10 @@ const FAULTY: [&[&str]; 28] = [
     &["check", "D", "One", "--seed=1"],
     &["migrate", "x"],
     &["stress", "x"],
-    &["pick", "D", "One", "--counts"],
-    &["pick", "D", "One", "--order=1@1"],
-    &["pick", "D", "One", "--seed=1", "--order=1*1,2@27"],
+    &["pick", "D", "One", "--counts", "--counts"],
+    &["pick", "D", "One", "--counts=1"],
+    &["pick", "D", "One", "--order=1@28"],
+    &["pick", "D", "One", "--order=1@34"],
     &["load", "D", "One", "--order=1*1"],
     &["load", "D", "One", "--seed=1"],
     &["load", "D", "One", "--turns=5"],

@@ -94,11 +94,11 @@ done_is (statuses.NotExecution n) is = cc
 done_is (statuses.MakeRefused n) is = cc
 
 -- two runs of the program of a number, or one
-pub ran_twice : (number count : ℕ) (program : Accepted) (first second answer : Answer) → Runs (seeded number) stress_limits count program first → is_done first.status ≡ true
-    → Runs (seeded ((number + 1) % 2 ^ 64)) stress_limits count program second → answer ≡ second_answer first second → RunsTwice number count program answer
+pub ran_twice : (number count : ℕ) (program : Accepted) (first second answer : Answer) → Runs (seeded number) stress_limits false count program first → is_done first.status ≡ true
+    → Runs (seeded ((number + 1) % 2 ^ 64)) stress_limits false count program second → answer ≡ second_answer first second → RunsTwice number count program answer
 ran_twice number count program first second answer runs well again is = (first, runs, inl (done_is first.status well, second, again, is))
 
-pub ran_once : (number count : ℕ) (program : Accepted) (first answer : Answer) → Runs (seeded number) stress_limits count program first → is_done first.status ≡ false
+pub ran_once : (number count : ℕ) (program : Accepted) (first answer : Answer) → Runs (seeded number) stress_limits false count program first → is_done first.status ≡ false
     → answer ≡ first_answer first → RunsTwice number count program answer
 ran_once number count program first answer runs ill is = (first, runs, inr (λ well. not_done (sym (ap is_done well) ∙ ill), is))
   where

@@ -75,8 +75,8 @@ or_right false b is = is
 or_left : (a b : Bool) → a ≡ true → a || b ≡ true
 or_left a b is = ap (λ x. x || b) is
 
-ran : (schedule : Schedule) (limits : Limits) (count : ℕ) (program : Accepted) (answer : Answer) → Runs schedule limits count program answer → is_of_run answer.status ≡ true
-ran schedule limits count program answer is = ap (λ (a : Answer). is_of_run a.status) is.answered ∙ of_how is.outcome.how
+ran : (schedule : Schedule) (limits : Limits) (counts : Bool) (count : ℕ) (program : Accepted) (answer : Answer) → Runs schedule limits counts count program answer → is_of_run answer.status ≡ true
+ran schedule limits counts count program answer is = ap (λ (a : Answer). is_of_run a.status) is.answered ∙ of_how is.outcome.how
 
 traced : (schedule : Schedule) (limits : Limits) (count : ℕ) (program : Accepted) (answer : Answer) → Traces schedule limits count program answer → is_of_run answer.status ≡ true
 traced schedule limits count program answer is = ap (λ (a : Answer). is_of_run a.status) is.answered ∙ of_how is.outcome.how
@@ -112,16 +112,16 @@ migrated text answer (inr (fault, is, same)) = ends-as is_of_journal answer _ sa
 
 two_runs : (number count : ℕ) (program : Accepted) (answer : Answer) → RunsTwice number count program answer → is_of_run answer.status ≡ true
 two_runs number count program answer (first, runs, inl (well, second, again, same)) =
-    ap (λ (a : Answer). is_of_run a.status) same ∙ ran (seeded ((number + 1) % 2 ^ 64)) stress_limits count program second again
+    ap (λ (a : Answer). is_of_run a.status) same ∙ ran (seeded ((number + 1) % 2 ^ 64)) stress_limits false count program second again
 two_runs number count program answer (first, runs, inr (other, same)) =
-    ap (λ (a : Answer). is_of_run a.status) same ∙ ran (seeded number) stress_limits count program first runs
+    ap (λ (a : Answer). is_of_run a.status) same ∙ ran (seeded number) stress_limits false count program first runs
 
 stressed : (number : ℕ) (answer : Answer) → IsStressed number answer → is_of_run answer.status || is_of_program answer.status ≡ true
 stressed number answer (files, are, judged) =
     judged_as is_of_run (RunsTwice number) (two_runs number) (encoded_text STRESS_MAIN.now) stress_names files answer judged
 
 request-ends : (request : Request) (outside : Outside) (answer : Answer) → IsAnswerTo request outside answer → may_end request answer.status ≡ true
-request-ends (Pick dir main limits schedule counts) outside answer is = judged_as is_of_run (Runs schedule limits) (ran schedule limits) (encoded_text main) _ is.3.0 answer is.3.2
+request-ends (Pick dir main limits schedule counts) outside answer is = judged_as is_of_run (Runs schedule limits counts) (ran schedule limits counts) (encoded_text main) _ is.3.0 answer is.3.2
 request-ends (Trace dir main limits schedule) outside answer is = judged_as is_of_run (Traces schedule limits) (traced schedule limits) (encoded_text main) _ is.3.0 answer is.3.2
 request-ends (Check dir main) outside answer is = judged_as is_of_journal (Checks outside.input) (checks outside.input) (encoded_text main) _ is.3.0 answer is.3.2
 request-ends (Load dir main) outside answer is = counted (encoded_text main) _ is.3.0 answer is.3.2

@@ -1,5 +1,5 @@
 -- What the program answers to what it read.
-use Rattle.std.specs.Prelude.{◌≡◌, ◌≢◌, ℕ, ◌+◌, ◌%◌, ◌^◌, ◌⊎◌, List, [], ◌∷◌, ◌++◌, length, take, codes, Option, Some, IfSome, Ok, Err, slice_index_or}
+use Rattle.std.specs.Prelude.{◌≡◌, ◌≢◌, ℕ, Bool, false, ◌+◌, ◌%◌, ◌^◌, ◌⊎◌, List, [], ◌∷◌, ◌++◌, length, take, codes, Option, Some, IfSome, Ok, Err, slice_index_or}
 use Rattle.std.specs.Fmt.{decimal}
 use Rattle.jr_ports.specs.Folder.{File}
 use Rattle.class_make.specs.Texts.{IsAssembled}
@@ -122,11 +122,11 @@ IsLoaded main files names loaded =
 abbrev pub Counts : ℕ → Accepted → Answer → Type 0
 Counts count program answer = answer ≡ accepted count
 
--- what pick answers to a program: a run of it
-abbrev pub Runs : Schedule → Limits → ℕ → Accepted → Answer → Type 0
-Runs schedule limits count program answer = IsRunOf program.units program.main schedule limits answer
+-- what pick answers to a program: a run of it, with its counts where they are asked for
+abbrev pub Runs : Schedule → Limits → Bool → ℕ → Accepted → Answer → Type 0
+Runs schedule limits counts count program answer = IsRunOf program.units program.main schedule limits counts answer
 
--- what trace answers to a program: the journal of a run of it
+-- what trace answers to a program: the journal of a run of it on ordinary monitors
 abbrev pub Traces : Schedule → Limits → ℕ → Accepted → Answer → Type 0
 Traces schedule limits count program answer = IsTraceOf program.units program.main schedule limits answer
 
@@ -180,14 +180,14 @@ second_answer first second = record {
 -- after a first run that ended well the lines of both runs, the second by another seed; after another one its own
 abbrev pub IsSecond : ℕ → ℕ → Accepted → Answer → Answer → Type 0
 IsSecond number count program first answer =
-    ((first.status ≡ statuses.Done) × (second : Answer) × Runs (seeded ((number + 1) % 2 ^ 64)) stress_limits count program second
+    ((first.status ≡ statuses.Done) × (second : Answer) × Runs (seeded ((number + 1) % 2 ^ 64)) stress_limits false count program second
     × (answer ≡ second_answer first second))
     ⊎ ((first.status ≢ statuses.Done) × (answer ≡ first_answer first))
 
 -- what stress answers to the program of a number
 abbrev pub RunsTwice : ℕ → ℕ → Accepted → Answer → Type 0
 RunsTwice number count program answer =
-    (first : Answer) × Runs (seeded number) stress_limits count program first × IsSecond number count program first answer
+    (first : Answer) × Runs (seeded number) stress_limits false count program first × IsSecond number count program first answer
 
 -- the answer of stress: the class files that are made for the number are judged as those of a folder are
 abbrev pub IsStressed : ℕ → Answer → Type 0

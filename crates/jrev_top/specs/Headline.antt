@@ -38,7 +38,7 @@ IsOfProgram answers dir main outside answer =
 
 -- The answer to a request. A class's name is compared in modified UTF-8.
 abbrev pub IsAnswerTo : Request → Outside → Answer → Type 0
-IsAnswerTo (Pick dir main limits schedule counts) outside answer = IsOfProgram (Runs schedule limits) dir (encoded_text main) outside answer
+IsAnswerTo (Pick dir main limits schedule counts) outside answer = IsOfProgram (Runs schedule limits counts) dir (encoded_text main) outside answer
 IsAnswerTo (Trace dir main limits schedule) outside answer = IsOfProgram (Traces schedule limits) dir (encoded_text main) outside answer
 IsAnswerTo (Check dir main) outside answer = IsOfProgram (Checks outside.input) dir (encoded_text main) outside answer
 IsAnswerTo (Load dir main) outside answer = IsOfProgram Counts dir (encoded_text main) outside answer

@@ -72,12 +72,13 @@ pub(crate) fn decide<D: ClassDir, I: Source>(
                 main,
                 limits,
                 schedule,
-                ..
+                counts,
             },
         ) => {
             let execution = Execution {
                 schedule: &schedule,
                 limits: &limits,
+                counts,
             };
             decide_program(alloc, dir.as_str(), main.as_str(), classes, &execution)
         }

@@ -1,6 +1,6 @@
 //! `stress`.
 
-ghost use Rattle.std.specs.Prelude.{◌≡◌, ◌∷◌, ◌++◌, [], IfOk, OnOk};
+ghost use Rattle.std.specs.Prelude.{◌≡◌, ◌∷◌, ◌++◌, [], IfOk, OnOk, false};
 ghost use Rattle.accepted_programs.specs.Programs.{IsOfFiles};
 ghost use Rattle.java_run.specs.Run.{IsRunOf, shown};
 ghost use Rattle.jrev_top.specs.Answers as answers;
@@ -27,7 +27,7 @@ pub struct StressRuns {
 // A run by a number.
 fn seeded(alloc: Global, accepted: &Program, number: u64) -> Result<PrintedRun, NoMemory>
     requires { IsOfFiles accepted.now }
-    ensures { IfOk result (λ run. IsRunOf accepted.now.units accepted.now.main (answers.seeded number) answers.stress_limits (shown run)) }
+    ensures { IfOk result (λ run. IsRunOf accepted.now.units accepted.now.main (answers.seeded number) answers.stress_limits false (shown run)) }
 {
     let program = JavaWorld::new(alloc, accepted)?;
     let schedule = Schedule {
@@ -39,7 +39,7 @@ fn seeded(alloc: Global, accepted: &Program, number: u64) -> Result<PrintedRun, 
         heap: 4_194_304,
         sections: 16_777_215,
     };
-    execute_printed(alloc, &program, accepted, &schedule, &limits)
+    execute_printed(alloc, &program, accepted, &schedule, &limits, false)
 }
 
 // The lines of a run after a title.

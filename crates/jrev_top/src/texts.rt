@@ -17,9 +17,11 @@ usage: jrev pick DIR MAIN [OPTION..]
        jrev --version
 
 pick       loads the class files of the folder DIR and executes the class MAIN, a dot or a slash between the
-           parts of its name, with its threads by turns on one processor, and prints its lines.
-trace      executes a program as pick does and prints the journal of the run: a line for each operation of a
-           thread. docs/journal.md explains it.
+           parts of its name, with its threads by turns on one processor, and prints its lines. A thread of
+           higher priority takes a monitor back from a thread of lower priority, which then goes on from where
+           it entered that monitor, unless what it did since then can't be undone any more.
+trace      executes a program by turns with ordinary monitors and prints the journal of the run: a line for
+           each operation of a thread. docs/journal.md explains it.
 check      reads a journal from the standard input and says whether it is one of an execution of the program.
            If it is, check prints the lines of that execution, and else the line of the journal that shows it.
 load       says whether the class files of the folder DIR are accepted as a program that begins with the
@@ -35,11 +37,14 @@ stress     makes a program of 2 to 16 threads from the number N, which count und
 
 options of pick and trace, each at most once:
   --order=ITEM,..  the turns that come first: 2*100 gives thread 2 one hundred turns. After the order
-                   the first thread that can go on has the turn
+                   the first thread that can go on has the turn. Under pick 2@20 gives thread 2 turns
+                   up to its next step of kind 20; docs/schedules.md has the kinds
   --seed=N         after the order a thread is drawn for each turn, by this number
   --turns=N        the most turns of a thread (1000000000)
   --heap=N         the most words of objects (4194304)
-  --sections=N     says nothing yet
+  --sections=N     the most sections, under pick (4194304)
+option of pick alone:
+  --counts         prints how many sections were opened, and how often a thread undid levels
 
 examples: jrev pick classes Main
           jrev pick classes Main --seed=7

@@ -1,6 +1,6 @@
 //! What is answered to a program that is accepted.
 
-ghost use Rattle.std.specs.Prelude.{IfOk};
+ghost use Rattle.std.specs.Prelude.{IfOk, ◌<◌, ◌^◌};
 
 use crate::answers::accepted;
 use java_run::{execute, trace};
@@ -41,25 +41,36 @@ impl Verdict for Count {
     }
 }
 
-/// A run of the program by a schedule and under limits.
+/// A run of the program by a schedule and under limits, with its counts where they are asked for. There are fewer than 2^24
+/// sections, and fewer than 2^56 turns of each thread.
 #[derive(Clone, Copy)]
 pub struct Execution<'a> {
     pub schedule: &'a Schedule,
     pub limits: &'a Limits,
+    pub counts: bool,
+    ghost sections: { limits.now.sections < 2 ^ 24 },
+    ghost turns: { limits.now.turns < 2 ^ 56 },
 }
 
 impl<'a> Verdict for Execution<'a> {
     ghost use Rattle.jrev_top.specs.Answers.{Runs};
 
-    ghost answers = { λ e. Runs e.schedule.now e.limits.now };
+    ghost answers = { λ e. Runs e.schedule.now e.limits.now e.counts };
 
     fn answer(&self, alloc: Global, _count: usize, accepted: &Program) -> Result<Answer, NoMemory> {
         let program = JavaWorld::new(alloc, accepted)?;
-        execute(alloc, &program, accepted, self.schedule, self.limits)
+        execute(
+            alloc,
+            &program,
+            accepted,
+            self.schedule,
+            self.limits,
+            self.counts,
+        )
     }
 }
 
-/// The journal of a run of the program by a schedule and under limits.
+/// The journal of a run of the program on ordinary monitors, by a schedule and under limits.
 #[derive(Clone, Copy)]
 pub struct Tracing<'a> {
     pub schedule: &'a Schedule,

@@ -19,8 +19,8 @@ use Rattle.instructions.specs.declared.operation.Shift.TheVariants.{Left, Right,
 use Rattle.link_types.specs.declared.types.ValueType.{ValueType}
 use Rattle.link_types.specs.declared.types.ValueType.TheVariants as values
 use Rattle.java_rows.specs.Numbers.{result_of, shifted_by, negative_of, kept, byte_of, short_of, long_of}
-use Rattle.soundness_senses.specs.Numbers.{NumbersFit}
-use Rattle.soundness_senses.specs.Texts.{AreWords}
+use Rattle.row_soundness.specs.Numbers.{NumbersFit}
+use Rattle.row_soundness.specs.Texts.{AreWords}
 
 module _ (w : Width) where
   -- a number of so small a magnitude has a word

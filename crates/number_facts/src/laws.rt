@@ -1,6 +1,6 @@
 //! Numbers that instructions compute.
 
-ghost use Rattle.soundness_senses.specs.Numbers.{NumbersFit};
+ghost use Rattle.row_soundness.specs.Numbers.{NumbersFit};
 
 /// What arithmetic, shifts and conversions give of words are words, of longs longs; and the digits of a number are words.
 pub fn numbers_fit()

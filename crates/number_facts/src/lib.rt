@@ -1,6 +1,6 @@
 //! What holds of the numbers that instructions compute. Laws alone.
 //!
-//! It is a part of `Accepted` of `soundness_senses`.
+//! It is a part of `Accepted` of `row_soundness`.
 #![tactic(auto)]
 
 mod laws;

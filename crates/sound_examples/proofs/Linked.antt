@@ -19,7 +19,7 @@ use Rattle.link_rules.specs.Linked.{IsLinked}
 use Rattle.link_rules.specs.LinkRules.{link_rules, abstract_methods, code_use_rules, declared_method_rules, implementation_rules, IsImplemented, IsPublicWhereImplemented, members_rules, supers_rules, twice_rules, uses_rules, what_rules}
 use Rattle.link_rules.specs.Supers.{HasSuper, IsAbove, IsWayUp, PutsSupersFirst, method_order, superclasses, superinterfaces}
 use Rattle.link_rules.proofs.Numbers.{class_count_is, in_library}
-use Rattle.sound_objects.proofs.FixedFit.{range_at}
+use Rattle.program_soundness.proofs.FixedFit.{range_at}
 use Rattle.sound_examples.specs.Program.{idle_code, idle_main, idle_pool, idle_program, idle_step, idle_unit}
 
 -- ---- what is above the classes

@@ -6,11 +6,11 @@ use Rattle.link_rules.specs.Classes.{classes_of, member_of_file}
 use Rattle.link_rules.specs.FixedObjects.{first_free}
 use Rattle.link_rules.specs.Methods.{method_named}
 use Rattle.link_rules.specs.Names.{program_names}
-use Rattle.linked_operands.specs.Sound.{IsSound}
+use Rattle.program_soundness.specs.SoundPrograms.{IsSound}
 use Rattle.java_rows.specs.Start.{start_of_program}
-use Rattle.sound_programs.specs.Programs.{IsMainMethod}
-use Rattle.sound_starts.specs.Starts.{RunsFit}
-use Rattle.sound_starts.proofs.Whole.{runs_fit}
+use Rattle.program_soundness.specs.Programs.{IsMainMethod}
+use Rattle.program_soundness.specs.Starts.{RunsFit}
+use Rattle.program_soundness.proofs.StartLaws.{runs_fit}
 use Rattle.sound_examples.specs.Program.{idle_main, idle_method, idle_pool, idle_program}
 use Rattle.sound_examples.proofs.Decoded.{decoded}
 use Rattle.sound_examples.proofs.Linked.{linked}

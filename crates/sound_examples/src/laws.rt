@@ -4,10 +4,10 @@ ghost use Rattle.std.specs.Prelude.{ℕ, List, ◌≤◌, ◌^◌};
 ghost use Rattle.java_rows.specs.Start.{start_of_program};
 ghost use Rattle.link_rules.specs.FixedObjects.{first_free};
 ghost use Rattle.link_rules.specs.Names.{program_names};
-ghost use Rattle.linked_operands.specs.Sound.{IsSound};
+ghost use Rattle.program_soundness.specs.SoundPrograms.{IsSound};
 ghost use Rattle.sound_examples.specs.Program.{idle_method, idle_program};
-ghost use Rattle.sound_programs.specs.Programs.{IsMainMethod};
-ghost use Rattle.sound_starts.specs.Starts.{RunsFit};
+ghost use Rattle.program_soundness.specs.Programs.{IsMainMethod};
+ghost use Rattle.program_soundness.specs.Starts.{RunsFit};
 
 /// The program of a class `Main` whose `main` does nothing is decoded from some bytes, keeps the rules of linking in an order
 /// of its classes, is type safe, begins with that method, and has few objects at the start. So what is proved of sound

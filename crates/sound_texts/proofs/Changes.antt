@@ -5,10 +5,10 @@ use Rattle.code_decode.specs.declared.code.ClassUnit.{ClassUnit}
 use Rattle.op_core.specs.OrdinaryState.{Object, OrdinaryState}
 use Rattle.java_rows.specs.Thread.{Local}
 use Rattle.kept_states.specs.Kept.{Extends}
-use Rattle.soundness_senses.specs.Senses.{filling, naming}
-use Rattle.soundness_senses.specs.Fits.{Preceding, a_text}
-use Rattle.soundness_senses.specs.Runs.{ObjectFits, fixed_of}
-use Rattle.java_sound.specs.Sound.{StateFits}
+use Rattle.row_soundness.specs.Senses.{filling, naming}
+use Rattle.row_soundness.specs.Fits.{Preceding, a_text}
+use Rattle.row_soundness.specs.Runs.{ObjectFits, fixed_of}
+use Rattle.program_soundness.specs.Soundness.{StateFits}
 use Rattle.std.specs.Prelude.{is_some}
 use Rattle.sound_texts.proofs.TextsKnow.{holds_more}
 use Rattle.sound_texts.specs.KnownTexts.{GoesOn, HoldsPlain, IsString, Seen}

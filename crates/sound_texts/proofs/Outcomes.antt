@@ -17,17 +17,17 @@ use Rattle.op_core.specs.OrdinaryStep.{IsStep, after}
 use Rattle.op_core.proofs.PointwiseLemmas.{set_at-at, set_at-hit}
 use Rattle.java_rows.specs.Plan.{Plan}
 use Rattle.java_rows.specs.Thread.{Local, java_code}
-use Rattle.soundness_senses.specs.Senses.{Making, PlainSteps, filling, naming, number, reference}
-use Rattle.soundness_senses.specs.Fits.{Returns, Preceding, PlanFits, IsTheEnd, a_text, after_reply, anything, following, making_of}
+use Rattle.row_soundness.specs.Senses.{Making, PlainSteps, filling, naming, number, reference}
+use Rattle.row_soundness.specs.Fits.{Returns, Preceding, PlanFits, IsTheEnd, a_text, after_reply, anything, following, making_of}
 use Rattle.link_types.specs.declared.types.ObjectType.{ObjectType}
-use Rattle.soundness_senses.specs.Knowledge.{element_type}
-use Rattle.soundness_senses.specs.Runs.{HasObject, MayStandFor, ObjectFits, WordHolds, of_numbers}
-use Rattle.soundness_senses.proofs.Settled.{goes_on_after}
-use Rattle.soundness_senses.proofs.TextsMade.{string_type}
-use Rattle.soundness_runs.specs.ClassesFollow.{ClassesFollow}
-use Rattle.linked_operands.specs.Sound.{IsSound}
-use Rattle.java_sound.specs.Sound.{StateFits}
-use Rattle.sound_priorities.proofs.StepFacts.{not_free, reply_is_true}
+use Rattle.row_soundness.specs.Knowledge.{element_type}
+use Rattle.row_soundness.specs.Runs.{HasObject, MayStandFor, ObjectFits, WordHolds, of_numbers}
+use Rattle.row_soundness.proofs.Settled.{goes_on_after}
+use Rattle.row_soundness.proofs.TextsMade.{string_type}
+use Rattle.row_soundness.specs.ClassesFollow.{ClassesFollow}
+use Rattle.program_soundness.specs.SoundPrograms.{IsSound}
+use Rattle.program_soundness.specs.Soundness.{StateFits}
+use Rattle.program_soundness.proofs.StepFacts.{not_free, reply_is_true}
 use Rattle.sound_texts.specs.KnownTexts.{BeginsText, Comes, FillsText, GoesOn, HoldsPlain, IsCharArray, IsString, NamesText, Seen, TextSteps, Wants, text_sense}
 use Rattle.sound_texts.specs.KeptTexts.{AreApart, IsArray, IsNew, IsSeen, IsUnnamed, MakingFits, array_of, seen_in, string_of}
 use Rattle.sound_texts.proofs.Changes.{Changes, next, goes_on, still}

@@ -10,10 +10,10 @@ use Rattle.op_core.specs.OrdinaryState.{Object, OrdinaryState, set_at}
 use Rattle.op_core.specs.OrdinaryStep.{IsStep, MayAnswer, after, objects_after, words_after}
 use Rattle.op_core.proofs.PointwiseLemmas.{set_at-at, set_at-hit}
 use Rattle.java_rows.specs.Thread.{Local, java_code}
-use Rattle.soundness_senses.specs.Fits.{Preceding}
-use Rattle.soundness_senses.specs.Runs.{RunsWant}
-use Rattle.java_sound.specs.Sound.{StateFits}
-use Rattle.sound_priorities.proofs.StepFacts.{not_free, objects_stay}
+use Rattle.row_soundness.specs.Fits.{Preceding}
+use Rattle.row_soundness.specs.Runs.{RunsWant}
+use Rattle.program_soundness.specs.Soundness.{StateFits}
+use Rattle.program_soundness.proofs.StepFacts.{not_free, objects_stay}
 use Rattle.sound_texts.specs.KnownTexts.{HoldsPlain, IsString, KeepsTexts, Seen, TellsTexts}
 use Rattle.sound_texts.specs.KeptTexts.{IsArray, IsSeen, seen_in}
 use Rattle.sound_texts.proofs.Changes.{Changes, next, goes_on, still}

@@ -15,19 +15,19 @@ use Rattle.link_rules.specs.Names.{program_names}
 use Rattle.op_core.specs.OrdinaryState.{Object, live, unused}
 use Rattle.java_rows.specs.Start.{fixed_object, start_of_program}
 use Rattle.java_rows.specs.Thread.{Local, first_state}
-use Rattle.soundness_senses.specs.Accepted.{Accepted, IsMain}
-use Rattle.soundness_senses.specs.Fits.{anything}
-use Rattle.soundness_senses.specs.Knowledge.{Knows}
-use Rattle.soundness_senses.specs.Rows.{RowsFit}
-use Rattle.soundness_senses.specs.Runs.{fixed_of}
-use Rattle.soundness_runs.specs.ClassesFollow.{IsFixed}
-use Rattle.soundness_calls.proofs.FirstState.{first_fits}
-use Rattle.java_sound.specs.Sound.{StateFits}
-use Rattle.linked_operands.specs.Sound.{IsSound}
-use Rattle.linked_operands.proofs.Methods.{from_map}
-use Rattle.sound_objects.proofs.FixedFit.{arguments_fit, class_object_fits, main_thread_fits, out_fits}
-use Rattle.sound_objects.proofs.FixedRows.{IsInRow, row_object}
-use Rattle.sound_starts.proofs.Starts.{IsAtStart, a_class, the_out, the_thread, the_arguments, a_literal, is_at_start}
+use Rattle.row_soundness.specs.Accepted.{Accepted, IsMain}
+use Rattle.row_soundness.specs.Fits.{anything}
+use Rattle.row_soundness.specs.Knowledge.{Knows}
+use Rattle.row_soundness.specs.Rows.{RowsFit}
+use Rattle.row_soundness.specs.Runs.{fixed_of}
+use Rattle.row_soundness.specs.ClassesFollow.{IsFixed}
+use Rattle.row_soundness.proofs.FirstState.{first_fits}
+use Rattle.program_soundness.specs.Soundness.{StateFits}
+use Rattle.program_soundness.specs.SoundPrograms.{IsSound}
+use Rattle.program_soundness.proofs.Methods.{from_map}
+use Rattle.program_soundness.proofs.FixedFit.{arguments_fit, class_object_fits, main_thread_fits, out_fits}
+use Rattle.program_soundness.proofs.FixedRows.{IsInRow, row_object}
+use Rattle.program_soundness.proofs.Starts.{IsAtStart, a_class, the_out, the_thread, the_arguments, a_literal, is_at_start}
 use Rattle.sound_texts.specs.KnownTexts.{IsString, Seen, text_sense}
 use Rattle.sound_texts.specs.KeptTexts.{IsSeen, SeenLocal, seen_in}
 use Rattle.sound_texts.specs.Texts.{IsLiteral}

@@ -19,17 +19,17 @@ use Rattle.op_core.proofs.PointwiseLemmas.{set_at-at}
 use Rattle.op_core.proofs.QuietLemmas.{quiet_step-silent}
 use Rattle.java_rows.specs.Plan.{Plan, want, silently, calls, ready, over, stuck}
 use Rattle.java_rows.specs.Thread.{Local, java_code, next_of, silent_of, reply_of, child_of}
-use Rattle.soundness_senses.specs.Senses.{Making, filling, naming}
-use Rattle.soundness_senses.specs.Fits.{Returns, Preceding, IsAnywhere, LocalFits, PlanFits, anything, following, making_of}
-use Rattle.soundness_senses.specs.Knowledge.{Knows}
-use Rattle.soundness_senses.specs.Accepted.{Accepted}
-use Rattle.soundness_senses.specs.Rows.{RowsFit}
-use Rattle.soundness_senses.proofs.More.{local_more}
-use Rattle.soundness_senses.proofs.Settled.{child_fits, replied, silent_fits}
-use Rattle.soundness_runs.specs.ClassesFollow.{ClassesFollow}
-use Rattle.linked_operands.specs.Sound.{IsSound}
-use Rattle.java_sound.specs.Sound.{StateFits}
-use Rattle.sound_priorities.proofs.StepFacts.{quiet_next}
+use Rattle.row_soundness.specs.Senses.{Making, filling, naming}
+use Rattle.row_soundness.specs.Fits.{Returns, Preceding, IsAnywhere, LocalFits, PlanFits, anything, following, making_of}
+use Rattle.row_soundness.specs.Knowledge.{Knows}
+use Rattle.row_soundness.specs.Accepted.{Accepted}
+use Rattle.row_soundness.specs.Rows.{RowsFit}
+use Rattle.row_soundness.proofs.More.{local_more}
+use Rattle.row_soundness.proofs.Settled.{child_fits, replied, silent_fits}
+use Rattle.row_soundness.specs.ClassesFollow.{ClassesFollow}
+use Rattle.program_soundness.specs.SoundPrograms.{IsSound}
+use Rattle.program_soundness.specs.Soundness.{StateFits}
+use Rattle.program_soundness.proofs.StepFacts.{quiet_next}
 use Rattle.sound_texts.specs.KnownTexts.{GoesOn, Seen, TextSteps, text_sense}
 use Rattle.sound_texts.specs.KeptTexts.{AreApart, IsSeen, MakingFits, SeenLocal, seen_in}
 use Rattle.sound_texts.proofs.Changes.{begun_after, fixed_after, goes_on, literals_after, making_after, next, strings_after}

@@ -9,16 +9,16 @@ use Rattle.link_rules.specs.Classes.{classes_of, superclass_of}
 use Rattle.link_rules.specs.Names.{program_names, type_numbered, is_class_number}
 use Rattle.op_core.specs.OrdinaryState.{Object}
 use Rattle.java_rows.specs.Program.{is_of_file, is_subclass}
-use Rattle.soundness_senses.specs.Knowledge.{IsField}
-use Rattle.soundness_senses.specs.Runs.{MayStandFor, ObjectFits}
-use Rattle.soundness_senses.specs.Texts.{char_array}
+use Rattle.row_soundness.specs.Knowledge.{IsField}
+use Rattle.row_soundness.specs.Runs.{MayStandFor, ObjectFits}
+use Rattle.row_soundness.specs.Texts.{char_array}
 use Rattle.builtin_facts.proofs.NativeLaws as natives
-use Rattle.linked_operands.specs.Sound.{IsSound}
-use Rattle.sound_programs.proofs.BelowClasses.{IsBelowClass}
-use Rattle.sound_objects.proofs.BuiltInWords.{string_words}
-use Rattle.sound_priorities.specs.Seen.{IsTypeBelow}
-use Rattle.sound_priorities.proofs.TopClasses.{apart, builder_top, class_top, no_thrown, no_type_below, number_below, stream_top, string_top, super_below, thread_top, throwable_top, type_below, used_below}
-use Rattle.sound_priorities.proofs.TopClasses as tops
+use Rattle.program_soundness.specs.SoundPrograms.{IsSound}
+use Rattle.program_soundness.proofs.BelowClasses.{IsBelowClass}
+use Rattle.program_soundness.proofs.BuiltInWords.{string_words}
+use Rattle.program_soundness.specs.Seen.{IsTypeBelow}
+use Rattle.program_soundness.proofs.TopClasses.{apart, builder_top, class_top, no_thrown, no_type_below, number_below, stream_top, string_top, super_below, thread_top, throwable_top, type_below, used_below}
+use Rattle.program_soundness.proofs.TopClasses as tops
 use Rattle.sound_texts.specs.KnownTexts.{IsCharArray, IsString}
 
 module _ (us : List ClassUnit) (order : List ℕ) (sound : IsSound us order) where

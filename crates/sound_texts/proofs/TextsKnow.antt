@@ -17,15 +17,15 @@ use Rattle.op_core.specs.declared.Reply.{Reply}
 use Rattle.op_core.specs.OrdinaryState.{Object}
 use Rattle.java_rows.specs.Plan.{Plan}
 use Rattle.java_rows.specs.Texts.{makes_array, makes_string, writes_units}
-use Rattle.soundness_senses.specs.Senses.{Content, number, reference, Making, filling, naming, WordFits}
-use Rattle.soundness_senses.specs.Fits.{Returns, PlanFits, anything, a_text, following, making_of}
-use Rattle.soundness_senses.specs.Texts.{char_array}
-use Rattle.soundness_senses.specs.Knowledge.{Knows, LineFits, HasWords, contents_of, element_contents, element_place}
-use Rattle.soundness_senses.specs.Runs.{HasObject, HasWordFor, MayStandFor, ObjectFits, RunsWant, WordHolds, runs}
-use Rattle.soundness_runs.specs.ClassesFollow.{IsFixed, ClassesFollow}
-use Rattle.linked_operands.specs.Sound.{IsSound}
+use Rattle.row_soundness.specs.Senses.{Content, number, reference, Making, filling, naming, WordFits}
+use Rattle.row_soundness.specs.Fits.{Returns, PlanFits, anything, a_text, following, making_of}
+use Rattle.row_soundness.specs.Texts.{char_array}
+use Rattle.row_soundness.specs.Knowledge.{Knows, LineFits, HasWords, contents_of, element_contents, element_place}
+use Rattle.row_soundness.specs.Runs.{HasObject, HasWordFor, MayStandFor, ObjectFits, RunsWant, WordHolds, runs}
+use Rattle.row_soundness.specs.ClassesFollow.{IsFixed, ClassesFollow}
+use Rattle.program_soundness.specs.SoundPrograms.{IsSound}
 use Rattle.type_rules.specs.Wants.{element_types, is_array_of_one, is_array_of_references}
-use Rattle.sound_priorities.specs.Seen.{IsTypeBelow}
+use Rattle.program_soundness.specs.Seen.{IsTypeBelow}
 use Rattle.sound_texts.specs.KnownTexts.{GoesOn, HasText, HoldsPlain, IsElsewhere, IsNamed, IsPlain, IsString, KeepsTexts, Seen, TextSteps, Wants, text_sense}
 use Rattle.sound_texts.proofs.StringClasses.{field_after, is_string, no_array, no_array_number, no_builder, no_class_object, no_string_type, no_thread, no_throwable, no_throwable_type, no_thrown_string, string_type, super_string}
 

@@ -21,26 +21,26 @@ use Rattle.java_rows.specs.Plan.{Plan, want}
 use Rattle.java_rows.specs.Texts.{reads_text}
 use Rattle.java_rows.specs.Start.{start_of_program}
 use Rattle.text_stages.specs.Reading.{Memory, followed, followed_op}
-use Rattle.sound_priorities.proofs.StepFacts.{objects_stay}
+use Rattle.program_soundness.proofs.StepFacts.{objects_stay}
 use Rattle.java_rows.specs.Thread.{Local, java_code}
-use Rattle.soundness_senses.specs.Senses.{Making, filling, naming}
-use Rattle.soundness_senses.specs.Fits.{PlanFits, following, making_of}
-use Rattle.soundness_senses.specs.Accepted.{Accepted}
-use Rattle.soundness_senses.specs.Knowledge.{Knows}
-use Rattle.soundness_senses.specs.Rows.{RowsFit}
-use Rattle.soundness_senses.specs.Runs.{fixed_of}
-use Rattle.soundness_runs.specs.ClassesFollow.{ClassesFollow, IsFixed}
-use Rattle.soundness_runs.proofs.RunsKnow.{runs_know}
-use Rattle.soundness_rows.proofs.RowsTogether.{rows_fit}
-use Rattle.java_sound.specs.Sound.{HasRoom, StateFits}
-use Rattle.java_sound.proofs.Whole as java
-use Rattle.linked_operands.specs.Sound.{IsSound}
-use Rattle.linked_operands.proofs.Whole.{accepted}
-use Rattle.sound_programs.specs.Programs.{IsMainMethod}
-use Rattle.sound_programs.proofs.Programs.{main_begins}
-use Rattle.sound_programs.proofs.ThreadLaws.{programs_have_room}
-use Rattle.sound_objects.proofs.Whole.{classes_follow}
-use Rattle.sound_starts.proofs.Starts.{starts_fit}
+use Rattle.row_soundness.specs.Senses.{Making, filling, naming}
+use Rattle.row_soundness.specs.Fits.{PlanFits, following, making_of}
+use Rattle.row_soundness.specs.Accepted.{Accepted}
+use Rattle.row_soundness.specs.Knowledge.{Knows}
+use Rattle.row_soundness.specs.Rows.{RowsFit}
+use Rattle.row_soundness.specs.Runs.{fixed_of}
+use Rattle.row_soundness.specs.ClassesFollow.{ClassesFollow, IsFixed}
+use Rattle.row_soundness.proofs.RunsKnow.{runs_know}
+use Rattle.row_soundness.proofs.RowsTogether.{rows_fit}
+use Rattle.program_soundness.specs.Soundness.{HasRoom, StateFits}
+use Rattle.program_soundness.proofs.SoundnessLaws as java
+use Rattle.program_soundness.specs.SoundPrograms.{IsSound}
+use Rattle.program_soundness.proofs.AcceptedPrograms.{accepted}
+use Rattle.program_soundness.specs.Programs.{IsMainMethod}
+use Rattle.program_soundness.proofs.Programs.{main_begins}
+use Rattle.program_soundness.proofs.ThreadLaws.{programs_have_room}
+use Rattle.program_soundness.proofs.ObjectLaws.{classes_follow}
+use Rattle.program_soundness.proofs.Starts.{starts_fit}
 use Rattle.sound_texts.specs.KnownTexts.{BeginsText, IsNamed, KeepsTexts, Seen, TextSteps, text_sense}
 use Rattle.sound_texts.specs.KeptTexts.{IsArray, IsSeen, SeenLocal, seen_in}
 use Rattle.sound_texts.specs.Texts.{HasSameText, IsArrayOfOne, IsLiteral, IsStringAt, ReadsText, TextsStay, array_in, memory_of, text_of}

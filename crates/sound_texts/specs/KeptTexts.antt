@@ -5,9 +5,9 @@ use Rattle.code_decode.specs.declared.code.ClassUnit.{ClassUnit}
 use Rattle.op_core.specs.OrdinaryState.{Object, OrdinaryState, live, unused}
 use Rattle.java_rows.specs.Thread.{Local}
 use Rattle.kept_states.specs.Kept.{Extends}
-use Rattle.soundness_senses.specs.Senses.{filling, naming}
-use Rattle.soundness_senses.specs.Fits.{Preceding, a_text, anything, LocalFits, IsTheEnd}
-use Rattle.soundness_senses.specs.Runs.{fixed_of}
+use Rattle.row_soundness.specs.Senses.{filling, naming}
+use Rattle.row_soundness.specs.Fits.{Preceding, a_text, anything, LocalFits, IsTheEnd}
+use Rattle.row_soundness.specs.Runs.{fixed_of}
 use Rattle.sound_texts.specs.KnownTexts.{HoldsPlain, IsCharArray, IsString, Seen, text_sense}
 
 -- what is known in a state, where these are the arrays of texts

@@ -15,10 +15,10 @@ use Rattle.op_core.specs.declared.Line.TheVariants as lines
 use Rattle.op_core.specs.OrdinaryState.{Object}
 use Rattle.java_rows.specs.Program.{is_subclass}
 use Rattle.kept_states.specs.Kept.{Extends}
-use Rattle.soundness_senses.specs.Senses.{Sense, Making, filling, naming, PlainSteps, reference}
-use Rattle.soundness_senses.specs.Runs.{Known, HasObject, fixed_of, WordHolds, runs}
-use Rattle.soundness_senses.specs.Texts.{char_array}
-use Rattle.sound_priorities.specs.Seen.{IsTypeBelow}
+use Rattle.row_soundness.specs.Senses.{Sense, Making, filling, naming, PlainSteps, reference}
+use Rattle.row_soundness.specs.Runs.{Known, HasObject, fixed_of, WordHolds, runs}
+use Rattle.row_soundness.specs.Texts.{char_array}
+use Rattle.program_soundness.specs.Seen.{IsTypeBelow}
 
 abbrev pub IsString : List ClassUnit → ℕ → Bool
 IsString us c = is_subclass us c STRING

@@ -6,8 +6,8 @@ ghost use Rattle.java_rows.specs.Start.{start_of_program};
 ghost use Rattle.link_rules.specs.FixedObjects.{first_free};
 ghost use Rattle.link_rules.specs.Names.{program_names};
 ghost use Rattle.link_types.specs.declared.operands.MethodId.{MethodId};
-ghost use Rattle.linked_operands.specs.Sound.{IsSound};
-ghost use Rattle.sound_programs.specs.Programs.{IsMainMethod};
+ghost use Rattle.program_soundness.specs.SoundPrograms.{IsSound};
+ghost use Rattle.program_soundness.specs.Programs.{IsMainMethod};
 ghost use Rattle.sound_texts.specs.Texts.{TextsStay};
 
 /// In each execution from the start of a program, the text of a String never changes once the String has an array: it keeps

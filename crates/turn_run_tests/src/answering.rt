@@ -55,6 +55,7 @@ fn number_of(answer: StepAnswer) -> u64 {
 }
 
 impl Answering {
+    /// The words before the first step.
     pub fn new(words: PlainWords) -> Self {
         Answering {
             words,

@@ -11,11 +11,11 @@ use Rattle.op_core.specs.OrderlyLaws.{AllCanStand}
 use Rattle.ordinary_machine.specs.Start.{start_of}
 use Rattle.java_rows.specs.Start.{opening_of, start_of_program}
 use Rattle.java_rows.specs.Thread.{Local, first_state, java_code}
-use Rattle.linked_operands.specs.Sound.{IsSound}
-use Rattle.sound_programs.specs.Programs.{IsMainMethod}
-use Rattle.sound_programs.proofs.Programs.{go_in_order}
-use Rattle.sound_starts.specs.Starts.{RunsFit}
-use Rattle.sound_starts.proofs.Whole.{runs_fit}
+use Rattle.program_soundness.specs.SoundPrograms.{IsSound}
+use Rattle.program_soundness.specs.Programs.{IsMainMethod}
+use Rattle.program_soundness.proofs.Programs.{go_in_order}
+use Rattle.program_soundness.specs.Starts.{RunsFit}
+use Rattle.program_soundness.proofs.StartLaws.{runs_fit}
 use Rattle.standing_runs.proofs.Standing.{orderly_stuck}
 use Rattle.waiting_runs.specs.Waiting.{StuckRunsWait}
 

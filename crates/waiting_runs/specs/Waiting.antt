@@ -13,7 +13,7 @@ use Rattle.ordinary_machine.specs.Start.{start_of}
 use Rattle.ordinary_runs.specs.ScheduledRun.{Keeping, keeps_steps, IsOutcome}
 use Rattle.java_rows.specs.Start.{opening_of, start_of_program}
 use Rattle.java_rows.specs.Thread.{Local, first_state, java_code}
-use Rattle.java_sound.specs.Sound.{WaitsAt}
+use Rattle.program_soundness.specs.Soundness.{WaitsAt}
 
 -- the events lead from the start of the program to a state that is stuck: some thread hasn't ended, none of these has a step,
 -- and each of them waits

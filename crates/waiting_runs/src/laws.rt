@@ -5,8 +5,8 @@ ghost use Rattle.code_decode.specs.declared.code.ClassUnit.{ClassUnit};
 ghost use Rattle.link_rules.specs.FixedObjects.{first_free};
 ghost use Rattle.link_rules.specs.Names.{program_names};
 ghost use Rattle.link_types.specs.declared.operands.MethodId.{MethodId};
-ghost use Rattle.linked_operands.specs.Sound.{IsSound};
-ghost use Rattle.sound_programs.specs.Programs.{IsMainMethod};
+ghost use Rattle.program_soundness.specs.SoundPrograms.{IsSound};
+ghost use Rattle.program_soundness.specs.Programs.{IsMainMethod};
 ghost use Rattle.waiting_runs.specs.Waiting.{StuckRunsWait};
 
 /// A run of the program that is stuck is an execution after which some thread hasn't ended, and each such thread waits: for a

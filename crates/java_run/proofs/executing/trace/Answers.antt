@@ -1,8 +1,9 @@
 use Rattle.std.proofs.Common.{refl, ap, ◌∙◌}
 use Rattle.std.proofs.lemmas.Result.{IfOk-weaker}
 use Rattle.ordinary_runs.specs.ScheduledRun.{a_journal}
-use Rattle.java_run.specs.Run.{journal_answer, machine_at_start}
-use Rattle.java_run.proofs.RunLemmas.{is_run}
+use Rattle.java_words.specs.WordRun.{machine_at_start}
+use Rattle.java_run.specs.Run.{journal_answer}
+use Rattle.java_run.proofs.RunLemmas.{is_ordinary_run}
 use Rattle.java_run.proofs.executing.trace.Goals as goal
 
 pub returns : goal.returns
@@ -13,7 +14,7 @@ returns g c =
     let limits = c.args.limits.now in
     let outcome = c.in_ok-outcome.outcome in
     let (files, name, of) = c.requires.accepted in
-    let run = is_run us main schedule limits a_journal outcome refl c.runs_are_executions.ensures (c.accepted_programs_go_in_order.ensures.stuck files name of) c.in_ok-outcome.ensures in
+    let run = is_ordinary_run us main schedule limits a_journal outcome refl c.runs_are_executions.ensures (c.accepted_programs_go_in_order.ensures.stuck files name of) c.in_ok-outcome.ensures in
     IfOk-weaker c.journal_answer.result _ _ (λ answer is. record {
       outcome = outcome;
       run = run;

@@ -9,7 +9,7 @@ use Rattle.jrev_top.proofs.deciding.decide.Goals as goal
 
 pub returns-in-Ok-Pick-clause-answer : goal.returns-in-Ok-Pick-clause-answer
 returns-in-Ok-Pick-clause-answer g c =
-    IfOk-weaker c.decide_program.result _ _ (λ answer. program-asked _ _ (Runs c.in-Ok-Pick.schedule c.in-Ok-Pick.limits) c.in-Ok-Pick.dir c.in-Ok-Pick.main _ _ _ answer
+    IfOk-weaker c.decide_program.result _ _ (λ answer. program-asked _ _ (Runs c.in-Ok-Pick.schedule c.in-Ok-Pick.limits c.in-Ok-Pick.counts) c.in-Ok-Pick.dir c.in-Ok-Pick.main _ _ _ answer
     (c.in-Ok-Pick.ensures.found ∙ ap (λ (r : Request). let o : Option Request = Some r in o) c.in-Ok-Pick.field-0-is) c.as_str.ensures c.as_str-in-Ok-Pick.ensures (λ is. is)) c.decide_program.ensures.answer
 
 pub returns-in-Ok-Trace-clause-answer : goal.returns-in-Ok-Trace-clause-answer

@@ -1,0 +1,5 @@
+pub mod Runs
+pub mod Ready
+pub mod HeldUp
+pub mod Printed
+pub mod Left

@@ -1,3 +1,0 @@
-pub mod CharArrays
-pub mod PrintedLemmas
-pub mod LeftLemmas

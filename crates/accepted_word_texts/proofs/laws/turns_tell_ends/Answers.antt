@@ -1,5 +1,0 @@
-use Rattle.accepted_word_texts.proofs.LeftLemmas.{turns_tell_ends}
-use Rattle.accepted_word_texts.proofs.laws.turns_tell_ends.Goals as goal
-
-pub returns : goal.returns
-returns c us main = turns_tell_ends us main

@@ -1,4 +1,0 @@
-pub mod SoundLemmas
-pub mod OrderlyLemmas
-pub mod WaitLemmas
-pub mod Whole

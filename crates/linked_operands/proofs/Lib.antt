@@ -1,9 +1,0 @@
-pub mod Methods
-pub mod ClassNumbers
-pub mod InstructionOperands
-pub mod Hierarchy
-pub mod NamedMembers
-pub mod MethodFlags
-pub mod ChosenMethods
-pub mod LiteralUnits
-pub mod Whole

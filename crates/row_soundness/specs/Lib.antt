@@ -1,0 +1,12 @@
+pub mod Senses
+pub mod Texts
+pub mod Natives
+pub mod Fits
+pub mod Knowledge
+pub mod Numbers
+pub mod Operands
+pub mod Accepted
+pub mod Runs
+pub mod Kinds
+pub mod Rows
+pub mod ClassesFollow

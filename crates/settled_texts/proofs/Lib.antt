@@ -1,2 +1,0 @@
-pub mod UndoLemmas
-pub mod TextLemmas

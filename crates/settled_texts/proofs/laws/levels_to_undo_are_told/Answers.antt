@@ -1,5 +1,0 @@
-use Rattle.settled_texts.proofs.UndoLemmas.{levels_to_undo_are_told}
-use Rattle.settled_texts.proofs.laws.levels_to_undo_are_told.Goals as goal
-
-pub returns : goal.returns
-returns g c = levels_to_undo_are_told g.C.ThreadCode.code

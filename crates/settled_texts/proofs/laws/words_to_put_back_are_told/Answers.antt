@@ -1,5 +1,0 @@
-use Rattle.settled_texts.proofs.UndoLemmas.{words_to_put_back_are_told}
-use Rattle.settled_texts.proofs.laws.words_to_put_back_are_told.Goals as goal
-
-pub returns : goal.returns
-returns g c = words_to_put_back_are_told g.C.ThreadCode.code

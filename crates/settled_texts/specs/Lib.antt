@@ -1,2 +1,0 @@
-pub mod ToUndo
-pub mod Arrays

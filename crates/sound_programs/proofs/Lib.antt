@@ -1,5 +1,0 @@
-pub mod Rooms
-pub mod Programs
-pub mod ClassLaws
-pub mod BelowClasses
-pub mod ThreadLaws

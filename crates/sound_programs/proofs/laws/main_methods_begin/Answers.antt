@@ -1,5 +1,0 @@
-use Rattle.sound_programs.proofs.Programs.{main_begins}
-use Rattle.sound_programs.proofs.laws.main_methods_begin.Goals as goal
-
-pub returns : goal.returns
-returns c us order main sound is = main_begins us order main sound is

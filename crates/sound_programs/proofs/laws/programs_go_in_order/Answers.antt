@@ -1,5 +1,0 @@
-use Rattle.sound_programs.proofs.Programs.{go_in_order}
-use Rattle.sound_programs.proofs.laws.programs_go_in_order.Goals as goal
-
-pub returns : goal.returns
-returns c us order main classes sound is below = go_in_order us order main classes sound is below

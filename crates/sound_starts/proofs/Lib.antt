@@ -1,4 +1,0 @@
-pub mod FieldConstants
-pub mod FirstWords
-pub mod Starts
-pub mod Whole

@@ -1,4 +1,0 @@
-pub mod LocalRowsFit
-pub mod NumberRowsFit
-pub mod StackRowsFit
-pub mod FlowRowsFit

@@ -1,4 +1,0 @@
-pub mod EachRowFits
-pub mod PartsBegin
-pub mod RowsBegin
-pub mod RowsTogether

@@ -1,2 +1,0 @@
-pub mod RunsKnow
-pub mod Seen

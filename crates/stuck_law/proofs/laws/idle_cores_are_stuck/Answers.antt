@@ -1,5 +1,0 @@
-use Rattle.stuck_law.proofs.StuckLemmas.{idle_cores_are_stuck}
-use Rattle.stuck_law.proofs.laws.idle_cores_are_stuck.Goals as goal
-
-pub returns : goal.returns
-returns g c = idle_cores_are_stuck g.C.ThreadCode.code

@@ -1,5 +1,0 @@
-use Rattle.stuck_law.proofs.EndLemmas.{idle_runs_end_stuck}
-use Rattle.stuck_law.proofs.laws.idle_runs_end_stuck.Goals as goal
-
-pub returns : goal.returns
-returns g c = idle_runs_end_stuck g.C.ThreadCode.code

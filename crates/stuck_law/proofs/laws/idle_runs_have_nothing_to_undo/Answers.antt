@@ -1,5 +1,0 @@
-use Rattle.stuck_law.proofs.RestLemmas.{idle_runs_have_nothing_to_undo}
-use Rattle.stuck_law.proofs.laws.idle_runs_have_nothing_to_undo.Goals as goal
-
-pub returns : goal.returns
-returns g c = idle_runs_have_nothing_to_undo g.C.ThreadCode.code
