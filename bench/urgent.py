@@ -3,8 +3,8 @@
 
 usage: bench/urgent.py [--svg]     at the top of the repository, after `./jrev` has built the program; javac has to be there
 
-The slow thread makes that many rounds under the lock, and each round reads a word, or reads and writes one. When it has
-half of its turns behind it, the urgent thread wants the lock. The table has the turns of the whole section, and how many
+The slow thread makes a number of rounds under the lock, and each round reads a word, or reads and writes one. When it has
+made half of its turns, the urgent thread wants the lock. The table has the turns of the whole section, and how many
 turns the slow thread gets from then on until the urgent one can take the lock: where both have the same priority, and
 where that of the urgent one is higher. With --svg docs/urgent.svg is drawn of it.
 
@@ -74,7 +74,7 @@ JAVA = """class Urgent {
 
 
 def turns(count):
-    """Items of an order that give thread 2 so many turns."""
+    """Items of an order that give thread 2 a number of turns."""
     return ["2*1000000"] * (count // 1000000) + ([f"2*{count % 1000000}"] if count % 1000000 else [])
 
 
@@ -90,8 +90,8 @@ class Section:
         subprocess.run(["javac", "--release", "8", "-Xlint:-options", "-d", self.folder, source], check=True)
 
     def run(self, main, before, after):
-        """Whether the urgent thread has the lock, and how often levels were undone, if the slow thread gets so many turns
-        under the lock before the urgent one wants it, and so many after."""
+        """Whether the urgent thread has the lock, and how often levels were undone, by the turns that the slow thread
+        gets under the lock before the urgent one wants it, and after."""
         order = ["1@20", "2@12", *turns(before), "3*50", *turns(after), "3*50", "4*50"]
         words = [PROGRAM, "pick", self.folder, f"Urgent${main}", "--order=" + ",".join(order), "--heap=900", "--counts"]
         ran = subprocess.run(words, stdout=subprocess.PIPE, stderr=subprocess.PIPE, text=True)
