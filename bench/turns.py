@@ -222,14 +222,14 @@ def lent(text):
     """A file of the tests, as the program can have it."""
     text = re.sub(r'Err\(Fail::from\("[^"]*"\)\)', "Err(Stopped)", text)
     text = text.replace("use std::test::Fail;", "use crate::stopped::Stopped;").replace("Fail", "Stopped")
-    return text.replace("turns_tests", "turns_bench")
+    return text.replace("turns_cases", "turns_bench")
 
 
 def files():
-    """The files of the program, two of them and their words as the tests have them."""
+    """The files of the program, two of them and their words as the cases of the tests have them."""
     made = {"src/main.rt": MAIN, "src/stopped.rt": STOPPED}
     for path in ["src/setting.rt", "src/turning.rt", "specs/MadeSteps.antt", "specs/Lib.antt"]:
-        with open(os.path.join("crates", "turns_tests", path)) as source:
+        with open(os.path.join("crates", "turns_cases", path)) as source:
             made[path] = lent(source.read())
     return made
 

@@ -44,8 +44,8 @@ if python3 --version >/dev/null 2>&1 && bash --version >/dev/null 2>&1; then
     offers "folders after a command" "$folder/classes" jrev pick "$folder/cl"
     offers "classes after a folder" 'Main Other \`touch\ made\`' jrev load "$folder/classes" ''
     { [ ! -e made ] && echo "ok no name of a file is executed"; } || echo "failed no name of a file is executed"
-    offers "no option twice" "--seed= --turns= --heap= --sections=" jrev trace "$folder/classes" Main --order = 1*2 ''
-    offers "no option twice, one without a value" "--order= --seed= --turns= --heap= --sections=" jrev pick "$folder/classes" Main --counts ''
+    offers "no option twice" "--turns= --heap= --sections= --seed=" jrev trace "$folder/classes" Main --order = 1*2 ''
+    offers "no option twice, one without a value" "--turns= --heap= --sections= --order= --seed=" jrev pick "$folder/classes" Main --counts ''
     offers "nothing in the place of a value" "" jrev pick "$folder/classes" Main --seed = ''
 else
     echo "skipped the completion of bash: no python3 or no bash"

@@ -28,7 +28,6 @@ refuses "a kind above 27" pick "$one" One --order=1@28
 refuses "kind 0" pick "$one" One --order=1@0
 refuses "counts with a value" pick "$one" One --counts=1
 refuses "counts twice" pick "$one" One --counts --counts
-refuses "trace, with turns up to a step of a kind" trace "$one" One --order=1@27
 refuses "trace, with counts" trace "$one" One --counts
 refuses "load, with counts" load "$one" One --counts
 
@@ -90,12 +89,9 @@ if javac -version >/dev/null 2>&1; then
     picks "a word that another thread has read" 0 'true\n1000\n' "$kept" 'Kept$IsRead' --order=1@20,2@12,2@2,4@20,3@8
     picks "a word that another thread has overwritten" 0 '5999\n' "$kept" 'Kept$IsOverwritten' --order=1@20,2@12,2@2,4@20,3@8
 
-    # A section has at most 255 levels; ordinary monitors have no levels.
+    # A section has at most 255 levels.
     picks "255 monitors inside each other" 0 '255\n' 'counts: opened 1 undone 0\n' Deep
     picks "256 monitors inside each other" 6 '' 'limit: depth thread 1\ncounts: opened 1 undone 0\n' 'Deep$More'
-    "$program" trace "$folder/classes" 'Deep$More' >"$folder/journal"
-    status=$?
-    { [ $status -eq 0 ] && echo "ok 256 ordinary monitors inside each other"; } || echo "failed 256 ordinary monitors inside each other: status $status"
 else
     echo "skipped locks that are taken back: no javac"
 fi

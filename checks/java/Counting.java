@@ -7,7 +7,7 @@ class Counting {
     static {
         lock = new Object();
         workers = new Runnable[2];
-        for (int i = 0; i < workers.length; i++) workers[i] = new Worker(50_000 * (i + 1));
+        for (int i = 0; i < workers.length; i++) workers[i] = new Worker(5_000 * (i + 1));
     }
 
     static class Worker implements Runnable {

@@ -32,17 +32,21 @@ _jrev_options() {
 _jrev() {
     COMPREPLY=()
     case $COMP_CWORD:${COMP_WORDS[1]} in
-    1:*) _jrev_offer pick trace check load make migrate stress --help --version ;;
-    2:pick | 2:trace | 2:check | 2:load)
+    1:*) _jrev_offer pick run trace check load make migrate stress --help --version ;;
+    2:pick | 2:run | 2:trace | 2:check | 2:load)
         compopt -o filenames 2>/dev/null
         mapfile -t COMPREPLY < <(compgen -d -- "${COMP_WORDS[2]}")
         ;;
-    3:pick | 3:trace | 3:check | 3:load) _jrev_classes "${COMP_WORDS[2]}" ;;
-    *:pick | *:trace)
+    3:pick | 3:run | 3:trace | 3:check | 3:load) _jrev_classes "${COMP_WORDS[2]}" ;;
+    *:pick | *:run | *:trace)
         # Bash makes a word of its own of `=`, after which comes a value.
         [ "${COMP_WORDS[COMP_CWORD]}" != = ] && [ "${COMP_WORDS[COMP_CWORD - 1]}" != = ] || return
-        set -- --order= --seed= --turns= --heap= --sections=
-        [ "${COMP_WORDS[1]}" != pick ] || set -- "$@" --counts
+        set -- --turns= --heap= --sections=
+        case ${COMP_WORDS[1]} in
+        pick) set -- "$@" --order= --seed= --counts ;;
+        run) set -- "$@" --workers= --slice= --counts ;;
+        trace) set -- "$@" --order= --seed= ;;
+        esac
         compopt -o nospace 2>/dev/null
         _jrev_options "$@"
         ;;

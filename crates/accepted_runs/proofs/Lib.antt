@@ -6,3 +6,4 @@ pub mod CharArrays
 pub mod PrintedLemmas
 pub mod LeftLemmas
 pub mod AcceptedTexts
+pub mod TableLemmas

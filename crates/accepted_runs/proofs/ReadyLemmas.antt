@@ -1,5 +1,5 @@
 -- Runs of a program on shared words have whatever a turn asks for.
-use Rattle.std.proofs.Common.{◌≡◌, ℕ, suc, ◌+◌, ◌-◌, ◌^◌, ◌<◌, ◌≤◌, List, length, ap, subst, arith}
+use Rattle.std.proofs.Common.{◌≡◌, ℕ, suc, ◌+◌, ◌-◌, ◌^◌, ◌<◌, ◌≤◌, None, Some, List, length, sym, ◌∙◌, ap, subst, arith}
 use Rattle.code_decode.specs.declared.code.ClassUnit.{ClassUnit}
 use Rattle.link_types.specs.declared.operands.MethodId.{MethodId}
 use Rattle.link_rules.specs.Classes.{classes_of}
@@ -23,7 +23,15 @@ use Rattle.opening_cores.specs.Openings.{opening_core}
 use Rattle.word_runs.specs.Laws.{AreActs}
 use Rattle.word_runs.proofs.TurnLemmas.{turns_are_acts}
 use Rattle.ready_runs.specs.Ready.{HasWordsFor, IsRunInRoom}
-use Rattle.ready_runs.proofs.ReadyLemmas.{steps_are_allowed, tables_are_ready}
+use Rattle.ready_runs.proofs.ReadyLemmas.{steps_are_allowed, tables_are_ready, writes_are_apart}
+use Rattle.section_laws.proofs.NumberLemmas.{number_at, number_made, split_above}
+use Rattle.section_laws.proofs.RunLemmas.{facts_at}
+use Rattle.run_threads.proofs.NumberLemmas.{numbers_at}
+use Rattle.core_law.proofs.LeftEndLemmas.{over_threads_want_their_end}
+use Rattle.step_port.specs.declared.step.Step.TheVariants.{Split}
+use Rattle.thread_automaton.specs.declared.Move.TheVariants.{Make}
+use Rattle.thread_automaton.specs.NextMove.{next_move}
+use Rattle.thread_automaton.specs.ThreadState.{ThreadState}
 use Rattle.accepted_runs.specs.Runs.{IsProgramRun}
 use Rattle.accepted_runs.proofs.ErasureLemmas.{can, kept, written}
 use Rattle.accepted_runs.specs.Ready.{areas_in, IsReadyCore, ProgramRunsAreReady, ProgramTurnsAreReady}
@@ -56,11 +64,25 @@ module _ (us : List ClassUnit) (order : List ℕ) (sound : IsSound us order) (ro
     turns = turns;
   }
 
+  -- no thread has the number of one that is about to be handed out
+  none_yet : (k : ℕ) → k ≤ length acts → (t : ℕ) (th : ThreadState Local) (n r p : ℕ) → (c k).threads t ≡ Some th → next_move java_code b th ≡ Make (Split n r p) → (c k).threads n ≡ None
+  none_yet k within t th n r p stands makes =
+      let laid = in_room.written.tagged.laid in
+      let numbers = numbers_at java_code b c acts laid.run in_room.run.grounded.in_bits.numbers k within in
+      let fits = ((facts_at java_code b c acts laid.run k within).fit t th stands).attempt in
+      let is : number_at th.attempt ≡ n = number_made java_code b th (Split n r p) makes in
+      let some : 0 < n = split_above java_code b th (c k).words n r p fits makes in
+      ap (c k).threads (sym is) ∙ numbers.unused t th stands (subst (λ m. 0 < m) (sym is) some)
+
   ready_at : (k : ℕ) → k ≤ length acts → IsReadyCore us b (c k)
   ready_at k within = record {
     asked = λ t th stands going. (kept us order sound room main is_main b c acts run).asked k t th within stands going;
     steps = λ t th stands. steps_are_allowed java_code b (IsThread us) (first_state us main) number (areas_in us b) c acts has_words in_room k t th within stands;
     tables = λ t th stands x holds. tables_are_ready java_code b (IsThread us) (first_state us main) number (areas_in us b) c acts has_words in_room k t th within stands x holds;
+    ended = λ t th stands over. over_threads_want_their_end java_code b (IsThread us) c acts in_room.written.tagged.laid k t th within stands over;
+    new = λ t th n r p stands makes. none_yet k within t th n r p stands makes;
+    apart = λ t u th uh at old new mover waiter going makes.
+        writes_are_apart java_code b (IsThread us) (first_state us main) number (areas_in us b) c acts has_words in_room k t u th uh at old new within mover waiter going makes;
   }
 
 program_runs_are_ready : (us : List ClassUnit) (order : List ℕ) (main : MethodId) → IsSound us order → first_free (program_names us) ≤ 2 ^ 32 → IsMainMethod us main → ProgramRunsAreReady us main

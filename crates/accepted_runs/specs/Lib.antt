@@ -3,3 +3,4 @@ pub mod Ready
 pub mod HeldUp
 pub mod Printed
 pub mod Left
+pub mod Tables

@@ -18,7 +18,7 @@ use Rattle.plain_words.specs.Opening.{opening_words}
 use Rattle.thread_automaton.specs.ThreadState.{ThreadState}
 use Rattle.thread_automaton.specs.ThreadState.{first_state as thread_at}
 use Rattle.core_runs.specs.WordRuns.{RunEntry}
-use Rattle.core_runs.specs.OwnParts.{Birth}
+use Rattle.core_runs.specs.declared.Birth.{Birth}
 use Rattle.core_runs.specs.Cores.{Core}
 use Rattle.core_runs.specs.Acts.{Act, ActFrom}
 use Rattle.section_laws.specs.Runs.{IsRunFrom}

@@ -1,13 +1,12 @@
 -- A request has one answer over what a folder and an input hold.
-use Rattle.std.proofs.Common.{◌≡◌, inl, inr, ℕ, ◌+◌, ◌%◌, ◌^◌, Bool, false, List, [], ◌∷◌, map, take, length, Option, Some, None, IfSome, Result, Ok, Err, refl, sym, ◌∙◌, ap, subst}
+use Rattle.std.proofs.Common.{◌≡◌, inl, inr, ℕ, Bool, false, true≢false, List, [], ◌∷◌, map, take, length, Option, Some, None, IfSome, Result, Ok, Err, refl, sym, ◌∙◌, ap, subst}
 use Rattle.std.specs.List.Sorted.{IsPermutation}
 use Rattle.op_core.specs.declared.Event.{Event}
+use Rattle.op_core.specs.declared.Undo.{Undo}
 use Rattle.op_core.specs.declared.Limits.{Limits}
 use Rattle.op_core.specs.declared.Outcome.{Outcome}
 use Rattle.schedules.specs.declared.order.Schedule.{Schedule}
 use Rattle.ordinary_machine.specs.Machine.{Machine}
-use Rattle.ordinary_runs.specs.ScheduledRun.{a_journal}
-use Rattle.ordinary_runs.proofs.LawLemmas.{one_outcome}
 use Rattle.ordinary_runs.proofs.MadeLemmas.{made_one}
 use Rattle.trace_journal.specs.declared.item.JournalFault.{JournalFault}
 use Rattle.trace_journal.specs.declared.item.TheConstants.{LARGEST}
@@ -20,16 +19,13 @@ use Rattle.code_decode.specs.declared.code.ClassUnit.{ClassUnit}
 use Rattle.java_rows.specs.Thread.{Local, java_code}
 use Rattle.java_machine.specs.Lines.{line_bytes}
 use Rattle.java_words.specs.WordRun.{machine_at_start}
-use Rattle.java_words.proofs.OutcomeLemmas.{one_word_run}
+use Rattle.java_words.proofs.OutcomeLemmas.{one_word_run, one_traced_run}
 use Rattle.java_run.specs.Run.{answer_of, journal_answer}
 use Rattle.java_run.specs.Check.{Shows}
 use Rattle.java_run.specs.declared.checking.Checked.{Checked}
 use Rattle.java_run.specs.declared.checking.Checked.TheVariants.{Execution, NotExecution}
 use Rattle.class_make.proofs.TextLaws as texts
 use Rattle.class_make.specs.Texts.{front}
-use Rattle.stress_texts.specs.Classes.{AreClasses, stress_names}
-use Rattle.stress_texts.specs.Texts.{stress_texts}
-use Rattle.stress_texts.specs.declared.classes.TheConstants.{STRESS_MAIN}
 use Rattle.jr_ports.specs.Folder.{File, AreDifferent, names_of}
 use Rattle.program_input.specs.Folder.{AreRead}
 use Rattle.program_accept.specs.declared.refusal.Refusal.{Refusal}
@@ -39,9 +35,9 @@ use Rattle.program_answers.specs.declared.answer.Answer.{Answer}
 use Rattle.encoded_texts.specs.Encoded.{encoded_text}
 use Rattle.command_words.specs.declared.request.Request.{Request}
 use Rattle.command_words.specs.declared.request.Request.TheVariants.{Pick, Trace, Run, Check, Load, Make, Migrate, Stress, Help, Version}
-use Rattle.jrev_top.specs.Answers.{IsJudged, IsMade, IsJournalText, IsMigrated, Counts, Runs, Traces, Checks, checked_answer, IsSecond, RunsTwice, IsStressed, second_answer, seeded, stress_limits, refused, given, not_made, not_execution}
-use Rattle.jrev_top.specs.Headline.{Outside, IsText, IsOfProgram, IsAnswerTo}
-use Rattle.answer_laws.specs.OneAnswer.{Tells, RequestsHaveOneAnswer}
+use Rattle.command_answers.specs.Answers.{IsJudged, IsMade, IsText, IsJournalText, IsMigrated, Counts, Runs, Traces, Checks, checked_answer, refused, given, not_made, not_execution}
+use Rattle.jrev_top.specs.Headline.{Outside, IsOfProgram, IsAnswerTo}
+use Rattle.answer_laws.specs.OneAnswer.{Tells, runs_on_hosts, RequestsHaveOneAnswer}
 use Rattle.answer_laws.proofs.Sorted.{one_order}
 use Rattle.answer_laws.proofs.Files.{one_content}
 
@@ -61,13 +57,18 @@ runs_once schedule limits counts count program answer other one two =
 same_events : (es fs : List Event) → (let x : Option (List Event) = Some es in let y : Option (List Event) = Some fs in x ≡ y) → es ≡ fs
 same_events es fs same = cc
 
+same_undos : (us vs : List Undo) → (let x : Option (List Undo) = Some us in let y : Option (List Undo) = Some vs in x ≡ y) → us ≡ vs
+same_undos us vs same = cc
+
 traces_once : (schedule : Schedule) (limits : Limits) → AnswersOnce (Traces schedule limits)
 traces_once schedule limits count program answer other one two =
-    let outcomes : two.outcome ≡ one.outcome = one_outcome java_code (machine_at_start program.units program.main) schedule limits a_journal one.outcome two.outcome one.run.ran two.run.ran in
+    let outcomes : two.outcome ≡ one.outcome = one_traced_run program.units program.main schedule limits one.outcome two.outcome one.run two.run in
     let firsts = one.run.executed in
     let seconds = two.run.executed in
     let events : seconds.events ≡ firsts.events = same_events seconds.events firsts.events (sym seconds.kept ∙ ap (λ (o : Outcome). o.events) outcomes ∙ firsts.kept) in
-    two.answered ∙ ap (λ es. journal_answer program.units es two.outcome) events ∙ ap (journal_answer program.units firsts.events) outcomes ∙ sym one.answered
+    let undos : two.run.undos ≡ one.run.undos = same_undos two.run.undos one.run.undos (sym two.run.kept ∙ ap (λ (o : Outcome). o.undos) outcomes ∙ one.run.kept) in
+    two.answered ∙ ap (λ es. journal_answer program.units es two.run.undos two.outcome) events ∙ ap (λ us. journal_answer program.units firsts.events us two.outcome) undos
+    ∙ ap (journal_answer program.units firsts.events one.run.undos) outcomes ∙ sym one.answered
 
 -- what is shown of a check is one thing
 one_shown : (us : List ClassUnit) (found : Result (Machine Local) ℕ) (checked other : Checked) → Shows us found checked → Shows us found other → checked_answer other ≡ checked_answer checked
@@ -169,69 +170,41 @@ one_migration text answer other (inr one) (inr two) =
 one_journal : (input : List ℕ) (told : Option (List ℕ)) (text : List ℕ) → told ≡ Some input → IsJournalText told text → text ≡ take 268435457 input
 one_journal input told text is of = subst (λ (o : Option (List ℕ)). IsJournalText o text) is of
 
--- the files of some texts are one thing
-one_class : (ts files others : List (List ℕ)) → AreClasses ts files → AreClasses ts others → others ≡ files
-one_class [] [] [] are others = refl
-one_class [] [] (other ∷ others) are are_too = absurd are_too
-one_class [] (file ∷ files) others are are_too = absurd are
-one_class (text ∷ ts) [] others are are_too = absurd are
-one_class (text ∷ ts) (file ∷ files) [] are are_too = absurd are_too
-one_class (text ∷ ts) (file ∷ files) (other ∷ others) are are_too =
-    ap (λ f. f ∷ others) (same_ok file other (texts.one_answer text (Ok file) (Ok other) are.0 are_too.0)) ∙ ap (λ fs. file ∷ fs) (one_class ts files others are.1 are_too.1)
-
-twice_once : (number : ℕ) → AnswersOnce (RunsTwice number)
-twice_once number count program answer other (first, runs, rest) (another, runs_too, rest_too) =
-    let same : another ≡ first = runs_once (seeded number) stress_limits false count program first another runs runs_too in
-    second rest (subst (λ a. IsSecond number count program a other) same rest_too)
-  where
-    second : IsSecond number count program first answer → IsSecond number count program first other → other ≡ answer
-    second (inl (well, one, again, is)) (inl (well_too, two, again_too, is_too)) =
-        is_too ∙ ap (second_answer first) (runs_once (seeded ((number + 1) % 2 ^ 64)) stress_limits false count program one two again again_too) ∙ sym is
-    second (inr (ill, is)) (inr (ill_too, is_too)) = is_too ∙ sym is
-    second (inl (well, one, again, is)) (inr (ill, is_too)) = absurd (ill well)
-    second (inr (ill, is)) (inl (well, two, again, is_too)) = absurd (ill well)
-
-one_stress : (number : ℕ) (answer other : Answer) → IsStressed number answer → IsStressed number other → other ≡ answer
-one_stress number answer other (files, are, judged) (others, are_too, judged_too) =
-    let Of : List (List ℕ) → Type 0 = λ fs. IsJudged (RunsTwice number) (encoded_text STRESS_MAIN.now) stress_names fs other in
-    one_judgement (RunsTwice number) (encoded_text STRESS_MAIN.now) stress_names files answer other (twice_once number) judged
-    (subst Of (one_class (stress_texts number) files others are are_too) judged_too)
-
 one_text : (input : List ℕ) (told : Option (List ℕ)) (text : List ℕ) → told ≡ Some input → IsText told text → text ≡ front input
 one_text input told text is of = subst (λ (o : Option (List ℕ)). IsText o text) is of
 
 -- ---- the answer to a request
 
-one_answer_to : (request : Request) (files : List File) (input : List ℕ) (outside another : Outside) (answer other : Answer) → AreDifferent (names_of files)
+one_answer_to : (request : Request) (files : List File) (input : List ℕ) (outside another : Outside) (answer other : Answer) → runs_on_hosts request ≡ false → AreDifferent (names_of files)
     → Tells files input outside → Tells files input another → IsAnswerTo request outside answer → IsAnswerTo request another other → other ≡ answer
-one_answer_to (Pick dir main limits schedule counts) files input outside another answer other different here there one two =
+one_answer_to (Pick dir main limits schedule counts) files input outside another answer other one_host different here there one two =
     one_of_program (Runs schedule limits counts) dir (encoded_text main) files input outside another answer other (runs_once schedule limits counts) different here there one two
-one_answer_to (Load dir main) files input outside another answer other different here there one two =
+one_answer_to (Load dir main) files input outside another answer other one_host different here there one two =
     one_of_program Counts dir (encoded_text main) files input outside another answer other counts_once different here there one two
-one_answer_to (Trace dir main limits schedule) files input outside another answer other different here there one two =
+one_answer_to (Trace dir main limits schedule) files input outside another answer other one_host different here there one two =
     one_of_program (Traces schedule limits) dir (encoded_text main) files input outside another answer other (traces_once schedule limits) different here there one two
-one_answer_to (Check dir main) files input outside another answer other different here there one two =
+one_answer_to (Check dir main) files input outside another answer other one_host different here there one two =
     let Of : Option (List ℕ) → Type 0 = λ told. IsOfProgram (Checks told) dir (encoded_text main) outside answer in
     let Too : Option (List ℕ) → Type 0 = λ told. IsOfProgram (Checks told) dir (encoded_text main) another other in
     one_of_program (Checks (Some input)) dir (encoded_text main) files input outside another answer other (checks_once input) different here there
     (subst Of here.told_input one) (subst Too there.told_input two)
-one_answer_to Migrate files input outside another answer other different here there one two =
+one_answer_to Migrate files input outside another answer other one_host different here there one two =
     let first = one_journal input outside.input one.0 here.told_input one.1 in
     let second = one_journal input another.input two.0 there.told_input two.1 in
     let Of : List ℕ → Type 0 = λ text. IsMigrated text answer in
     let Too : List ℕ → Type 0 = λ text. IsMigrated text other in
     one_migration (take 268435457 input) answer other (subst Of first one.2) (subst Too second two.2)
-one_answer_to (Stress number) files input outside another answer other different here there one two = one_stress number answer other one two
-one_answer_to Make files input outside another answer other different here there one two =
+one_answer_to (Stress number) files input outside another answer other one_host different here there one two = absurd (true≢false one_host)
+one_answer_to Make files input outside another answer other one_host different here there one two =
     let first = one_text input outside.input one.0 here.told_input one.1 in
     let second = one_text input another.input two.0 there.told_input two.1 in
     let Of : List ℕ → Type 0 = λ text. IsMade text answer in
     let Too : List ℕ → Type 0 = λ text. IsMade text other in
     one_making (front input) answer other (subst Of first one.2) (subst Too second two.2)
-one_answer_to Help files input outside another answer other different here there one two = two ∙ sym one
-one_answer_to Version files input outside another answer other different here there one two = two ∙ sym one
-one_answer_to (Run dir main limits workers slice counts) files input outside another answer other different here there one two = absurd one
+one_answer_to Help files input outside another answer other one_host different here there one two = two ∙ sym one
+one_answer_to Version files input outside another answer other one_host different here there one two = two ∙ sym one
+one_answer_to (Run dir main limits workers slice counts) files input outside another answer other one_host different here there one two = absurd (true≢false one_host)
 
 pub one_answer : RequestsHaveOneAnswer
-one_answer None files input outside another answer other different here there one two = two ∙ sym one
-one_answer (Some request) files input outside another answer other different here there one two = one_answer_to request files input outside another answer other different here there one two
+one_answer None files input outside another answer other one_host different here there one two = two ∙ sym one
+one_answer (Some request) files input outside another answer other one_host different here there one two = one_answer_to request files input outside another answer other one_host different here there one two

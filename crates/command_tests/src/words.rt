@@ -1,6 +1,6 @@
-//! Words of the command line, what they ask for, and which of them are carried out.
+//! Words of the command line, and what they ask for.
 
-use command_words::{Request, WordsRefusal, request_of, words_of};
+use command_words::{Request, WordsRefusal, words_of};
 use schedules::OrderItem;
 use std::alloc::Global;
 use std::test::Fail;
@@ -181,7 +181,7 @@ fn is_order(items: &[OrderItem], wanted: &[(u8, u8, u32)]) -> bool {
 
 fn is_asked(alloc: Global, asked: &Asked) -> Result<bool, Fail> {
     let words = owned_words(alloc, asked.words)?;
-    match request_of(alloc, words.as_slice()) {
+    match words_of(alloc, words.as_slice()) {
         Ok(request) => Ok(
             numbers_of(&request) == asked.numbers && is_order(order_of(&request), asked.order),
         ),
@@ -251,10 +251,7 @@ const UNASKED: [&[&str]; 48] = [
 
 fn is_unasked(alloc: Global, words: &[&str]) -> Result<bool, Fail> {
     let words = owned_words(alloc, words)?;
-    Ok(matches!(
-        request_of(alloc, words.as_slice()),
-        Err(WordsRefusal::Usage)
-    ))
+    Ok(matches!(words_of(alloc, words.as_slice()), Err(WordsRefusal::Usage)))
 }
 
 #[test]
@@ -265,8 +262,8 @@ fn other_words_ask_for_nothing(rt: HostRuntime) -> Result<(), Fail> {
     Ok(())
 }
 
-/// Words of each command that is carried out; `pick` with its options in several orders, at the ends of their ranges.
-const CARRIED_OUT: [&[&str]; 23] = [
+/// Words of each command; `pick` with its options in several orders, at the ends of their ranges.
+const COMMANDS: [&[&str]; 26] = [
     &["pick", "D", "M"],
     &["pick", "D", "M", "--order=1*1"],
     &["pick", "D", "M", "--order=255*1000000,1*1,255*1"],
@@ -301,6 +298,9 @@ const CARRIED_OUT: [&[&str]; 23] = [
     &["pick", "D", "M", "--seed=1", "--order=1*1,2*3,255@27"],
     &["trace", "D", "M"],
     &["trace", "D", "M", "--seed=1", "--order=2*3", "--turns=5"],
+    &["trace", "D", "M", "--order=1@1"],
+    &["trace", "D", "M", "--order=2@32,1*2,1@33"],
+    &["run", "D", "M", "--workers=2"],
     &["check", "D", "M"],
     &["load", "D", "M"],
     &["make"],
@@ -310,34 +310,15 @@ const CARRIED_OUT: [&[&str]; 23] = [
     &["--version"],
 ];
 
-fn is_carried_out(alloc: Global, words: &[&str]) -> Result<bool, Fail> {
+fn is_command(alloc: Global, words: &[&str]) -> Result<bool, Fail> {
     let words = owned_words(alloc, words)?;
     Ok(words_of(alloc, words.as_slice()).is_ok())
 }
 
 #[test]
-fn what_these_words_ask_for_is_carried_out(rt: HostRuntime) -> Result<(), Fail> {
-    for words in CARRIED_OUT {
-        assert!(rt; is_carried_out(rt.alloc(), words)?);
-    }
-    Ok(())
-}
-
-/// Words of the grammar that ask for what isn't carried out: items up to a step of a kind under `trace`, and `run`.
-const NOT_CARRIED_OUT: [&[&str]; 2] = [&["trace", "D", "M", "--order=1@1"], &["run", "D", "M"]];
-
-fn is_only_asked(alloc: Global, words: &[&str]) -> Result<bool, Fail> {
-    let words = owned_words(alloc, words)?;
-    Ok(
-        request_of(alloc, words.as_slice()).is_ok()
-            && matches!(words_of(alloc, words.as_slice()), Err(WordsRefusal::Usage)),
-    )
-}
-
-#[test]
-fn what_these_words_ask_for_is_not_carried_out(rt: HostRuntime) -> Result<(), Fail> {
-    for words in NOT_CARRIED_OUT {
-        assert!(rt; is_only_asked(rt.alloc(), words)?);
+fn these_words_are_commands(rt: HostRuntime) -> Result<(), Fail> {
+    for words in COMMANDS {
+        assert!(rt; is_command(rt.alloc(), words)?);
     }
     Ok(())
 }
@@ -349,7 +330,7 @@ fn items_of(alloc: Global, count: u32) -> Result<Option<usize>, Fail> {
         option.push_str(",1*1")?;
     }
     let words = owned_words(alloc, &["pick", "D", "M", option.as_str()])?;
-    let request = request_of(alloc, words.as_slice());
+    let request = words_of(alloc, words.as_slice());
     Ok(request.ok().map(|request| order_of(&request).len()))
 }
 

@@ -1,4 +1,3 @@
 pub mod Cut
 pub mod Options
 pub mod Grammar
-pub mod Built

@@ -4,7 +4,6 @@
 //! order.
 #![tactic(auto)]
 
-mod built;
 mod cut;
 mod given;
 mod options;
@@ -13,6 +12,5 @@ mod request;
 mod values;
 mod words;
 
-pub use built::words_of;
 pub use request::Request;
-pub use words::{WordsRefusal, request_of};
+pub use words::{WordsRefusal, words_of};

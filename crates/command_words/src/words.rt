@@ -250,7 +250,7 @@ fn stress_request(word: &[u8], number: &[u8]) -> Option<Request>
 ///
 /// # Errors
 /// `Usage` exactly where no command has these words. `NoMemory` may come anywhere.
-pub fn request_of(alloc: Global, words: &[String]) -> Result<Request, WordsRefusal>
+pub fn words_of(alloc: Global, words: &[String]) -> Result<Request, WordsRefusal>
     ensures found { IfOk result (λ request. grammar.request_of (map string_bytes words.now) ≡ Some request) }
     ensures limits { IfOk result grammar.HasLimits }
     ensures usage { result ≡ Err WordsRefusal.Usage → grammar.request_of (map string_bytes words.now) ≡ None }

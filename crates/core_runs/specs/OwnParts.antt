@@ -12,7 +12,9 @@ use Rattle.thread_automaton.specs.declared.Move.TheVariants.{Quiet, Make}
 use Rattle.thread_automaton.specs.ThreadState.{ThreadState}
 use Rattle.thread_automaton.specs.NextMove.{next_move}
 use Rattle.thread_automaton.specs.Told.{after_answer, after_quiet}
-use Rattle.core_runs.specs.WordRuns.{StepMade, RunEntry, IsWordRun, part_of}
+use Rattle.core_runs.specs.declared.Birth.{Birth}
+use Rattle.core_runs.specs.declared.StepMade.{StepMade}
+use Rattle.core_runs.specs.WordRuns.{RunEntry, IsWordRun, part_of}
 
 -- the section of this word is live, and the level is open and not pinned
 abbrev pub can_break : ℕ → ℕ → Bool
@@ -49,12 +51,6 @@ OwnTo {S} code b x (m ∷ part) y =
 -- these steps are what a thread does that began as x
 abbrev pub IsOwnPart : {S : Type 0} → Code S → Bounds → ThreadState S → List StepMade → Type 0
 IsOwnPart {S} code b x part = (y : ThreadState S) × OwnTo code b x part y
-
--- a thread's number, and the object and the priority with which it began
-pub record Birth : Type 0 where
-  pub number : ℕ
-  pub object : ℕ
-  pub priority : ℕ
 
 abbrev pub births_after : Step → List Birth → List Birth
 births_after (Split n r p) births = record { number = n; object = r; priority = p } ∷ births

@@ -35,13 +35,13 @@ use Rattle.program_soundness.proofs.Starts.{starts_fit}
 use Rattle.java_cores.specs.JavaCores.{CoreStatesFit}
 
 module _ (us : List ClassUnit) (order : List ℕ) (sound : IsSound us order) (room : first_free (program_names us) ≤ 2 ^ 32) where
-  accepts : Accepted us
+  pub accepts : Accepted us
   accepts = accepted us order sound
 
-  has_room : HasRoom us
+  pub has_room : HasRoom us
   has_room = programs_have_room us order sound room
 
-  follow : ClassesFollow us
+  pub follow : ClassesFollow us
   follow = classes_follow us order sound room
 
   knows : Knows (runs us) us
@@ -53,7 +53,7 @@ module _ (us : List ClassUnit) (order : List ℕ) (sound : IsSound us order) (ro
       let count : length (classes_of us) ≡ 28 + length us = class_count_is us in
       subst (λ t. MayStandFor us c t) (type_of_class (program_names us) THREAD (omega (arith, count))) (follow.below c THREAD is)
 
-  fitting : KeepsFitting java_code (IsThread us) (RunsLocal us) (MayStand us) (ObjectFits us)
+  pub fitting : KeepsFitting java_code (IsThread us) (RunsLocal us) (MayStand us) (ObjectFits us)
   fitting = record {
     keeps = java_keeps us knows accepts (rows_fit (runs us) us knows accepts) has_room;
     threads = λ r o fits thread. (has_room.threads r o fits (thread_stands o.class thread)).1;

@@ -3,24 +3,23 @@ use Rattle.std.specs.Prelude.{◌≡◌, ℕ, Bool, true, false, List, [], ◌�
 use Rattle.std.specs.Fmt.{decimal}
 use Rattle.code_decode.specs.declared.code.ClassUnit.{ClassUnit}
 use Rattle.op_core.specs.declared.Event.{Event}
+use Rattle.op_core.specs.declared.Undo.{Undo}
 use Rattle.op_core.specs.declared.How.{How}
 use Rattle.op_core.specs.declared.How.TheVariants as how
 use Rattle.op_core.specs.declared.Limits.{Limits}
 use Rattle.op_core.specs.declared.Outcome.{Outcome}
 use Rattle.schedules.specs.declared.order.Schedule.{Schedule}
-use Rattle.ordinary_runs.specs.ScheduledRun.{Keeping, a_journal, IsOutcome}
-use Rattle.ordinary_runs.specs.Laws.{IsExecuted}
 use Rattle.program_answers.specs.declared.status.Status.{Status}
 use Rattle.program_answers.specs.declared.status.Status.TheVariants as statuses
 use Rattle.program_answers.specs.declared.answer.Answer.{Answer}
 use Rattle.program_answers.specs.Output.{journal_pieces}
 use Rattle.program_answers.specs.Written.{line}
 use Rattle.link_types.specs.declared.operands.MethodId.{MethodId}
-use Rattle.java_rows.specs.Thread.{java_code}
 use Rattle.java_machine.specs.Ends.{died_line, limit_line}
 use Rattle.java_machine.specs.Lines.{line_bytes}
-use Rattle.waiting_runs.specs.Waiting.{EndsWaiting}
-use Rattle.java_words.specs.WordRun.{machine_at_start, IsWordRun}
+use Rattle.java_words.specs.WordRun.{IsWordRun}
+use Rattle.java_words.specs.HostedRun.{IsHostedRun}
+use Rattle.java_words.specs.TracedRun.{IsTracedRun}
 use Rattle.java_run.specs.declared.answering.PrintedRun.{PrintedRun}
 
 abbrev pub status_of : How → Status
@@ -56,22 +55,13 @@ answer_of us counts outcome = record {
   err = counted_err_lines us counts outcome;
 }
 
--- the answer that prints the journal of these events in their place
-abbrev pub journal_answer : List ClassUnit → List Event → Outcome → Answer
-journal_answer us events outcome = record {
+-- the answer that prints the journal of these events and undoings in their place
+abbrev pub journal_answer : List ClassUnit → List Event → List Undo → Outcome → Answer
+journal_answer us events undos outcome = record {
   status = status_of outcome.how;
-  out = journal_pieces events [];
+  out = journal_pieces events undos;
   err = err_lines us outcome;
 }
-
--- The outcome is that of the run on ordinary monitors of the program of these classes, which begins with a method: the run that
--- follows a schedule under limits. The events that its turns made are an execution of the program from its start that prints the
--- lines and leaves the threads ended as the outcome says. Where it is stuck, some thread hasn't ended after them, no such thread
--- has a step, and each waits for one of five named reasons.
-pub record IsOrdinaryRun (us : List ClassUnit) (main : MethodId) (schedule : Schedule) (limits : Limits) (keeping : Keeping) (outcome : Outcome) : Type 0 where
-  pub ran : IsOutcome java_code (machine_at_start us main) schedule limits keeping outcome
-  pub executed : IsExecuted java_code (machine_at_start us main) keeping outcome
-  pub stuck : outcome.how ≡ how.Stuck → EndsWaiting us main executed.events
 
 -- the answer prints the lines of the run on shared words, with its counts where they are asked for
 pub record IsRunOf (us : List ClassUnit) (main : MethodId) (schedule : Schedule) (limits : Limits) (counts : Bool) (answer : Answer) : Type 0 where
@@ -79,11 +69,17 @@ pub record IsRunOf (us : List ClassUnit) (main : MethodId) (schedule : Schedule)
   pub run : IsWordRun us main schedule limits outcome
   pub answered : answer ≡ answer_of us counts outcome
 
--- the answer prints the journal of the run on ordinary monitors, which ends at the latest where a journal is full
+-- the answer prints the lines of a run on host threads, with its counts where they are asked for
+pub record IsHostedRunOf (us : List ClassUnit) (main : MethodId) (limits : Limits) (counts : Bool) (answer : Answer) : Type 0 where
+  pub outcome : Outcome
+  pub run : IsHostedRun us main limits outcome
+  pub answered : answer ≡ answer_of us counts outcome
+
+-- the answer prints the journal of the run on shared words, which ends at the latest where a journal is full
 pub record IsTraceOf (us : List ClassUnit) (main : MethodId) (schedule : Schedule) (limits : Limits) (answer : Answer) : Type 0 where
   pub outcome : Outcome
-  pub run : IsOrdinaryRun us main schedule limits a_journal outcome
-  pub answered : answer ≡ journal_answer us run.executed.events outcome
+  pub run : IsTracedRun us main schedule limits outcome
+  pub answered : answer ≡ journal_answer us run.executed.events run.undos outcome
 
 -- a run's status and lines as an answer
 abbrev pub shown : PrintedRun → Answer

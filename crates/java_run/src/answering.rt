@@ -5,7 +5,7 @@ ghost use Rattle.java_machine.specs.Ends as ends;
 ghost use Rattle.java_machine.specs.Lines as lines;
 ghost use Rattle.java_run.specs.Run as spec;
 ghost use Rattle.op_core.specs.declared.Event.{Event};
-ghost use Rattle.ordinary_runs.specs.declared.turns.TheConstants.{MOST_EVENTS};
+ghost use Rattle.op_core.specs.declared.Undo.{Undo};
 
 use java_machine::{MadeLines, World, died_line, limit_line, line_bytes};
 use op_core::{How, Line, MadeText, NoMemory, Outcome, ThreadEnd};
@@ -152,20 +152,26 @@ pub(crate) fn printed_run(
     })
 }
 
-/// The answer of a run that came to this and kept its events: their journal.
+/// The answer of a run that came to this and kept its events and undoings: their journal.
 pub(crate) fn journal_answer(
     alloc: Global,
     world: &World,
     outcome: Outcome,
 ) -> Result<Answer, NoMemory>
-    requires { IfSome outcome.events (λ events. length events ≤ MOST_EVENTS) }
-    ensures { (events : List Event) → outcome.events ≡ Some events → IfOk result (λ answer. answer ≡ spec.journal_answer world.now events outcome) }
+    requires { IfSome outcome.events (λ events. length events ≤ 4194304) }
+    ensures { (events : List Event) (undos : List Undo) → outcome.events ≡ Some events → outcome.undos ≡ Some undos
+        → IfOk result (λ answer. answer ≡ spec.journal_answer world.now events undos outcome) }
 {
     let err = err_lines(alloc, world, &outcome)?;
-    let Outcome { how, events, .. } = outcome;
-    let out = match events {
-        Some(events) => Output::from_journal(alloc, events, Rows::new(alloc)),
-        None => Output::from_pieces(Rows::new(alloc)),
+    let Outcome {
+        how,
+        events,
+        undos,
+        ..
+    } = outcome;
+    let out = match (events, undos) {
+        (Some(events), Some(undos)) => Output::from_journal(alloc, events, undos),
+        _ => Output::from_pieces(Rows::new(alloc)),
     };
     Ok(Answer {
         status: status_of(how),

@@ -1,2 +1,4 @@
 mod WordLemmas
 pub mod OutcomeLemmas
+mod HostedLemmas
+mod TracedLemmas

@@ -1,1 +1,3 @@
 pub mod WordRun
+pub mod HostedRun
+pub mod TracedRun

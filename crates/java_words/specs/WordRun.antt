@@ -10,12 +10,13 @@ use Rattle.op_core.specs.MadeTexts.{AreMadeTexts}
 use Rattle.schedules.specs.declared.order.Schedule.{Schedule}
 use Rattle.ordinary_machine.specs.Machine.{Machine}
 use Rattle.ordinary_machine.specs.Start.{start_of}
-use Rattle.ordinary_runs.specs.ScheduledRun.{no_steps, AreEnds}
+use Rattle.ordinary_runs.specs.ScheduledRun.{Keeping, no_steps, AreEnds}
 use Rattle.ordinary_runs.specs.Laws.{IsExecuted}
 use Rattle.java_rows.specs.Start.{opening_of}
 use Rattle.java_rows.specs.Thread.{Local, java_code, first_state}
 use Rattle.thread_automaton.specs.declared.Bounds.{Bounds}
 use Rattle.core_law.specs.Erasure.{is_left_out}
+use Rattle.word_runs.specs.WordTurns.{Progress}
 use Rattle.opening_cores.specs.Openings.{opening_core}
 use Rattle.waiting_runs.specs.Waiting.{EndsWaiting}
 use Rattle.accepted_runs.specs.Runs.{AreErasedTurns}
@@ -41,20 +42,25 @@ of_words outcome = record {
   made = outcome.made;
 }
 
--- The turns that the schedule gives lead from the words with which the program begins to where the run ends as the outcome says. What
--- is left of these turns, once the levels that are revoked are left out, is an execution of the program on ordinary monitors. It prints
+-- What an outcome tells of acts of the program's threads that have led to this place from the words with which the program begins. What
+-- is left of these acts, once the levels that are revoked are left out, is an execution of the program on ordinary monitors. It prints
 -- the lines, and leaves the threads ended and the texts that the program made, as the outcome says; `ends` and `made` say so of whatever
--- can be what is left. Where the run is stuck, some thread hasn't ended after that execution, no such thread has a step, and each waits
--- for one of five named reasons.
+-- can be what is left. The outcome has the events of the execution, where they are kept. Where the run is stuck, some thread hasn't ended
+-- after that execution, no such thread has a step, and each waits for one of five named reasons.
+pub record TellsExecution (us : List ClassUnit) (main : MethodId) (b : Bounds) (keeping : Keeping) (last : Progress Local) (outcome : Outcome) : Type 0 where
+  pub erased : AreErasedTurns us main b last
+  pub executed : IsExecuted java_code (machine_at_start us main) keeping outcome
+  pub left : executed.events ≡ kept_by (is_left_out erased.cores last.acts) erased.erased.erasure.entries
+  pub ends : (also : AreErasedTurns us main b last) → AreEnds also.erased.erasure.last outcome.ends
+  pub made : (also : AreErasedTurns us main b last) → AreMadeTexts also.erased.erasure.last outcome.lines outcome.made
+  pub stuck : outcome.how ≡ Stuck → EndsWaiting us main executed.events
+
+-- The turns that the schedule gives lead from the words with which the program begins to where the run ends as the outcome says, which
+-- tells an execution of the program that is left of them.
 pub record IsWordRun (us : List ClassUnit) (main : MethodId) (schedule : Schedule) (limits : Limits) (outcome : Outcome) : Type 0 where
   pub run : IsOutcome java_code (program_bounds us limits) (opening_core (opening_of us) (first_state us main)) schedule (of_words outcome)
-  pub erased : AreErasedTurns us main (program_bounds us limits) run.last.state
-  pub executed : IsExecuted java_code (machine_at_start us main) no_steps outcome
+  pub told : TellsExecution us main (program_bounds us limits) no_steps run.last.state outcome
   pub undos : outcome.undos ≡ None
-  pub left : executed.events ≡ kept_by (is_left_out erased.cores run.last.state.acts) erased.erased.erasure.entries
-  pub ends : (also : AreErasedTurns us main (program_bounds us limits) run.last.state) → AreEnds also.erased.erasure.last outcome.ends
-  pub made : (also : AreErasedTurns us main (program_bounds us limits) run.last.state) → AreMadeTexts also.erased.erasure.last outcome.lines outcome.made
-  pub stuck : outcome.how ≡ Stuck → EndsWaiting us main executed.events
 
 -- a program has one outcome under a schedule and limits
 abbrev pub WordRunsHaveOneOutcome : Type 0

@@ -18,8 +18,12 @@ use sched_core::{WordOutcome, run_schedule};
 use schedules::Schedule;
 use std::alloc::Global;
 
-// What came of a run on shared words of which no events were kept.
-fn outcome_of(run: WordOutcome) -> Result<Outcome, NoMemory>
+/// What came of a run on shared words of which no events were kept.
+///
+/// # Errors
+///
+/// `NoMemory` where 2^32 sections or more were opened or undone.
+pub(crate) fn outcome_of(run: WordOutcome) -> Result<Outcome, NoMemory>
     ensures words { IfOk result (λ outcome. of_words outcome ≡ run) }
     ensures untold { IfOk result (λ outcome. (outcome.events ≡ None) × (outcome.undos ≡ None)) }
 {

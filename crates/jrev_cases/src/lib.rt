@@ -4,8 +4,9 @@
 mod programs;
 mod running;
 
+pub use jrev_top::{Request, Status, words_of};
 pub use programs::{Class, ONE_TEXT};
 pub use running::{
     Case, Faults, File, NO_FAULTS, ONE_FILE, PRINTS_1_AND_2, SUM, Seen, assembled, is_as_wanted,
-    owned_files, owned_words, run, run_over,
+    owned_files, owned_words, run, run_gated, run_over,
 };

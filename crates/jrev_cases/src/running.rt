@@ -4,7 +4,7 @@ ghost use Rattle.std.specs.Prelude.{IfOk, ◌≡◌, None};
 ghost use Rattle.jr_ports.specs.Memory.{asked_of};
 
 use crate::programs::{Class, file_of};
-use jr_ports::{MemDir, MemSink, MemSource, NoGate, names_differ};
+use jr_ports::{Gate, MemDir, MemSink, MemSource, NoGate, names_differ};
 use jrev_top::jrev;
 use std::alloc::Global;
 use std::test::Fail;
@@ -142,14 +142,15 @@ pub struct Seen {
     pub err: Vec<u8>,
 }
 
-/// Runs the program with these words over files and an input.
-pub fn run_over<R: Threads + Sync>(
+/// Runs the program with these words over files and an input. Host threads pass this gate.
+pub fn run_gated<R: Threads + Sync, G: Gate + Sync>(
     rt: &R,
     alloc: Global,
     words: &[&str],
     files: Vec<(String, Vec<u8>)>,
     text: &str,
     faults: Faults,
+    gate: &G,
 ) -> Result<Seen, Fail> {
     let (folder_fault, input_fault, out_fault, err_fault) = faults;
     let words = owned_words(alloc, words)?;
@@ -166,13 +167,25 @@ pub fn run_over<R: Threads + Sync>(
         &mut input,
         &mut out,
         &mut err,
-        &NoGate,
+        gate,
     );
     Ok(Seen {
         status: status.number(),
         out: Vec::from_slice(alloc, out.given())?,
         err: Vec::from_slice(alloc, err.given())?,
     })
+}
+
+/// Runs the program with these words over files and an input.
+pub fn run_over<R: Threads + Sync>(
+    rt: &R,
+    alloc: Global,
+    words: &[&str],
+    files: Vec<(String, Vec<u8>)>,
+    text: &str,
+    faults: Faults,
+) -> Result<Seen, Fail> {
+    run_gated(rt, alloc, words, files, text, faults, &NoGate)
 }
 
 /// The names and bytes of files.

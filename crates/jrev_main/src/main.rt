@@ -4,9 +4,8 @@
 ghost use Rattle.std.specs.Prelude.{◌≡◌, ◌<◌, ◌⊎◌, [], ◌∷◌, None, IfSome, codes};
 ghost use Rattle.program_input.specs.Input.{TakesAtMost};
 ghost use Rattle.program_answers.specs.Written.{Said, line};
-ghost use Rattle.jrev_top.specs.Folder.{ReadsInOrder};
 ghost use Rattle.jrev_top.specs.Touches.{asked_by, files_wanted, folder_named, input_wanted};
-ghost use Rattle.jrev_top.specs.Headline.{AsksOnly, FailsAsked, Reports, sink_run};
+ghost use Rattle.jrev_top.specs.Headline.{AsksOnly, FailsAsked, ReadsInOrder, Reports, sink_run};
 
 use jr_ports::{ClassDir, FolderDir, NoGate, Sink, Source, StdErr, StdOut, StdSource};
 use jrev_top::{Status, jrev, say};

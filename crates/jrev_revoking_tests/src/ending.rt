@@ -120,7 +120,7 @@ end
 ";
 
 /// 254 threads.
-const MOST: Program = Program {
+pub const MOST: Program = Program {
     first: &[
         MAKES_LOCK,
         "sipush 254\ninvokestatic Counter count (I)V\n",
@@ -133,7 +133,7 @@ const MOST: Program = Program {
 };
 
 /// 255 threads.
-const MORE: Program = Program {
+pub const MORE: Program = Program {
     first: &[
         MAKES_LOCK,
         "sipush 255\ninvokestatic Counter count (I)V\n",

@@ -1,8 +1,10 @@
-//! Tests of `pick` where a thread of higher priority takes a monitor back from a thread of lower priority.
+//! Tests of `pick` and `trace` where a thread of higher priority takes a monitor back from a thread of lower priority, and of `run`.
 #![tactic(auto)]
 
 #[cfg(test)]
 mod ending;
+#[cfg(test)]
+mod hosting;
 #[cfg(test)]
 mod lines;
 #[cfg(test)]
@@ -13,3 +15,5 @@ mod programs;
 mod revoking;
 #[cfg(test)]
 mod threads;
+#[cfg(test)]
+mod tracing;

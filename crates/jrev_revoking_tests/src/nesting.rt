@@ -2,10 +2,12 @@
 
 use crate::lines::{
     ENTERS_A, ENTERS_B, ENTERS_LOCK, LEAVES_A, LEAVES_B, LEAVES_LOCK, MAKES_A_AND_B, MAKES_LOCK,
-    NOTIFIES, PRINTS_1, PRINTS_2, WAITS, X_IS_1, X_IS_5, Y_IS_1, Y_IS_6,
+    NOTIFIES, PRINTS_1, PRINTS_2, WAITS, X_IS_1, Y_IS_1, Y_IS_6,
 };
 use crate::programs::{Program, Row, ThreadClass, is_as_wanted};
-use crate::threads::{PRINTS_8_UNDER_A, PRINTS_8_UNDER_B, PRINTS_Y_UNDER_A, PRINTS_Y_UNDER_B};
+use crate::threads::{
+    INNER_WANTED, PRINTS_8_UNDER_A, PRINTS_8_UNDER_B, PRINTS_Y_UNDER_A, PRINTS_Y_UNDER_B,
+};
 use jrev_cases::NO_FAULTS;
 use std::test::Fail;
 
@@ -35,19 +37,7 @@ const NESTED: [Row; 6] = [
     },
     // The inner monitor alone is taken back.
     Row {
-        program: Program {
-            first: &[MAKES_A_AND_B],
-            classes: &[
-                ThreadClass {
-                    name: "Low",
-                    run: &[ENTERS_A, X_IS_5, ENTERS_B, Y_IS_6, LEAVES_B, LEAVES_A],
-                },
-                PRINTS_Y_UNDER_B,
-            ],
-            threads: &[("Low", 1), ("High", 10)],
-            last: &[],
-            others: &[],
-        },
+        program: INNER_WANTED,
         options: &["--order=1@20,2@2,2@2,3@8,2@10,3@20", "--counts"],
         faults: NO_FAULTS,
         status: 0,

@@ -123,17 +123,25 @@ fn files_of<R: Threads + Sync>(
     Ok(files)
 }
 
-/// What comes of a run of `pick` over a program.
-fn picked<R: Threads + Sync>(rt: &R, alloc: Global, row: &Row) -> Result<Seen, Fail> {
-    let mut words = Vec::from_slice(alloc, &["pick", "D", "Main"])?;
-    words.extend_from_slice(row.options)?;
-    let files = files_of(rt, alloc, &row.program)?;
-    run_over(rt, alloc, words.as_slice(), files, "", row.faults)
+/// What comes of a command over a program, with these options and this text on the input.
+pub fn run_of<R: Threads + Sync>(
+    rt: &R,
+    alloc: Global,
+    program: &Program,
+    command: &str,
+    options: &[&str],
+    input: &str,
+    faults: Faults,
+) -> Result<Seen, Fail> {
+    let mut words = Vec::from_slice(alloc, &[command, "D", "Main"])?;
+    words.extend_from_slice(options)?;
+    let files = files_of(rt, alloc, program)?;
+    run_over(rt, alloc, words.as_slice(), files, input, faults)
 }
 
 /// Whether the run ends with the wanted status, and gives the wanted lines to both streams.
 pub fn is_as_wanted<R: Threads + Sync>(rt: &R, alloc: Global, row: &Row) -> Result<bool, Fail> {
-    let seen = picked(rt, alloc, row)?;
+    let seen = run_of(rt, alloc, &row.program, "pick", row.options, "", row.faults)?;
     Ok(
         seen.status == row.status
             && seen.out.as_slice() == row.out.as_bytes()

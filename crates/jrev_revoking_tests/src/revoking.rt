@@ -1,22 +1,13 @@
 //! A thread of higher priority takes a lock back, and what hinders it.
 
 use crate::lines::{
-    ENTERS_LOCK, LEAVES_LOCK, MAKES_LOCK, PRINTS_7, PRINTS_X, PRINTS_Y, X_IS_1, X_IS_5, X_IS_6,
-    X_IS_9, X_IS_11, Y_IS_2, Y_IS_12,
+    ENTERS_LOCK, LEAVES_LOCK, MAKES_LOCK, PRINTS_7, PRINTS_X, PRINTS_Y, X_IS_1, X_IS_11, Y_IS_2,
+    Y_IS_12,
 };
 use crate::programs::{Program, Row, ThreadClass, is_as_wanted};
-use crate::threads::{PRINTS_BOTH, PRINTS_X_LOCKED, WRITES_BOTH};
+use crate::threads::{LATE_WRITE, PAIR, PRINTS_BOTH, PRINTS_X_LOCKED, WRITES_BOTH};
 use jrev_cases::NO_FAULTS;
 use std::test::Fail;
-
-/// A thread of low priority that writes x and y under a lock, and one of high priority that prints them under it.
-const PAIR: Program = Program {
-    first: &[MAKES_LOCK, X_IS_1, Y_IS_2],
-    classes: &[WRITES_BOTH, PRINTS_BOTH],
-    threads: &[("Low", 1), ("High", 10)],
-    last: &[],
-    others: &[],
-};
 
 /// The same threads with one priority.
 const EQUALS: Program = Program {
@@ -113,23 +104,7 @@ const TAKEN_BACK: [Row; 5] = [
     },
     // A thread without the lock has read the word before it was written and put back, and overwrites it then.
     Row {
-        program: Program {
-            first: &[MAKES_LOCK, ENTERS_LOCK, X_IS_5, LEAVES_LOCK],
-            classes: &[
-                ThreadClass {
-                    name: "Low",
-                    run: &[ENTERS_LOCK, X_IS_6, LEAVES_LOCK],
-                },
-                PRINTS_X_LOCKED,
-                ThreadClass {
-                    name: "B",
-                    run: &[X_IS_9],
-                },
-            ],
-            threads: &[("Low", 1), ("High", 10), ("B", 5)],
-            last: &[],
-            others: &[],
-        },
+        program: LATE_WRITE,
         options: &["--order=1@20,4@6,4@1,2@2,3@8,2@10,4@2,3@20", "--counts"],
         faults: NO_FAULTS,
         status: 0,

@@ -502,7 +502,7 @@ const RACES: [(&[File], &str, &[u8]); 2] = [
             File::Text("Writer.class", WRITER),
             File::Text("Reader.class", READER),
         ],
-        "--order=1*200,2*5,3*50",
+        "--order=1@20,2@2,3@20",
         b"4294967295\n",
     ),
     (
@@ -512,7 +512,7 @@ const RACES: [(&[File], &str, &[u8]); 2] = [
             File::Text("Shows.class", SHOWS),
             File::Text("Nine.class", NINE),
         ],
-        "--order=1*200,2*8,4*50,2*20,3*50",
+        "--order=1@20,2@2,4@2,2@20,3@20",
         b"9\n",
     ),
 ];

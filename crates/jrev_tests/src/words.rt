@@ -1,11 +1,10 @@
 //! Tests of the words of the command line, of the version and the help, and of the numbers of statuses.
 
-use jrev_cases::{Case, is_as_wanted, owned_words, run};
-use jrev_top::{Request, Status, words_of};
+use jrev_cases::{Case, Request, Status, is_as_wanted, owned_words, run, words_of};
 use std::test::Fail;
 
-/// Words that ask for nothing that there is, or that isn't carried out yet.
-const FAULTY: [&[&str]; 29] = [
+/// Words that ask for nothing that there is.
+const FAULTY: [&[&str]; 31] = [
     &[],
     &["pick", "D"],
     &["pick", "D", "One", "x"],
@@ -18,10 +17,12 @@ const FAULTY: [&[&str]; 29] = [
     &["load", "D", "One", "x"],
     &["load", "--D", "One"],
     &["load", "D", "One", "--counts"],
-    &["run", "D", "One"],
+    &["run", "D"],
+    &["run", "D", "One", "--seed=1"],
+    &["run", "D", "One", "--workers=65"],
     &["trace", "D"],
     &["trace", "D", "One", "--counts"],
-    &["trace", "D", "One", "--order=1@1"],
+    &["trace", "D", "One", "--order=1@28"],
     &["check", "D"],
     &["check", "D", "One", "--seed=1"],
     &["migrate", "x"],
@@ -87,9 +88,10 @@ const HELP: Case = Case {
 };
 
 /// What the help text says: each command with its words, each option, and each exit status.
-const HELPED: [&str; 31] = [
+const HELPED: [&str; 34] = [
     "jrev executes Java class files",
     "jrev pick DIR MAIN",
+    "jrev run DIR MAIN",
     "jrev trace DIR MAIN",
     "jrev check DIR MAIN",
     "jrev load DIR MAIN",
@@ -98,6 +100,8 @@ const HELPED: [&str; 31] = [
     "jrev stress N",
     "jrev --help",
     "jrev --version",
+    "\n  --workers=N",
+    "\n  --slice=N",
     "\n  --order=ITEM,..",
     "\n  --seed=N ",
     "\n  --turns=N ",

@@ -1,12 +1,6 @@
 -- How a run may end.
 use Rattle.std.proofs.Common.{◌≡◌, inl, inr, ℕ, List, [], ◌∷◌, ◌||◌, length, Bool, true, false, Option, None, Some, Result, Ok, Err, IfOk, ◌+◌, ◌%◌, ◌^◌, ◌<◌, ◌↔◌, arith, refl, sym, ◌∙◌, ap, subst, codes}
 use Rattle.std.specs.Result.{OnOk}
-use Rattle.op_core.specs.declared.How.{How}
-use Rattle.op_core.specs.declared.How.TheVariants as how
-use Rattle.op_core.specs.declared.Limits.{Limits}
-use Rattle.schedules.specs.declared.order.Schedule.{Schedule}
-use Rattle.java_run.specs.Run.{status_of}
-use Rattle.program_accept.specs.Accepted.{Accepted}
 use Rattle.command_words.specs.declared.request.Request.{Request}
 use Rattle.command_words.specs.declared.request.Request.TheVariants.{Pick, Trace, Run, Check, Load, Make, Migrate, Stress, Help, Version}
 use Rattle.program_answers.specs.declared.status.Status.{Status}
@@ -14,14 +8,12 @@ use Rattle.program_answers.specs.declared.status.Status.TheVariants as statuses
 use Rattle.program_answers.specs.declared.answer.Answer.{Answer}
 use Rattle.program_answers.specs.Written.{line, SinkRun, Streams, EndsOr, Comes}
 use Rattle.encoded_texts.specs.Encoded.{encoded_text}
-use Rattle.java_run.specs.declared.checking.Checked.{Checked}
-use Rattle.java_run.specs.declared.checking.Checked.TheVariants.{Execution, NotExecution}
-use Rattle.jrev_top.specs.Answers.{IsJudged, IsRefusal, Counts, Runs, Traces, Checks, checked_answer, IsMade, IsMigrated, IsStressed, RunsTwice, seeded, stress_limits}
-use Rattle.stress_texts.specs.Classes.{stress_names}
-use Rattle.stress_texts.specs.declared.classes.TheConstants.{STRESS_MAIN}
-use Rattle.jrev_top.specs.declared.failure.Failure.{Failure}
-use Rattle.jrev_top.specs.declared.failure.Failure.TheVariants as failure
-use Rattle.jrev_top.specs.Touches.{may_end, is_of_program, is_of_run, is_of_text, is_of_journal, is_done}
+use Rattle.command_answers.specs.Answers.{Counts, Runs, RunsHosted, Traces, Checks}
+use Rattle.command_answers.specs.Ends.{is_done, is_of_journal, is_of_run}
+use Rattle.command_answers.proofs.EndLemmas.{ends-as, ran, ran_hosted, traced, checks, counted, judged_as, made, migrated, stressed}
+use Rattle.command_answers.specs.declared.failure.Failure.{Failure}
+use Rattle.command_answers.specs.declared.failure.Failure.TheVariants as failure
+use Rattle.jrev_top.specs.Touches.{may_end}
 use Rattle.jrev_top.specs.Headline.{Outside, IsAnswerTo, IsAnswer, IsTold, Reports, FailsAsked, FailsStream, Ends, MayEnd}
 
 -- what holds of the status that is meant, and of those of failures, holds of the one that comes
@@ -59,70 +51,10 @@ neither : (streams : Streams) → ¬ streams.out.failed → ¬ streams.err.faile
 neither streams out err (inl failed) = out failed
 neither streams out err (inr failed) = err failed
 
-ends-as : (test : Status → Bool) (answer known : Answer) → answer ≡ known → test known.status ≡ true → test answer.status ≡ true
-ends-as test answer known same is = ap (λ (a : Answer). test a.status) same ∙ is
-
-of_how : (how : How) → is_of_run (status_of how) ≡ true
-of_how how.Done = refl
-of_how how.Died = refl
-of_how how.Stuck = refl
-of_how (how.Limit t limit) = refl
-
-or_right : (a b : Bool) → b ≡ true → a || b ≡ true
-or_right true b is = refl
-or_right false b is = is
-
-or_left : (a b : Bool) → a ≡ true → a || b ≡ true
-or_left a b is = ap (λ x. x || b) is
-
-ran : (schedule : Schedule) (limits : Limits) (counts : Bool) (count : ℕ) (program : Accepted) (answer : Answer) → Runs schedule limits counts count program answer → is_of_run answer.status ≡ true
-ran schedule limits counts count program answer is = ap (λ (a : Answer). is_of_run a.status) is.answered ∙ of_how is.outcome.how
-
-traced : (schedule : Schedule) (limits : Limits) (count : ℕ) (program : Accepted) (answer : Answer) → Traces schedule limits count program answer → is_of_run answer.status ≡ true
-traced schedule limits count program answer is = ap (λ (a : Answer). is_of_run a.status) is.answered ∙ of_how is.outcome.how
-
-of_checked : (checked : Checked) → is_of_journal (checked_answer checked).status ≡ true
-of_checked (Execution lines) = refl
-of_checked (NotExecution number) = refl
-
-checks : (input : Option (List ℕ)) (count : ℕ) (program : Accepted) (answer : Answer) → Checks input count program answer → is_of_journal answer.status ≡ true
-checks input count program answer (text, checked, read, is, same) = ap (λ (a : Answer). is_of_journal a.status) same ∙ of_checked checked
-
-refused_as : (main : List ℕ) (names files : List (List ℕ)) (answer : Answer) → IsRefusal main names files answer → is_of_program answer.status ≡ true
-refused_as main names files answer (inl none) = ends-as is_of_program answer _ none.1 refl
-refused_as main names files answer (inr refusal) = ends-as is_of_program answer _ refusal.2 refl
-
-counted : (main : List ℕ) (names files : List (List ℕ)) (answer : Answer) → IsJudged Counts main names files answer → is_of_program answer.status ≡ true
-counted main names files answer (inl program) = ends-as is_of_program answer _ program.2 refl
-counted main names files answer (inr refusal) = refused_as main names files answer refusal
-
--- of a program that something is done with, whose answers end so
-judged_as : (test : Status → Bool) (answers : ℕ → Accepted → Answer → Type 0) → ((count : ℕ) (program : Accepted) (answer : Answer) → answers count program answer → test answer.status ≡ true)
-    → (main : List ℕ) (names files : List (List ℕ)) (answer : Answer) → IsJudged answers main names files answer → test answer.status || is_of_program answer.status ≡ true
-judged_as test answers ends main names files answer (inl program) = or_left _ _ (ends (length files) program.0 answer program.2)
-judged_as test answers ends main names files answer (inr refusal) = or_right _ _ (refused_as main names files answer refusal)
-
-made : (text : List ℕ) (answer : Answer) → IsMade text answer → is_of_text answer.status ≡ true
-made text answer (inl bytes) = ends-as is_of_text answer _ bytes.2 refl
-made text answer (inr number) = ends-as is_of_text answer _ number.2 refl
-
-migrated : (text : List ℕ) (answer : Answer) → IsMigrated text answer → is_of_journal answer.status ≡ true
-migrated text answer (inl (read, is, same)) = ends-as is_of_journal answer _ same refl
-migrated text answer (inr (fault, is, same)) = ends-as is_of_journal answer _ same refl
-
-two_runs : (number count : ℕ) (program : Accepted) (answer : Answer) → RunsTwice number count program answer → is_of_run answer.status ≡ true
-two_runs number count program answer (first, runs, inl (well, second, again, same)) =
-    ap (λ (a : Answer). is_of_run a.status) same ∙ ran (seeded ((number + 1) % 2 ^ 64)) stress_limits false count program second again
-two_runs number count program answer (first, runs, inr (other, same)) =
-    ap (λ (a : Answer). is_of_run a.status) same ∙ ran (seeded number) stress_limits false count program first runs
-
-stressed : (number : ℕ) (answer : Answer) → IsStressed number answer → is_of_run answer.status || is_of_program answer.status ≡ true
-stressed number answer (files, are, judged) =
-    judged_as is_of_run (RunsTwice number) (two_runs number) (encoded_text STRESS_MAIN.now) stress_names files answer judged
-
 request-ends : (request : Request) (outside : Outside) (answer : Answer) → IsAnswerTo request outside answer → may_end request answer.status ≡ true
 request-ends (Pick dir main limits schedule counts) outside answer is = judged_as is_of_run (Runs schedule limits counts) (ran schedule limits counts) (encoded_text main) _ is.3.0 answer is.3.2
 request-ends (Trace dir main limits schedule) outside answer is = judged_as is_of_run (Traces schedule limits) (traced schedule limits) (encoded_text main) _ is.3.0 answer is.3.2
+request-ends (Run dir main limits workers slice counts) outside answer is = judged_as is_of_run (RunsHosted limits counts) (ran_hosted limits counts) (encoded_text main) _ is.3.0 answer is.3.2
 request-ends (Check dir main) outside answer is = judged_as is_of_journal (Checks outside.input) (checks outside.input) (encoded_text main) _ is.3.0 answer is.3.2
 request-ends (Load dir main) outside answer is = counted (encoded_text main) _ is.3.0 answer is.3.2
 request-ends Make outside answer is = made is.0 answer is.2
@@ -130,7 +62,6 @@ request-ends Migrate outside answer is = migrated is.0 answer is.2
 request-ends (Stress number) outside answer is = stressed number answer is
 request-ends Help outside answer is = ends-as is_done answer _ is refl
 request-ends Version outside answer is = ends-as is_done answer _ is refl
-request-ends (Run dir main limits workers slice counts) outside answer is = absurd is
 
 -- the answer's status is one with which the words may end
 pub answer-ends : (request : Option Request) (outside : Outside) (answer : Answer) → IsAnswer request outside answer → Ends request answer.status

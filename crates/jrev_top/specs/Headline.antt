@@ -2,20 +2,20 @@
 use Rattle.std.specs.Prelude.{◌≡◌, ◌≢◌, ◌<◌, ◌⊎◌, ℕ, List, take, true, Option, None, Some, IfSome, Result, Ok, Err}
 use Rattle.jr_ports.specs.Folder.{File, Asked}
 use Rattle.jr_ports.specs.Stream.{Gains}
-use Rattle.class_make.specs.Texts.{front}
 use Rattle.encoded_texts.specs.Encoded.{encoded_text}
 use Rattle.command_words.specs.declared.request.Request.{Request}
-use Rattle.command_words.specs.declared.request.Request.TheVariants.{Pick, Trace, Check, Load, Make, Migrate, Stress, Help, Version}
+use Rattle.command_words.specs.declared.request.Request.TheVariants.{Pick, Trace, Run, Check, Load, Make, Migrate, Stress, Help, Version}
 use Rattle.program_accept.specs.Accepted.{Accepted}
 use Rattle.program_answers.specs.declared.status.Status.{Status}
 use Rattle.program_answers.specs.declared.status.Status.TheVariants as statuses
 use Rattle.program_answers.specs.declared.answer.Answer.{Answer}
 use Rattle.program_answers.specs.Written.{SinkRun, Streams, Comes, IsReadFault, IsNoMemory}
-use Rattle.jrev_top.specs.Answers.{usage, given, help_text, version_text, IsDecided, Counts, Runs, Traces, Checks, IsJournalText, IsMade, IsMigrated, IsStressed}
-use Rattle.jrev_top.specs.declared.failure.Failure.{Failure}
-use Rattle.jrev_top.specs.declared.failure.Failure.TheVariants.{Failed, NoMemory}
+use Rattle.command_answers.specs.Answers.{usage, given, help_text, version_text, IsDecided, Counts, Runs, RunsHosted, Traces, Checks, IsJournalText, IsText, IsMade, IsMigrated, IsStressed}
+use Rattle.command_answers.specs.declared.failure.Failure.{Failure}
+use Rattle.command_answers.specs.declared.failure.Failure.TheVariants.{Failed, NoMemory}
 use Rattle.jrev_top.specs.Touches.{folder_named, input_wanted, may_end}
-use Rattle.jrev_top.specs.Folder.{AreListed}
+use Rattle.command_answers.specs.Folder.{AreListed}
+pub use Rattle.command_answers.specs.Folder.{ReadsInOrder}
 
 -- What the program has from outside: what the folder was asked and gave; what the folder and the input hold, where that
 -- is known; and the names of the files that were read from the folder, before the run and after it.
@@ -25,10 +25,6 @@ pub record Outside : Type 0 where
   pub input : Option (List ℕ)
   pub before : Option (List (List ℕ))
   pub after : Option (List (List ℕ))
-
--- the text that is read of the input
-abbrev pub IsText : Option (List ℕ) → List ℕ → Type 0
-IsText input text = IfSome input (λ left. text ≡ front left)
 
 -- The answer of a command over the program of a folder. All files that it is of were read before it.
 abbrev pub IsOfProgram : (ℕ → Accepted → Answer → Type 0) → List ℕ → List ℕ → Outside → Answer → Type 0
@@ -40,6 +36,7 @@ IsOfProgram answers dir main outside answer =
 abbrev pub IsAnswerTo : Request → Outside → Answer → Type 0
 IsAnswerTo (Pick dir main limits schedule counts) outside answer = IsOfProgram (Runs schedule limits counts) dir (encoded_text main) outside answer
 IsAnswerTo (Trace dir main limits schedule) outside answer = IsOfProgram (Traces schedule limits) dir (encoded_text main) outside answer
+IsAnswerTo (Run dir main limits workers slice counts) outside answer = IsOfProgram (RunsHosted limits counts) dir (encoded_text main) outside answer
 IsAnswerTo (Check dir main) outside answer = IsOfProgram (Checks outside.input) dir (encoded_text main) outside answer
 IsAnswerTo (Load dir main) outside answer = IsOfProgram Counts dir (encoded_text main) outside answer
 IsAnswerTo Make outside answer = (text : List ℕ) × IsText outside.input text × IsMade text answer
@@ -47,7 +44,6 @@ IsAnswerTo Migrate outside answer = (text : List ℕ) × IsJournalText outside.i
 IsAnswerTo (Stress number) outside answer = IsStressed number answer
 IsAnswerTo Help outside answer = answer ≡ given help_text
 IsAnswerTo Version outside answer = answer ≡ given version_text
-IsAnswerTo _ outside answer = ⊥
 
 -- the answer to words that ask for this, or for nothing
 abbrev pub IsAnswer : Option Request → Outside → Answer → Type 0

@@ -1,4 +1,2 @@
-pub mod Answers
 pub mod Touches
-pub mod Folder
 pub mod Headline

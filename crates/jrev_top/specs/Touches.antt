@@ -3,15 +3,15 @@ use Rattle.std.specs.Prelude.{ℕ, ◌+◌, ◌||◌, List, Bool, true, false, O
 use Rattle.std.specs.Option.{option_and_then}
 use Rattle.std.specs.declared.alloc.Global.{Global}
 use Rattle.assembler_text.specs.TextLines.{most_bytes}
-use Rattle.command_words.specs.Built.{built_request}
+use Rattle.command_words.specs.Grammar.{request_of}
 use Rattle.command_words.specs.declared.request.Request.{Request}
 use Rattle.command_words.specs.declared.request.Request.TheVariants.{Pick, Trace, Run, Check, Load, Make, Migrate, Stress, Help, Version}
 use Rattle.program_answers.specs.declared.status.Status.{Status}
-use Rattle.program_answers.specs.declared.status.Status.TheVariants as statuses
+use Rattle.command_answers.specs.Ends.{is_of_program, is_of_run, is_of_text, is_of_journal, is_done}
 
--- what the words ask for, among the commands that are built
+-- what the words ask for
 abbrev pub asked_by : List (String Global) → Option Request
-asked_by words = built_request (map string_bytes words)
+asked_by words = request_of (map string_bytes words)
 
 -- the folder that is asked, if one is
 abbrev pub folder_of : Request → Option (List ℕ)
@@ -26,10 +26,11 @@ folder_of (Stress number) = None
 folder_of Help = None
 folder_of Version = None
 
--- How many of its class files are read at most. `run`, which isn't carried out yet, is said to read none.
+-- how many of its class files are read at most
 abbrev pub files_of : Request → ℕ
 files_of (Pick dir main limits schedule counts) = 1025
 files_of (Trace dir main limits schedule) = 1025
+files_of (Run dir main limits workers slice counts) = 1025
 files_of (Check dir main) = 1025
 files_of (Load dir main) = 1025
 files_of _ = 0
@@ -41,38 +42,11 @@ input_of Make = Some (most_bytes + 1)
 input_of Migrate = Some 268435457
 input_of _ = None
 
-abbrev pub is_of_program : Status → Bool
-is_of_program statuses.Done = true
-is_of_program statuses.Refused = true
-is_of_program statuses.NoMain = true
-is_of_program _ = false
-
--- a program that was executed
-abbrev pub is_of_run : Status → Bool
-is_of_run statuses.Done = true
-is_of_run statuses.Died = true
-is_of_run statuses.Stuck = true
-is_of_run statuses.Limit = true
-is_of_run _ = false
-
-abbrev pub is_of_text : Status → Bool
-is_of_text statuses.Done = true
-is_of_text (statuses.MakeRefused line) = true
-is_of_text _ = false
-
-abbrev pub is_of_journal : Status → Bool
-is_of_journal statuses.Done = true
-is_of_journal (statuses.NotExecution line) = true
-is_of_journal _ = false
-
-abbrev pub is_done : Status → Bool
-is_done statuses.Done = true
-is_done _ = false
-
 -- with which statuses its answer ends
 abbrev pub may_end : Request → Status → Bool
 may_end (Pick dir main limits schedule counts) status = is_of_run status || is_of_program status
 may_end (Trace dir main limits schedule) status = is_of_run status || is_of_program status
+may_end (Run dir main limits workers slice counts) status = is_of_run status || is_of_program status
 may_end (Check dir main) status = is_of_journal status || is_of_program status
 may_end (Load dir main) status = is_of_program status
 may_end Make status = is_of_text status
@@ -80,7 +54,6 @@ may_end Migrate status = is_of_journal status
 may_end (Stress number) status = is_of_run status || is_of_program status
 may_end Help status = is_done status
 may_end Version status = is_done status
-may_end _ status = false
 
 -- the same of words that ask for nothing, too
 abbrev pub folder_named : Option Request → Option (List ℕ)

@@ -2,24 +2,21 @@
 
 ghost use Rattle.std.specs.Prelude.{◌≡◌, ◌<◌, IfOk, OnOk, IfSome, None};
 ghost use Rattle.program_input.specs.Input.{TakesAtMost, TakesUpTo};
-ghost use Rattle.jrev_top.specs.Answers as answers;
-ghost use Rattle.jrev_top.specs.Folder.{ReadsInOrder};
+ghost use Rattle.command_answers.specs.Answers as answers;
+ghost use Rattle.command_answers.specs.Folder.{ReadsInOrder};
 ghost use Rattle.jrev_top.specs.Touches.{asked_by, files_wanted, folder_named, input_wanted};
 ghost use Rattle.jrev_top.specs.Headline.{AsksOnly, FailsAsked, IsAnswer};
 
-use crate::answers::{given, usage};
-use crate::failure::Failure;
-use crate::journals::{check, migrate};
-use crate::loading::decide_program;
-use crate::making::make;
-use crate::stressing::answer_to_number;
-use crate::texts::{help, version};
-use crate::verdict::{Count, Execution, Tracing};
+use command_answers::{
+    Count, Execution, Failure, HostedExecution, Tracing, answer_to_number, check, decide_hosted,
+    decide_program, given, help, make, migrate, usage, version,
+};
 use command_words::{Request, WordsRefusal, words_of};
-use jr_ports::{ClassDir, Source};
+use jr_ports::{ClassDir, Gate, Source};
 use program_answers::Answer;
 use rows::Bytes;
 use std::alloc::Global;
+use std::thread::Threads;
 
 // A text on the standard output.
 fn text(alloc: Global, text: &str) -> Result<Answer, Failure>
@@ -30,16 +27,19 @@ fn text(alloc: Global, text: &str) -> Result<Answer, Failure>
     Ok(given(alloc, bytes)?)
 }
 
-/// The answer to the words, over what the folder and the input give.
+/// The answer to the words, over what the folder and the input give. A program that runs on host threads has its threads from `rt`, and
+/// each of them passes the gate before it begins.
 ///
 /// # Errors
 /// `Failed` comes exactly where the count of faults of the folder that is asked, or of the input that is read, rose in
 /// this call.
-pub(crate) fn decide<D: ClassDir, I: Source>(
+pub(crate) fn decide<R: Threads + Sync, D: ClassDir, I: Source, G: Gate + Sync>(
+    rt: &R,
     alloc: Global,
     words: &[String],
     classes: &mut D,
     input: &mut I,
+    gate: &G,
 ) -> Result<Answer, Failure>
     requires { D.asked classes.old ≡ None }
     ensures answer { IfOk result (λ answer. IsAnswer (asked_by words.now)
@@ -96,6 +96,26 @@ pub(crate) fn decide<D: ClassDir, I: Source>(
             };
             decide_program(alloc, dir.as_str(), main.as_str(), classes, &tracing)
         }
+        Ok(
+            Request::Run {
+                dir,
+                main,
+                limits,
+                workers,
+                slice,
+                counts,
+            },
+        ) => {
+            let execution = HostedExecution {
+                rt,
+                gate,
+                limits: &limits,
+                workers,
+                slice,
+                counts,
+            };
+            decide_hosted(alloc, dir.as_str(), main.as_str(), classes, &execution)
+        }
         Ok(Request::Check { dir, main }) => {
             check(alloc, dir.as_str(), main.as_str(), classes, input)
         }
@@ -104,10 +124,10 @@ pub(crate) fn decide<D: ClassDir, I: Source>(
         }
         Ok(Request::Make) => make(alloc, input),
         Ok(Request::Migrate) => migrate(alloc, input),
-        Ok(Request::Stress { number }) => Ok(answer_to_number(alloc, number)?),
+        Ok(Request::Stress { number }) => Ok(answer_to_number(rt, alloc, number, gate)?),
         Ok(Request::Help) => text(alloc, help()),
         Ok(Request::Version) => text(alloc, version()),
-        Ok(_) | Err(WordsRefusal::Usage) => Ok(usage(alloc)?),
+        Err(WordsRefusal::Usage) => Ok(usage(alloc)?),
         Err(WordsRefusal::NoMemory) => Err(Failure::NoMemory),
     }
 }

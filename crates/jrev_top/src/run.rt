@@ -2,7 +2,7 @@
 
 ghost use Rattle.std.specs.Prelude.{◌≡◌, ◌<◌, ◌⊎◌, ◌↔◌, IfSome, None};
 ghost use Rattle.program_input.specs.Input.{TakesAtMost, TakesUpTo};
-ghost use Rattle.jrev_top.specs.Folder.{ReadsInOrder};
+ghost use Rattle.command_answers.specs.Folder.{ReadsInOrder};
 ghost use Rattle.jrev_top.specs.Touches.{asked_by, files_wanted, folder_named, input_wanted};
 ghost use Rattle.jrev_top.specs.Headline.{AsksOnly, FailsAsked, MayEnd, Reports, sink_run};
 
@@ -15,17 +15,18 @@ use std::thread::Threads;
 
 /// Runs the program with the words of its command line, its own name left out.
 ///
-/// `pick DIR MAIN` executes the program of the class files in DIR that begins with the class MAIN. `trace DIR MAIN`
-/// does so too, and gives the journal of the run in place of its lines. `check DIR MAIN` says whether the text on
+/// `pick DIR MAIN` executes the program of the class files in DIR that begins with the class MAIN, on one host thread.
+/// `run DIR MAIN` does so on several host threads at once, which `rt` starts and each of which passes the gate before it
+/// gives turns. `trace DIR MAIN` does what `pick` does, and gives the journal of the run in place of its lines. `check DIR MAIN` says whether the text on
 /// `input` is the journal of an execution of the program. `load DIR MAIN` says whether the program is accepted. `make`
 /// makes a class file of the text on `input`, `migrate` gives the journal on `input` in version 2, `stress N` executes
 /// the program that is made for a number twice, and `--help` and `--version` say what the program is. The answer goes
 /// to `out` and `err`, and the status says how the run ended:
 ///
 /// - `Done`, `Usage`, `Refused`, `NoMain`, `NotExecution` and `MakeRefused` come exactly where the words, the files and
-///   the text say so; under `pick`, `trace` and `stress` `Done` and `Died` where all threads have ended, normally or one
+///   the text say so; under `pick`, `trace`, `run` and `stress` `Done` and `Died` where all threads have ended, normally or one
 ///   by an exception, `Stuck` where no thread can go on, since each that hasn't ended waits, and `Limit` where the next
-///   turn meets a limit, or where under `trace` the last turn made the last event that a journal has room for;
+///   turn meets a limit, or where under `trace` the last turn made the last event or undoing that a journal has room for;
 /// - `WriteFault` comes exactly where the count of faults of `out` or of `err` rose in this call, and `ReadFault`
 ///   exactly where neither did and that of `classes` rose, or under `check`, `make` and `migrate` that of `input`;
 /// - `Memory` may come anywhere, but not where one of these counts rose.
@@ -35,14 +36,14 @@ use std::thread::Threads;
 /// that an answer is based on were read before it. `input` is read by `check`, `make` and `migrate` alone, up to its
 /// end or one byte past the longest journal or text, whichever comes first.
 pub fn jrev<R: Threads + Sync, D: ClassDir, I: Source, O: Sink, E: Sink, G: Gate + Sync>(
-    _rt: &R,
+    rt: &R,
     alloc: Global,
     words: &[String],
     classes: &mut D,
     input: &mut I,
     out: &mut O,
     err: &mut E,
-    _gate: &G,
+    gate: &G,
 ) -> Status
     requires { D.asked classes.old ≡ None }
 
@@ -90,6 +91,6 @@ pub fn jrev<R: Threads + Sync, D: ClassDir, I: Source, O: Sink, E: Sink, G: Gate
     ensures calls { IfSome (input_wanted (asked_by words.now))
         (λ most. TakesUpTo most (I.taken input.old) (I.taken input.new)) }
 {
-    let decided = decide(alloc, words, classes, input);
+    let decided = decide(rt, alloc, words, classes, input, gate);
     tell(decided, out, err)
 }

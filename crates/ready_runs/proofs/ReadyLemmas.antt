@@ -1,10 +1,13 @@
 -- At each place of a run each thread can make the step that comes next for it.
-use Rattle.std.proofs.Common.{◌≡◌, ◌⊎◌, inl, inr, ℕ, ◌+◌, ◌-◌, ◌*◌, ◌^◌, ◌<◌, ◌≤◌, Bool, true, false, Some, List, length, refl, sym, ◌∙◌, ap, subst, arith}
-use Rattle.std.specs.Prelude.{nat_le, if◌then◌else◌}
-use Rattle.std.proofs.lemmas.Bool.Decides.{leb_tells}
+use Rattle.std.proofs.Common.{◌≡◌, ◌≢◌, ◌⊎◌, inl, inr, ℕ, ◌+◌, ◌-◌, ◌*◌, ◌^◌, ◌<◌, ◌≤◌, Bool, true, false, Some, List, length, refl, sym, ◌∙◌, ap, subst, arith}
+use Rattle.std.specs.Prelude.{nat_le, nat_eq, if◌then◌else◌}
+use Rattle.std.proofs.lemmas.Grind.{common_steps}
+use Rattle.std.proofs.lemmas.Option.{same_Some}
+use Rattle.std.proofs.lemmas.Bool.Decides.{leb_tells, nat_tests}
 use Rattle.op_core.specs.declared.Limit.TheVariants.{Turns}
 use Rattle.op_core.specs.declared.Op.{Op}
-use Rattle.op_core.specs.declared.Op.TheVariants.{Join}
+use Rattle.op_core.specs.declared.Op.TheVariants.{Enter, Rewake, Join}
+use Rattle.op_core.specs.declared.Next.{Next}
 use Rattle.op_core.specs.declared.Next.TheVariants.{Want}
 use Rattle.op_core.specs.ThreadCode.{Code}
 use Rattle.op_core.specs.OrdinaryState.{Object, ended, live}
@@ -17,7 +20,7 @@ use Rattle.heap_words.specs.Areas.{IsIn}
 use Rattle.heap_words.specs.Words.{value_of}
 use Rattle.step_port.specs.declared.step.ThreadWord.{ThreadWord}
 use Rattle.step_port.specs.declared.step.Step.{Step}
-use Rattle.step_port.specs.declared.step.Step.TheVariants.{DrawSection, TakeWords, Ticket, DrawThread, LoadThread, Split}
+use Rattle.step_port.specs.declared.step.Step.TheVariants.{SwapWord, DrawSection, TakeWords, Ticket, DrawThread, LoadThread, Split}
 use Rattle.step_port.specs.Steps.{place_of, effect_of}
 use Rattle.step_port.specs.Words.{answer_to, answer_of}
 use Rattle.plain_words.specs.Table.{HasRoom}
@@ -28,7 +31,7 @@ use Rattle.thread_automaton.specs.declared.Attempt.{Attempt}
 use Rattle.thread_automaton.specs.declared.Attempt.TheVariants.{Fixed}
 use Rattle.thread_automaton.specs.ThreadState.{ThreadState}
 use Rattle.thread_automaton.specs.NextMove.{move_of, next_move}
-use Rattle.automaton_rows.specs.Fits.{AttemptFits}
+use Rattle.automaton_rows.specs.Fits.{FixedFits, AttemptFits}
 use Rattle.core_runs.specs.Cores.{Core}
 use Rattle.core_runs.specs.Acts.{Act}
 use Rattle.core_runs.specs.Reading.{end_wanted, place_in, thread_in, ordinary}
@@ -36,18 +39,20 @@ use Rattle.section_laws.proofs.DeedLemmas.{makes_it}
 use Rattle.section_laws.proofs.RunLemmas.{Known, facts_at}
 use Rattle.run_threads.specs.Numbers.{AreNumbered}
 use Rattle.run_threads.proofs.NumberLemmas.{threads_are_numbered}
-use Rattle.run_layout.specs.Layout.{FitsObjects, IsLaidRun, object_end}
+use Rattle.run_layout.specs.Layout.{FitsObjects, IsLaidRun, IsWordPlace, object_end}
 use Rattle.run_layout.specs.Places.{IsInObject}
-use Rattle.run_layout.proofs.LaidLemmas.{NextFits, is_such}
+use Rattle.run_layout.proofs.LaidLemmas.{NextFits, is_there, is_such, write_there}
+use Rattle.run_layout.proofs.NameLemmas.{step_names}
 use Rattle.run_layout.proofs.PlaceLemmas.{Place, in_object, in_block, step_place}
-use Rattle.run_layout.proofs.RunLemmas.{laid_at}
+use Rattle.run_layout.proofs.RunLemmas.{laid_at, runs_keep_layout}
 use Rattle.start_words.specs.Starts.{IsThreadObject, start_word_of, StartsAreKnown}
 use Rattle.start_words.proofs.RunLemmas.{starts_are_known}
 use Rattle.held_levels.proofs.StandLemmas.{threads_stand_in_order}
 use Rattle.grounded_monitors.specs.Free.{IsFreeRun}
 use Rattle.grounded_monitors.proofs.RunLemmas.{free_runs_are_in_place}
+use Rattle.quick_turn_laws.specs.Laws.{IsNotWaitedFor}
 use Rattle.rollback_core.specs.Change.{NamesThread}
-use Rattle.ready_runs.specs.Ready.{HasWordsFor, IsRunInRoom, IsAllowed, CanStep, StepsAreAllowed, TablesAreReady}
+use Rattle.ready_runs.specs.Ready.{HasWordsFor, IsRunInRoom, IsAllowed, CanStep, StepsAreAllowed, WritesAreApart, TablesAreReady}
 use Rattle.ready_runs.proofs.MeetLemmas.{own_low, opens_low, met_at}
 use Rattle.ready_runs.proofs.DrawLemmas.{drawn_in, drawn_low}
 use Rattle.ready_runs.proofs.TakeLemmas.{TakesFew, takes_few, taken_low}
@@ -264,8 +269,75 @@ module _ {S : Type 0} (code : Code S) (b : Bounds) (is_thread : ℕ → Bool) (f
       ];
     }
 
+  -- ---- writes are apart from what others wait for
+
+  module _ (k t u : ℕ) (th uh : ThreadState S) (within : k ≤ length acts) (mover : (c k).threads t ≡ Some th) (waiter : (c k).threads u ≡ Some uh) (going : uh.over ≡ false)
+      (at old new : ℕ) (makes : next_move code b th ≡ Make (SwapWord at old new)) where
+    written : IsWordPlace is_thread (c k).objects at
+    written = elim (fits_or k t th within mover (not_over th.over (nat_le b.limits.turns th.counted) _ (SwapWord at old new) makes)) [
+      | inl all ↦ write_there is_thread th (c k).objects (code.next th.local) at new (step_names code b th (SwapWord at old new) (fits_now k t th within mover) makes) all
+      | inr hands ↦ absurd (other_step (splits k t th within mover hands.0 hands.1 hands.2 hands.3 (SwapWord at old new) makes))
+    ]
+      where
+        other_step : {n r p : ℕ} → SwapWord at old new ≡ Split n r p → ⊥
+        other_step is = cc
+
+    -- another word of an object that is there isn't the one that is written
+    away : (r d : ℕ) (o : Object) → (c k).objects r ≡ Some o → d < 2 + o.words → (r ≡ written.r → d ≢ 2 + written.i) → at ≢ r + d
+    away r d o there low other same = by_test (nat_eq r written.r) refl
+      where
+        place : at ≡ written.r + 2 + written.i
+        place = written.place
+
+        by_test : (test : Bool) → nat_eq r written.r ≡ test → ⊥
+        by_test true is =
+            let here : r ≡ written.r = grind (arith, common_steps, nat_tests) in
+            let of_place = place in
+            other here (omega (arith, here, same, of_place))
+        by_test false is =
+            let apart : r ≢ written.r = λ e. grind (arith, common_steps, nat_tests) in
+            elim ((runs_keep_layout code b is_thread c acts laid k within).apart r written.r o written.o there written.there apart) [
+              | inl before ↦ (let end : r + 2 + o.words ≤ written.r = before in let of_place = place in omega (arith, end, of_place, same, low))
+              | inr after ↦ (let end : written.r + 2 + written.o.words ≤ r = after in let of_place = place in let inside = written.low in omega (arith, end, of_place, same, inside))
+            ]
+
+    monitor_away : (r : ℕ) → (x : Object) × ((c k).objects r ≡ Some x) → at ≢ r + 1
+    monitor_away r (o, there) = away r 1 o there (omega arith) (λ here same. omega (arith, same))
+
+    start_away : (r : ℕ) (o : Object) → (c k).objects r ≡ Some o → is_thread o.class ≡ true → 1 < o.words → at ≢ r + 3
+    start_away r o there thread long = away r 3 o there (omega (arith, long)) (λ here same. written.kept (its_class here) (omega (arith, same)))
+      where
+        its_class : r ≡ written.r → is_thread written.o.class ≡ true
+        its_class here = ap (λ (x : Object). is_thread x.class) (same_Some written.o o (sym written.there ∙ ap (c k).objects (sym here) ∙ there)) ∙ thread
+
+    hands_nothing : (op : Op) → code.next uh.local ≡ Want op → HandsOut k u uh within waiter uh.attempt → ((n r p : ℕ) → FixedFits uh (Want op) (Split n r p) → ⊥) → ⊥
+    hands_nothing op wants (n, r, p, attempt) never =
+        never n r p (subst (λ next. AttemptFits uh next (Fixed (Split n r p))) wants (subst (AttemptFits uh (code.next uh.local)) attempt (fits_now k u uh within waiter)))
+
+    not_awaited_by : (next : Next) → code.next uh.local ≡ next → IsNotWaitedFor next at
+    not_awaited_by (Want (Enter r)) wants = elim (fits_or k u uh within waiter going) [
+      | inl all ↦ monitor_away r (is_there ((c k).objects r) (all (Enter r) wants).1)
+      | inr hands ↦ absurd (hands_nothing (Enter r) wants hands (λ n q p fits. fits))
+    ]
+    not_awaited_by (Want (Rewake r)) wants = elim (fits_or k u uh within waiter going) [
+      | inl all ↦ monitor_away r (is_there ((c k).objects r) (all (Rewake r) wants).1)
+      | inr hands ↦ absurd (hands_nothing (Rewake r) wants hands (λ n q p fits. fits))
+    ]
+    not_awaited_by (Want (Join r)) wants = elim (fits_or k u uh within waiter going) [
+      | inl all ↦ (let so = is_such ((c k).objects r) (all (Join r) wants).2 in start_away r so.0 so.1 so.2.0 so.2.1)
+      | inr hands ↦ absurd (hands_nothing (Join r) wants hands (λ n q p fits. fits))
+    ]
+    not_awaited_by next wants = tt
+
+    pub not_awaited : IsNotWaitedFor (code.next uh.local) at
+    not_awaited = not_awaited_by (code.next uh.local) refl
+
 pub steps_are_allowed : {S : Type 0} (code : Code S) → StepsAreAllowed code
 steps_are_allowed code b is_thread first classes areas c acts words run k t th within stands = can_step code b is_thread first classes areas c acts words run k t th within stands
+
+pub writes_are_apart : {S : Type 0} (code : Code S) → WritesAreApart code
+writes_are_apart code b is_thread first classes areas c acts words run k t u th uh at old new within mover waiter going makes =
+    not_awaited code b is_thread first classes areas c acts words run k t u th uh within mover waiter going at old new makes
 
 -- ---- tables
 

@@ -1,5 +1,5 @@
 -- What a turn asks of the shared words, at each place of a run.
-use Rattle.std.specs.Prelude.{◌≡◌, ◌<◌, ◌≤◌, ◌+◌, ◌^◌, ℕ, Bool, Some, List, length}
+use Rattle.std.specs.Prelude.{◌≡◌, ◌<◌, ◌≤◌, ◌+◌, ◌^◌, ℕ, Bool, false, Some, List, length}
 use Rattle.op_core.specs.ThreadCode.{Code}
 use Rattle.heap_words.specs.declared.areas.Area.{Area}
 use Rattle.heap_words.specs.declared.areas.Area.TheVariants.{Control}
@@ -7,6 +7,7 @@ use Rattle.heap_words.specs.declared.areas.Areas.{Areas}
 use Rattle.heap_words.specs.Areas.{IsIn}
 use Rattle.step_port.specs.declared.answer.StepAnswer.{StepAnswer}
 use Rattle.step_port.specs.declared.step.Step.{Step}
+use Rattle.step_port.specs.declared.step.Step.TheVariants.{SwapWord}
 use Rattle.step_port.specs.Steps.{place_of, effect_of}
 use Rattle.step_port.specs.Words.{Words, answer_of}
 use Rattle.plain_words.specs.declared.plain.PlainWords.{PlainWords}
@@ -19,6 +20,7 @@ use Rattle.core_runs.specs.Cores.{Core}
 use Rattle.core_runs.specs.Acts.{Act}
 use Rattle.grounded_monitors.specs.Free.{IsFreeRun}
 use Rattle.written_words.specs.Tags.{IsWrittenRun}
+use Rattle.quick_turn_laws.specs.Laws.{IsNotWaitedFor}
 use Rattle.rollback_core.specs.Change.{NamesThread}
 
 -- The table has a word for each section that can be drawn, for each class below a number, and for each place up to the end of
@@ -55,9 +57,18 @@ pub record CanStep {S : Type 0} (code : Code S) (b : Bounds) (areas : Areas) (w 
 
 -- so it is with each thread at each place
 abbrev pub StepsAreAllowed : {S : Type 0} → Code S → Type 0
-StepsAreAllowed {S} code = (b : Bounds) (is_thread : ℕ → Bool) (first : S) (classes : ℕ) (areas : Areas) (c : ℕ → Core S) (acts : List Act) → HasWordsFor b classes areas
+StepsAreAllowed {S} code = (b : Bounds) (is_thread : ℕ → Bool) (first : S) (classes : ℕ) (areas : Areas) (c : ℕ → Core S) (acts : List Act)
+    → HasWordsFor b classes areas
     → IsRunInRoom code b is_thread first classes c acts → (k t : ℕ) (th : ThreadState S) → k ≤ length acts → (c k).threads t ≡ Some th
     → CanStep code b areas (c k).words th
+
+-- a word that a thread is about to overwrite is neither a monitor that another wants, nor a start word for which it waits
+abbrev pub WritesAreApart : {S : Type 0} → Code S → Type 0
+WritesAreApart {S} code = (b : Bounds) (is_thread : ℕ → Bool) (first : S) (classes : ℕ) (areas : Areas) (c : ℕ → Core S) (acts : List Act)
+    → HasWordsFor b classes areas
+    → IsRunInRoom code b is_thread first classes c acts → (k t u : ℕ) (th uh : ThreadState S) (at old new : ℕ) → k ≤ length acts
+    → (c k).threads t ≡ Some th → (c k).threads u ≡ Some uh
+    → uh.over ≡ false → next_move code b th ≡ Make (SwapWord at old new) → IsNotWaitedFor (code.next uh.local) at
 
 -- ---- tables
 
@@ -74,6 +85,7 @@ pub record IsReadyFor {S : Type 0} (code : Code S) (b : Bounds) (x : PlainWords)
 
 -- so is each table that holds the words of a place, for each thread there
 abbrev pub TablesAreReady : {S : Type 0} → Code S → Type 0
-TablesAreReady {S} code = (b : Bounds) (is_thread : ℕ → Bool) (first : S) (classes : ℕ) (areas : Areas) (c : ℕ → Core S) (acts : List Act) → HasWordsFor b classes areas
+TablesAreReady {S} code = (b : Bounds) (is_thread : ℕ → Bool) (first : S) (classes : ℕ) (areas : Areas) (c : ℕ → Core S) (acts : List Act)
+    → HasWordsFor b classes areas
     → IsRunInRoom code b is_thread first classes c acts → (k t : ℕ) (th : ThreadState S) → k ≤ length acts → (c k).threads t ≡ Some th
     → (x : PlainWords) → HoldsWords x areas (c k).words → IsReadyFor code b x th

@@ -3,7 +3,7 @@
 //! Each function does nothing: its contract is the law.
 #![tactic(auto)]
 
-ghost use Rattle.ready_runs.specs.Ready.{StepsAreAllowed, TablesAreReady};
+ghost use Rattle.ready_runs.specs.Ready.{StepsAreAllowed, TablesAreReady, WritesAreApart};
 
 use op_core::ThreadCode;
 
@@ -16,4 +16,10 @@ pub fn steps_are_allowed<C: ThreadCode>()
 /// So a table that holds the words of such a place may make the step of each thread there.
 pub fn tables_are_ready<C: ThreadCode>()
     ensures { TablesAreReady C.code }
+{}
+
+/// A word that a thread is about to overwrite is neither a monitor that another thread wants, nor the start word of a thread for
+/// whose end it waits.
+pub fn writes_are_apart<C: ThreadCode>()
+    ensures { WritesAreApart C.code }
 {}

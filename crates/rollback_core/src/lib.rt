@@ -21,7 +21,7 @@ mod turning;
 pub(crate) use change::ThreadChange;
 pub use checks::is_in;
 pub use mark::SavedMark;
-pub use ready::{ReadyThread, turn};
+pub use ready::{ReadyThread, TurnMaker, turn, turn_for};
 pub use stack::Stack;
 pub use thread::{JThread, Own, PrintedLine};
 pub(crate) use told::StepTold;

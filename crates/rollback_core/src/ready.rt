@@ -1,20 +1,21 @@
 //! A thread that can be given turns, and a turn of it.
 
-ghost use Rattle.std.specs.Prelude.{◌≡◌, ◌+◌, ◌≤◌, ◌^◌, [], ℕ, IfOk, IsOk, OnOk, OnErr, nat_eq, if◌then◌else◌};
+ghost use Rattle.std.specs.Prelude.{◌≡◌, ◌+◌, ◌≤◌, ◌^◌, [], None, ℕ, IfOk, IsOk, OnOk, OnErr, nat_eq, if◌then◌else◌};
 ghost use Rattle.step_port.specs.declared.answer.StepAnswer.{StepAnswer};
 ghost use Rattle.step_port.specs.declared.step.Step.{Step};
 ghost use Rattle.thread_automaton.specs.declared.Attempt.{Attempt};
 ghost use Rattle.thread_automaton.specs.declared.Move.{Move};
 ghost use Rattle.thread_automaton.specs.ThreadState.{first_state};
 ghost use Rattle.thread_automaton.specs.NextMove.{next_move};
-ghost use Rattle.rollback_core.specs.Thread.{thread_of, CanBeAsked};
+ghost use Rattle.automaton_rows.specs.Fits.{IsFit};
+ghost use Rattle.rollback_core.specs.Thread.{thread_of, CanBeAsked, AreCounted};
 ghost use Rattle.rollback_core.specs.Change.{NamesThread};
 ghost use Rattle.rollback_core.specs.Turn.{Turned, MoveTakesMemory, kind_made};
 ghost use Rattle.rollback_core.specs.Quiet.{QuietTurns};
 
 use crate::turning::turn_of;
 use crate::{JThread, Turn};
-use op_core::{NoMemory, ThreadCode};
+use op_core::{Next, NoMemory, ThreadCode};
 use std::alloc::Global;
 use std::marker::Model;
 use step_port::StepPort;
@@ -81,6 +82,39 @@ impl<C: ThreadCode> ReadyThread<C> {
     {
         self.thread.run_silent(most)
     }
+
+    /// Has a maker of turns go on with the thread.
+    pub fn give_turns<M: TurnMaker<C>>(&mut self, maker: &mut M)
+        requires { M.may maker.old self.old }
+        ensures makes { M.makes maker.old self.old maker.new self.new }
+        ensures bounds { self.new.own.bounds ≡ self.old.own.bounds }
+    {
+        maker.make_turns(&mut self.thread)
+    }
+}
+
+/// What goes on with a thread that can be given turns, and leaves it so that it can be given more.
+pub trait TurnMaker<C: ThreadCode>: Sized {
+    ghost use Rattle.rollback_core.specs.declared.thread.JThread.{JThread};
+
+    /// It may now go on with this thread.
+    ghost may: { Self → JThread C → Type 0 };
+
+    /// It went on with the first thread, and is the second maker afterwards, and the thread the second one.
+    ghost makes: { Self → JThread C → Self → JThread C → Type 0 };
+
+    /// Goes on with the thread.
+    fn make_turns(&mut self, thread: &mut JThread<C>)
+        requires may { may self.old thread.old }
+        requires fits { IsFit C.code (thread_of C.state C.saved thread.old) }
+        requires counts { AreCounted (thread_of C.state C.saved thread.old) }
+        requires settled { thread.old.own.opening ≡ None }
+        requires heap { thread.old.own.bounds.first + thread.old.own.bounds.limits.heap ≤ 2 ^ 32 }
+        ensures makes { makes self.old thread.old self.new thread.new }
+        ensures fits { IsFit C.code (thread_of C.state C.saved thread.new) }
+        ensures counts { AreCounted (thread_of C.state C.saved thread.new) }
+        ensures settled { thread.new.own.opening ≡ None }
+        ensures bounds { thread.new.own.bounds ≡ thread.old.own.bounds };
 }
 
 /// One turn of a thread on the words of a port: it makes the move that comes next and no other, at most one step
@@ -112,5 +146,34 @@ pub fn turn<C: ThreadCode + Drop, P: StepPort>(
     ensures memory { OnErr result (MoveTakesMemory (next_move C.code ready.old.own.bounds (thread_of C.state C.saved ready.old))) }
     ensures undo { (w : ℕ) → ready.old.own.attempt ≡ Attempt.Undoing w → IsOk result }
 {
-    turn_of(&mut ready.thread, port)
+    let next = ready.thread.code.next();
+    turn_for(ready, next, port)
+}
+
+/// The same turn, where the caller has asked already what the thread's code wants next.
+///
+/// # Errors
+///
+/// As [`turn`] says.
+pub fn turn_for<C: ThreadCode + Drop, P: StepPort>(
+    ready: &mut ReadyThread<C>,
+    next: Next,
+    port: &mut P,
+) -> Result<Turn<C, P::Pass>, NoMemory>
+    requires next { next ≡ C.code.next (C.state ready.old.code) }
+    requires range { CanBeAsked C.code (C.state ready.old.code) (C.code.next (C.state ready.old.code)) }
+    requires allows { (step : Step) → next_move C.code ready.old.own.bounds (thread_of C.state C.saved ready.old) ≡ Move.Make step → P.allows port.old step }
+    requires names { (step : Step) (a : StepAnswer) (y : P) → next_move C.code ready.old.own.bounds (thread_of C.state C.saved ready.old) ≡ Move.Make step
+        → P.stepped port.old step a y → NamesThread step a }
+    ensures turned { IfOk result (λ r. Turned (thread_of C.state C.saved) C.code ready.old.own.bounds (thread_of C.state C.saved ready.old)
+        (thread_of C.state C.saved ready.new) (λ step a. P.stepped port.old step a port.new) (λ step pass. P.handed port.old step port.new pass)
+        (port.new ≡ port.old) r (next_move C.code ready.old.own.bounds (thread_of C.state C.saved ready.old))) }
+    ensures bounds { ready.new.own.bounds ≡ ready.old.own.bounds }
+    ensures last_kind { OnOk result (ready.new.own.last_kind ≡ kind_made (next_move C.code ready.old.own.bounds (thread_of C.state C.saved ready.old))) }
+    ensures err { OnErr result (thread_of C.state C.saved ready.new ≡ thread_of C.state C.saved ready.old) }
+    ensures err_port { OnErr result (port.new ≡ port.old) }
+    ensures memory { OnErr result (MoveTakesMemory (next_move C.code ready.old.own.bounds (thread_of C.state C.saved ready.old))) }
+    ensures undo { (w : ℕ) → ready.old.own.attempt ≡ Attempt.Undoing w → IsOk result }
+{
+    turn_of(&mut ready.thread, next, port)
 }

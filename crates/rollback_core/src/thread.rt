@@ -24,36 +24,57 @@ pub struct PrintedLine {
 /// A Java thread: its code, and what is kept of it beside the code.
 #[derive(Drop)]
 pub struct JThread<C> {
-    pub(crate) code: C,
-    pub(crate) own: Own,
+    /// Its code, as it is now.
+    pub code: C,
+    /// What is kept of it beside the code.
+    pub own: Own,
 }
 
 /// What is kept of a thread beside its code: how far it is with what it does next, and what it alone knows of its section.
 #[derive(Drop)]
 pub struct Own {
-    pub(crate) alloc: Global,
-    pub(crate) bounds: Bounds,
-    pub(crate) number: u8,
-    pub(crate) priority: u8,
-    // Beside each saved local state how the thread was at the save, oldest first.
-    pub(crate) marks: Vec<SavedMark>,
-    // The mark of a level that is about to open, whose save is on top of the others.
-    pub(crate) opening: Option<SavedMark>,
-    pub(crate) section: u32,
-    pub(crate) levels: u8,
-    pub(crate) pinned: u8,
-    pub(crate) known: u32,
-    pub(crate) known_depth: u8,
-    pub(crate) log: WriteLog,
-    pub(crate) held: Stack<Held>,
-    pub(crate) depth: u16,
-    pub(crate) level: u8,
-    pub(crate) counted: u64,
-    pub(crate) silents: u64,
-    pub(crate) lines: Stack<PrintedLine>,
-    pub(crate) over: bool,
-    pub(crate) attempt: Attempt,
-    pub(crate) last_kind: u8,
+    /// Where its memory comes from.
+    pub alloc: Global,
+    /// What bounds its run.
+    pub bounds: Bounds,
+    /// Its number, from 1.
+    pub number: u8,
+    /// Its priority, 1 to 10 in Java.
+    pub priority: u8,
+    /// Beside each saved local state how the thread was at the save, oldest first.
+    pub marks: Vec<SavedMark>,
+    /// The mark of a level that is about to open, whose save is on top of the others.
+    pub opening: Option<SavedMark>,
+    /// The number of the section that it has open, or 0.
+    pub section: u32,
+    /// How many levels of it are open.
+    pub levels: u8,
+    /// To which depth it has seen the section pinned.
+    pub pinned: u8,
+    /// The section that it last saw committed, or pinned deep enough, as the one that had written a word; or 0.
+    pub known: u32,
+    /// And how deep: words that were written at this level of it, or further out, are safe.
+    pub known_depth: u8,
+    /// The words that it has overwritten since the level of its first save opened, as they were.
+    pub log: WriteLog,
+    /// The monitors that it holds.
+    pub held: Stack<Held>,
+    /// How often it had entered the monitor that a wait gave up, 0 where it isn't waiting.
+    pub depth: u16,
+    /// The level of that monitor.
+    pub level: u8,
+    /// Its turns that count.
+    pub counted: u64,
+    /// Its silent turns since its last event that others can see.
+    pub silents: u64,
+    /// What it printed.
+    pub lines: Stack<PrintedLine>,
+    /// Whether it has ended.
+    pub over: bool,
+    /// How far it is with what it does next.
+    pub attempt: Attempt,
+    /// The number of the kind of the step that its last turn made, or 0.
+    pub last_kind: u8,
 }
 
 impl<C: ThreadCode> JThread<C> {

@@ -139,8 +139,10 @@ fn split_turn<C: ThreadCode + Drop, P: StepPort>(
 // A turn, but for what it keeps.
 fn make_turn<C: ThreadCode + Drop, P: StepPort>(
     thread: &mut JThread<C>,
+    next: Next,
     port: &mut P,
 ) -> Result<Turn<C, P::Pass>, NoMemory>
+    requires next { next ≡ C.code.next (C.state thread.old.code) }
     requires fits { IsFit C.code (thread_of C.state C.saved thread.old) }
     requires settled { thread.old.own.opening ≡ None }
     requires counts { AreCounted (thread_of C.state C.saved thread.old) }
@@ -159,7 +161,6 @@ fn make_turn<C: ThreadCode + Drop, P: StepPort>(
     ensures err_port { OnErr result (port.new ≡ port.old) }
     ensures memory { OnErr result (MoveTakesMemory (next_move C.code thread.old.own.bounds (thread_of C.state C.saved thread.old))) }
 {
-    let next = thread.code.next();
     match thread.move_for(next) {
         Move::Over => {
             thread.own.last_kind = 0;
@@ -179,11 +180,13 @@ fn make_turn<C: ThreadCode + Drop, P: StepPort>(
     }
 }
 
-// A turn of a thread that can be given one.
+// A turn of a thread that can be given one, where its code wants this next.
 pub(crate) fn turn_of<C: ThreadCode + Drop, P: StepPort>(
     thread: &mut JThread<C>,
+    next: Next,
     port: &mut P,
 ) -> Result<Turn<C, P::Pass>, NoMemory>
+    requires next { next ≡ C.code.next (C.state thread.old.code) }
     requires fits { IsFit C.code (thread_of C.state C.saved thread.old) }
     requires settled { thread.old.own.opening ≡ None }
     requires counts { AreCounted (thread_of C.state C.saved thread.old) }
@@ -205,5 +208,5 @@ pub(crate) fn turn_of<C: ThreadCode + Drop, P: StepPort>(
     ensures memory { OnErr result (MoveTakesMemory (next_move C.code thread.old.own.bounds (thread_of C.state C.saved thread.old))) }
     ensures undo { (w : ℕ) → thread.old.own.attempt ≡ Attempt.Undoing w → IsOk result }
 {
-    make_turn(thread, port)
+    make_turn(thread, next, port)
 }

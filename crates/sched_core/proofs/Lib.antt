@@ -1,9 +1,15 @@
 mod ListLemmas
 mod EndLemmas
-mod CountLemmas
+pub mod CountLemmas
 mod LineLemmas
-mod RunLemmas
+pub mod ReadyLemmas
+pub mod RunLemmas
+mod FollowLemmas
+mod ComeLemmas
+mod StartLemmas
 mod OrderLemmas
 mod SilentLemmas
 mod LowestLemmas
 mod StretchLemmas
+mod KeepLemmas
+mod UsualLemmas

@@ -17,12 +17,10 @@ use Rattle.schedules.specs.Schedule as schedule
 use Rattle.schedules.specs.Schedule.{Rest, has_turns, due, drawn, place_of, number_after, order_after, rest_due, rest_after}
 use Rattle.schedules.proofs.ListLemmas.{none_there}
 use Rattle.schedules.specs.Run.{AreThose, IsPicked, IsTurn, Run, due_of, GetsTurn, IsNext, EndsOfItself, EndsWith, EndsBy}
-use Rattle.schedules.proofs.RunLemmas.{go_on}
 use Rattle.thread_automaton.specs.declared.Bounds.{Bounds}
-use Rattle.op_core.specs.OrdinaryState.{set_at}
-use Rattle.thread_automaton.specs.ThreadState.{ThreadState, first_state}
+use Rattle.thread_automaton.specs.ThreadState.{ThreadState}
 use Rattle.plain_words.specs.declared.plain.PlainWords.{PlainWords}
-use Rattle.plain_words.specs.Table.{words_in, HasRoom}
+use Rattle.plain_words.specs.Table.{words_in, MayStep, Stepped}
 use Rattle.rollback_core.specs.declared.thread.JThread.{JThread}
 use Rattle.rollback_core.specs.Thread.{thread_of}
 use Rattle.word_runs.specs.Enabled.{is_enabled}
@@ -31,20 +29,9 @@ use Rattle.word_machine.specs.Seats.{seat_in}
 use Rattle.word_machine.specs.Machine.{threads_in, IsCoreOf, is_enabled_in}
 use Rattle.word_machine.specs.Turns.{CanTurnOn, GivesTurn}
 use Rattle.sched_core.specs.declared.word_run.WordRun.{WordRun}
-use Rattle.word_runs.specs.Laws.{begun_with}
-use Rattle.schedules.specs.declared.order.Schedule.{Schedule}
 use Rattle.schedules.specs.Run.{TurnSystem, Follows}
-use Rattle.heap_words.specs.declared.areas.Areas.{Areas}
-use Rattle.heap_words.specs.Areas.{IsIn}
-use Rattle.step_port.specs.Steps as steps
-use Rattle.step_port.specs.Steps.{effect_of}
-use Rattle.step_port.specs.Words.{Words, answer_of}
-use Rattle.rollback_core.specs.Change.{NamesThread}
-use Rattle.core_runs.specs.Cores.{Core}
-use Rattle.sched_core.specs.declared.word_outcome.WordOutcome.{WordOutcome}
-use Rattle.sched_core.specs.Readiness.{IsReady, IsWell, StaysWell}
-use Rattle.sched_core.specs.Outcome.{rest_of, IsOutcome}
-use Rattle.sched_core.specs.ScheduledRun.{how_at, opens_by, undoes_by, CanGoOn, AreReady, IsPlaceOf, IsSame, GivesPlace, GivesNext, GoesTo, GoesOnFrom, GoesOnDue, GoesOnPicked, SaysRun}
+use Rattle.sched_core.specs.ScheduledRun.{how_at, opens_by, undoes_by, CanGoOn, StaysApart, AreReady, IsPlaceOf, IsSame, GivesPlace, GivesNext, GoesTo, GoesOnFrom, GoesOnDue, GoesOnPicked}
+use Rattle.turn_runs.specs.Turns.{CanTurn, StaysReady}
 use Rattle.sched_core.proofs.CountLemmas.{turns_count, spent_stays}
 
 module _ {C S : Type 0} {G : Ghosts C} (code : Code S) (meant : JThread C → ThreadState S) (b : Bounds) (old new : WordRun C G) (t : ℕ) (comes : TurnEnd) where
@@ -92,7 +79,7 @@ is_false true is = absurd (cc)
 is_false false is = refl
 
 -- the order has an item first, whose thread this is
-item_first : (order : List OrderItem) (t : ℕ) → option_map schedule.thread_of (slice_get order 0) ≡ Some t → (item : OrderItem) × (others : List OrderItem) × (order ≡ item ∷ others) × (schedule.thread_of item ≡ t)
+pub item_first : (order : List OrderItem) (t : ℕ) → option_map schedule.thread_of (slice_get order 0) ≡ Some t → (item : OrderItem) × (others : List OrderItem) × (order ≡ item ∷ others) × (schedule.thread_of item ≡ t)
 item_first [] t is = absurd (cc)
 item_first (item ∷ others) t is = let same : schedule.thread_of item ≡ t = cc in (item, others, refl, same)
 
@@ -102,10 +89,10 @@ none_first [] none = refl
 none_first (item ∷ others) none = absurd (cc)
 
 -- what a turn leaves of what was due
-after_item : (rest : Rest) (item : OrderItem) (others : List OrderItem) (comes : TurnEnd) → rest.order ≡ item ∷ others → rest_after rest comes ≡ record rest { order = order_after rest.order comes }
+pub after_item : (rest : Rest) (item : OrderItem) (others : List OrderItem) (comes : TurnEnd) → rest.order ≡ item ∷ others → rest_after rest comes ≡ record rest { order = order_after rest.order comes }
 after_item rest item others comes is = ap (λ number. record rest { order = order_after rest.order comes; number = number }) (ap (λ order. number_after order rest.number) is)
 
-after_pick : (rest : Rest) (comes : TurnEnd) → rest.order ≡ [] → rest_after rest comes ≡ record rest { order = order_after rest.order comes; number = drawn rest.number }
+pub after_pick : (rest : Rest) (comes : TurnEnd) → rest.order ≡ [] → rest_after rest comes ≡ record rest { order = order_after rest.order comes; number = drawn rest.number }
 after_pick rest comes is = ap (λ number. record rest { order = order_after rest.order comes; number = number }) (ap (λ order. number_after order rest.number) is)
 
 module _ {C S : Type 0} {G : Ghosts C} (code : Code S) (state : C → S) (saved : C → List S) (b : Bounds) (old mid new : WordRun C G) where
@@ -192,14 +179,23 @@ module _ {C S : Type 0} {G : Ghosts C} (code : Code S) (state : C → S) (saved 
           let orders = ap (λ xs. order_after xs comes) (through ∙ sym none) in
           λ i. record { order = orders i; number = draws i }
 
--- each thread that hasn't ended can still have its turn
+-- each thread can still have its turns
 pub still_ready : {C S : Type 0} {G : Ghosts C} (code : Code S) (state : C → S) (saved : C → List S) (old new : WordRun C G) → IsSame (thread_of state saved) old new
     → AreReady code (thread_of state saved) old.machine.bounds old.machine.words old.machine.seats.places.items → AreReady code (thread_of state saved) new.machine.bounds new.machine.words new.machine.seats.places.items
-still_ready {C} {S} code state saved old new same ready = λ t y here lives.
-    let seat = some_as y (seat_in old.machine.seats.places.items t) (ap (λ f. f t) (sym same.threads) ∙ ap (option_map (thread_of state saved)) here) in
-    subst (λ b. CanTurnOn code b new.machine.words (thread_of state saved y)) (sym same.bounds)
-    (subst (λ w. CanTurnOn code old.machine.bounds w (thread_of state saved y)) (sym same.words)
-    (subst (CanTurnOn code old.machine.bounds old.machine.words) seat.2 (ready t seat.0 seat.1 (ap (λ (x : ThreadState S). x.over) seat.2 ∙ lives))))
+still_ready {C} {S} code state saved old new same ready = record {
+  ready = λ t y here.
+      let seat = seat_as t y here in
+      subst (λ b. StaysReady code b MayStep Stepped (thread_of state saved y) new.machine.words) (sym same.bounds)
+      (subst (λ w. StaysReady code old.machine.bounds MayStep Stepped (thread_of state saved y) w) (sym same.words)
+      (subst (λ th. StaysReady code old.machine.bounds MayStep Stepped th old.machine.words) seat.2 (ready.ready t seat.0 seat.1)));
+  apart = λ t u x y here there other.
+      let mover = seat_as t x here in
+      let waiter = seat_as u y there in
+      subst (λ b. StaysApart code b new.machine.words (thread_of state saved x) (thread_of state saved y)) (sym same.bounds)
+      (subst (λ w. StaysApart code old.machine.bounds w (thread_of state saved x) (thread_of state saved y)) (sym same.words)
+      (subst (λ th. StaysApart code old.machine.bounds old.machine.words th (thread_of state saved y)) mover.2
+      (subst (λ uh. StaysApart code old.machine.bounds old.machine.words (thread_of state saved mover.0) uh) waiter.2 (ready.apart t u mover.0 waiter.0 mover.1 waiter.1 other))));
+}
   where
     some_same : (x y : ThreadState S) → Some x ≡ Some y → x ≡ y
     some_same x y is = cc
@@ -207,6 +203,15 @@ still_ready {C} {S} code state saved old new same ready = λ t y here lives.
     some_as : (y : JThread C) (seat : Option (JThread C)) → option_map (thread_of state saved) seat ≡ Some (thread_of state saved y) → (x : JThread C) × (seat ≡ Some x) × (thread_of state saved x ≡ thread_of state saved y)
     some_as y None is = absurd (cc)
     some_as y (Some x) is = (x, refl, some_same (thread_of state saved x) (thread_of state saved y) is)
+
+    seat_as : (t : ℕ) (y : JThread C) → seat_in new.machine.seats.places.items t ≡ Some y → (x : JThread C) × (seat_in old.machine.seats.places.items t ≡ Some x) × (thread_of state saved x ≡ thread_of state saved y)
+    seat_as t y here = some_as y (seat_in old.machine.seats.places.items t) (ap (λ f. f t) (sym same.threads) ∙ ap (option_map (thread_of state saved)) here)
+
+-- a thread that can have its turns can have the next one
+pub turn_now : {S : Type 0} (code : Code S) (b : Bounds) (words : PlainWords) (th : ThreadState S) → StaysReady code b MayStep Stepped th words → CanTurnOn code b words th
+turn_now code b words th ready =
+    let now : CanTurn code b MayStep Stepped th words = ready [] th words (refl, refl) in
+    record { asked = now.range; may = now.allowed; names = now.names }
 
 pub seat_lives : {C : Type 0} (x y : JThread C) {seat : Option (JThread C)} → seat ≡ Some x → seat ≡ Some y → x.own.over ≡ false → y.own.over ≡ false
 seat_lives x y is here lives = let same : x ≡ y = some_one x y (sym is ∙ here) in ap (λ z. z.own.over) (sym same) ∙ lives
@@ -272,82 +277,3 @@ drawn_picked code state saved b old t threads number those at = λ r place. reco
 pub follows_more : {R : Type 0} (system : TurnSystem R) (run mid next : Run R) (ts : List ℕ) (t : ℕ) (comes : TurnEnd) → Follows system run ts mid → IsTurn system mid t comes next → Follows system run (ts ++ t ∷ []) next
 follows_more system run mid next [] t comes same turn = (comes, next, subst (λ m. IsTurn system m t comes next) same turn, refl)
 follows_more system run mid next (u ∷ ts) t comes (end, first, one, others) turn = (end, first, one, follows_more system first mid next ts t comes others turn)
-
--- The run in memory is at a place to which turns of some threads lead from the beginning.
-pub record HasCome {C S : Type 0} {G : Ghosts C} (code : Code S) (meant : JThread C → ThreadState S) (b : Bounds) (areas : Areas) (begun : Run (Progress S)) (w : WordRun C G) : Type 0 where
-  pub threads : List ℕ
-  pub last : Run (Progress S)
-  pub follows : Follows (word_turns code b) begun threads last
-  pub place : IsPlaceOf meant w last.state
-  pub rest : last.rest ≡ w.rest
-  pub bounds : w.machine.bounds ≡ b
-  pub areas_are : w.machine.words.areas ≡ areas
-
--- what is well is ready
-can_turn : {S : Type 0} (code : Code S) (b : Bounds) (areas : Areas) (words : PlainWords) (th : ThreadState S) (w : Words) → w ≡ words_in words → words.areas ≡ areas → IsReady code b areas w th → CanTurnOn code b words th
-can_turn code b areas words th w is areas_are ready = record {
-  asked = ready.asked;
-  may = λ step makes. record {
-    there = subst (λ k. IsIn k (steps.place_of step)) (sym areas_are) (ready.there step makes);
-    room = subst (λ v. HasRoom (effect_of step) (v (steps.place_of step))) is (ready.room step makes);
-  };
-  names = λ step a y makes stepped. subst (NamesThread step) (ap (λ v. answer_of v step) is ∙ sym stepped.words.answers) (ready.names step makes);
-}
-
-module _ {C S : Type 0} {G : Ghosts C} (code : Code S) (state : C → S) (saved : C → List S) (b : Bounds) (areas : Areas) (core : Core S) (rest : Rest) where
-  pub come_first : (w : WordRun C G) (main : JThread C) (l : S) → w.machine.bounds ≡ b → w.machine.words.areas ≡ areas → core.words ≡ words_in w.machine.words
-      → threads_in (thread_of state saved) w.machine.seats.places.items ≡ set_at (λ t. None) main.own.number (Some (thread_of state saved main)) → thread_of state saved main ≡ first_state 1 5 l
-      → core.threads ≡ set_at (λ t. None) 1 (Some (first_state 1 5 l)) → rest ≡ w.rest → w.opened ≡ 0 → w.undone ≡ 0 → HasCome code (thread_of state saved) b areas (begun_with core rest false) w
-  come_first w main l bounds areas_are words threads main_is begins rest_is opened undone = record {
-    threads = [];
-    last = begun_with core rest false;
-    follows = refl;
-    place = record {
-      core = record {
-        words = words;
-        threads = begins ∙ ap (λ (th : ThreadState S). set_at (λ t. None) th.number (Some th)) (sym main_is) ∙ sym threads;
-      };
-      untold = refl;
-      opens = opened;
-      undoes = undone;
-    };
-    rest = rest_is;
-    bounds = bounds;
-    areas_are = areas_are;
-  }
-
-  pub come_ready : (w : WordRun C G) → StaysWell code b areas core rest false → HasCome code (thread_of state saved) b areas (begun_with core rest false) w → AreReady code (thread_of state saved) w.machine.bounds w.machine.words w.machine.seats.places.items
-  come_ready w well come = λ t x here lives.
-      let is_well : IsWell code b areas come.last.state.core = well come.threads come.last come.follows in
-      let stands : come.last.state.core.threads t ≡ Some (thread_of state saved x) = ap (λ f. f t) come.place.core.threads ∙ ap (option_map (thread_of state saved)) here in
-      subst (λ k. CanTurnOn code k w.machine.words (thread_of state saved x)) (sym come.bounds)
-      (can_turn code b areas w.machine.words (thread_of state saved x) come.last.state.core.words come.place.core.words come.areas_are (is_well.ready t (thread_of state saved x) stands lives))
-
-  pub come_further : (old new : WordRun C G) → HasCome code (thread_of state saved) b areas (begun_with core rest false) old → new.machine.bounds ≡ old.machine.bounds → new.machine.words.areas ≡ old.machine.words.areas
-      → GoesOnFrom code (thread_of state saved) old.machine.bounds old None new → HasCome code (thread_of state saved) b areas (begun_with core rest false) new
-  come_further old new come bounds areas_are goes =
-      let (next, on, place, rest_is) = subst (λ k. GoesOnFrom code (thread_of state saved) k old None new) come.bounds goes come.last come.place come.rest in
-      record {
-        threads = come.threads ++ on.threads;
-        last = next;
-        follows = go_on (Progress S) (word_turns code b) _ come.last next come.threads on.threads come.follows on.follows;
-        place = place;
-        rest = rest_is;
-        bounds = bounds ∙ come.bounds;
-        areas_are = areas_are ∙ come.areas_are;
-      }
-
-  pub come_to_end : (old new : WordRun C G) (end : How) (schedule_is : Schedule) (outcome : WordOutcome) → rest ≡ rest_of schedule_is → StaysWell code b areas core rest false → HasCome code (thread_of state saved) b areas (begun_with core rest false) old
-      → GoesOnFrom code (thread_of state saved) old.machine.bounds old (Some end) new → SaysRun code (thread_of state saved) new end outcome → IsOutcome code b core schedule_is outcome
-  come_to_end old new end schedule_is outcome rest_is well come goes says =
-      let (ends_so, place) = subst (λ k. GoesOnFrom code (thread_of state saved) k old (Some end) new) come.bounds goes come.last come.place come.rest in
-      record {
-        threads = come.threads;
-        last = come.last;
-        goes = (subst (λ r. Follows (word_turns code b) (begun_with core r false) come.threads come.last) rest_is come.follows, subst (λ h. EndsBy (word_turns code b) come.last h) (sym says.how) ends_so);
-        lines = says.lines come.last.state.core place.core (well come.threads come.last come.follows).lines;
-        ends = says.ends come.last.state.core place.core;
-        opened = says.opened ∙ place.opens;
-        undone = says.undone ∙ place.undoes;
-        made = says.made come.last.state.core place.core;
-      }

@@ -28,13 +28,21 @@ bounds_of opening limits = record { limits = limits; first = opening.first }
 abbrev pub rest_of : Schedule → Rest
 rest_of schedule = record { order = schedule.order; number = schedule.seed }
 
--- The turns of some threads lead from the core to the run's last state, where it ends as the outcome says. No events are kept.
-pub record IsOutcome {S : Type 0} (code : Code S) (b : Bounds) (core : Core S) (schedule : Schedule) (outcome : WordOutcome) : Type 0 where
+-- What an outcome says of the last place of a run, but how the run ended there. No events are kept.
+pub record TellsPlace {S : Type 0} (code : Code S) (last : Progress S) (outcome : WordOutcome) : Type 0 where
+  pub lines : outcome.lines ≡ last.core.lines
+  pub ends : AreEnds code last.core outcome.ends
+  pub opened : outcome.opened ≡ opened_in last.acts
+  pub undone : outcome.undone ≡ undone_in last.acts
+  pub made : AreTextsOf last.core outcome.lines outcome.made
+
+-- The turns of some threads lead on from this run to a last place, of which the outcome tells, and there the run ends as it says.
+pub record IsOutcomeOf {S : Type 0} (code : Code S) (b : Bounds) (run : Run (Progress S)) (outcome : WordOutcome) : Type 0 where
   pub threads : List ℕ
   pub last : Run (Progress S)
-  pub goes : Goes (word_turns code b) (begun_with core (rest_of schedule) false) threads outcome.how last
-  pub lines : outcome.lines ≡ last.state.core.lines
-  pub ends : AreEnds code last.state.core outcome.ends
-  pub opened : outcome.opened ≡ opened_in last.state.acts
-  pub undone : outcome.undone ≡ undone_in last.state.acts
-  pub made : AreTextsOf last.state.core outcome.lines outcome.made
+  pub goes : Goes (word_turns code b) run threads outcome.how last
+  pub told : TellsPlace code last.state outcome
+
+-- so they do from this core, by the schedule
+abbrev pub IsOutcome : {S : Type 0} → Code S → Bounds → Core S → Schedule → WordOutcome → Type 0
+IsOutcome code b core schedule = IsOutcomeOf code b (begun_with core (rest_of schedule) false)

@@ -1,5 +1,5 @@
 -- A run in memory that follows a schedule.
-use Rattle.std.specs.Prelude.{◌≡◌, ℕ, zero, suc, ◌<◌, ◌≤◌, Bool, false, true, Option, None, Some, List, [], length, nat_eq, if◌then◌else◌}
+use Rattle.std.specs.Prelude.{◌≡◌, ◌≢◌, ℕ, zero, suc, ◌<◌, ◌≤◌, ◌||◌, Bool, false, true, Option, None, Some, List, [], length, nat_eq, if◌then◌else◌}
 use Rattle.op_core.specs.declared.thread_code.ThreadCode.{Ghosts}
 use Rattle.op_core.specs.declared.How.{How}
 use Rattle.op_core.specs.declared.How.TheVariants as how
@@ -7,24 +7,29 @@ use Rattle.op_core.specs.ThreadCode.{Code}
 use Rattle.schedules.specs.declared.order.TurnEnd.{TurnEnd}
 use Rattle.schedules.specs.declared.order.TurnEnd.TheVariants.{Made, Other, Spent}
 use Rattle.schedules.specs.declared.order.OrderItem.{OrderItem}
-use Rattle.schedules.specs.declared.order.OrderItem.TheVariants.{Turns, Until}
+use Rattle.schedules.specs.declared.order.OrderItem.TheVariants as items
 use Rattle.schedules.specs.Schedule.{drawn, order_after}
-use Rattle.schedules.specs.Run.{Run, due_of, Follows, EndsBy}
+use Rattle.schedules.specs.Run.{AreThose, Run, due_of, Follows, EndsBy}
 use Rattle.thread_automaton.specs.declared.Bounds.{Bounds}
+use Rattle.step_port.specs.declared.step.Step.TheVariants.{SwapWord}
+use Rattle.thread_automaton.specs.declared.Move.TheVariants.{Make}
 use Rattle.thread_automaton.specs.ThreadState.{ThreadState}
+use Rattle.thread_automaton.specs.NextMove.{next_move}
 use Rattle.plain_words.specs.declared.plain.PlainWords.{PlainWords}
-use Rattle.plain_words.specs.Table.{words_in}
+use Rattle.plain_words.specs.Table.{words_in, MayStep, Stepped}
 use Rattle.rollback_core.specs.declared.thread.JThread.{JThread}
 use Rattle.word_runs.specs.WordTurns.{Progress, word_turns}
+use Rattle.word_runs.specs.Laws.{AreActs}
 use Rattle.word_machine.specs.Seats.{seat_in}
 use Rattle.word_machine.specs.Machine.{threads_in, IsCoreOf, is_enabled_in}
-use Rattle.word_machine.specs.Turns.{CanTurnOn}
+use Rattle.turn_runs.specs.Turns.{TurnMove, Turns, StaysReady}
 use Rattle.sched_core.specs.declared.word_run.WordRun.{WordRun}
 use Rattle.core_runs.specs.Cores.{Core}
 use Rattle.run_threads.specs.Lines.{LinesHaveTickets}
 use Rattle.word_texts.specs.Texts.{AreTextsOf}
 use Rattle.sched_core.specs.declared.word_outcome.WordOutcome.{WordOutcome}
 use Rattle.sched_core.specs.Outcome.{AreEnds}
+use Rattle.sched_core.specs.Readiness.{IsNotWaitedFor, StaysWell}
 use Rattle.sched_core.specs.Counts.{opened_in, undone_in}
 
 -- how a run ends at a turn of thread t that came to this, if it does
@@ -42,18 +47,33 @@ abbrev pub undoes_by : TurnEnd → ℕ
 undoes_by (Made kind) = if nat_eq kind 10 then 1 else 0
 undoes_by end = 0
 
+-- of the steps that turns make, those of these kinds load a word and do nothing else
+abbrev pub is_load : ℕ → Bool
+is_load kind = nat_eq kind 1 || nat_eq kind 6 || nat_eq kind 11 || nat_eq kind 21 || nat_eq kind 24 || nat_eq kind 25
+
+-- a turn that came to this left the shared words and the other threads as they were: it was silent, its exchange was lost, or it
+-- loaded a word
+abbrev pub leaves_words : TurnEnd → Bool
+leaves_words (Made kind) = is_load kind
+leaves_words Other = true
+leaves_words end = false
+
 -- the thread of this number is there and can go on
 abbrev pub CanGoOn : {C S : Type 0} → Code S → (JThread C → ThreadState S) → PlainWords → List (Option (JThread C)) → ℕ → Type 0
 CanGoOn code meant words places t = is_enabled_in code (words_in words) (threads_in meant places t) ≡ true
 
+-- the threads that can go on are those in the list, where they are said to be listed
+abbrev pub AreListed : {C S : Type 0} {G : Ghosts C} → Code S → (JThread C → ThreadState S) → WordRun C G → Type 0
+AreListed code meant w = w.is_listed ≡ true → AreThose (CanGoOn code meant w.machine.words w.machine.seats.places.items) w.enabled.items
+
 -- the item has at least k turns to give
 abbrev pub CanGive : ℕ → OrderItem → Type 0
-CanGive k (Turns t n) = k ≤ n
-CanGive k (Until t kind) = Unit {0}
+CanGive k (items.Turns t n) = k ≤ n
+CanGive k (items.Until t kind) = Unit {0}
 
 -- each turn of the item is taken off it
 abbrev pub counts_turns : Option OrderItem → Bool
-counts_turns (Some (Turns t n)) = true
+counts_turns (Some (items.Turns t n)) = true
 counts_turns item = false
 
 -- what is left of an order after n turns of its first item, none of which came to what the item asks for
@@ -61,9 +81,15 @@ abbrev pub order_left : ℕ → List OrderItem → List OrderItem
 order_left zero order = order
 order_left (suc n) order = order_after (order_left n order) Other
 
--- each thread that hasn't ended can have a turn
-abbrev pub AreReady : {C S : Type 0} → Code S → (JThread C → ThreadState S) → Bounds → PlainWords → List (Option (JThread C)) → Type 0
-AreReady {C} code meant b words places = (t : ℕ) (x : JThread C) → seat_in places t ≡ Some x → x.own.over ≡ false → CanTurnOn code b words (meant x)
+-- wherever turns of thread th alone lead, it writes no word of an object that is a monitor or a start word for which uh waits
+abbrev pub StaysApart : {S : Type 0} → Code S → Bounds → PlainWords → ThreadState S → ThreadState S → Type 0
+StaysApart {S} code b words th uh = (moves : List TurnMove) (last : ThreadState S) (y : PlainWords) → Turns code b Stepped th words moves last y
+    → (at old new : ℕ) → next_move code b last ≡ Make (SwapWord at old new) → IsNotWaitedFor (code.next uh.local) at
+
+-- Each thread can have its turns, wherever turns of it alone lead, and writes apart from what others wait for.
+pub record AreReady {C S : Type 0} (code : Code S) (meant : JThread C → ThreadState S) (b : Bounds) (words : PlainWords) (places : List (Option (JThread C))) : Type 0 where
+  pub ready : (t : ℕ) (x : JThread C) → seat_in places t ≡ Some x → StaysReady code b MayStep Stepped (meant x) words
+  pub apart : (t u : ℕ) (x y : JThread C) → seat_in places t ≡ Some x → seat_in places u ≡ Some y → t ≢ u → StaysApart code b words (meant x) (meant y)
 
 -- In memory is the core of this place of a run, which keeps no events, with what was counted up to there.
 pub record IsPlaceOf {C S : Type 0} {G : Ghosts C} (meant : JThread C → ThreadState S) (w : WordRun C G) (r : Progress S) : Type 0 where
@@ -71,6 +97,14 @@ pub record IsPlaceOf {C S : Type 0} {G : Ghosts C} (meant : JThread C → Thread
   pub untold : r.keeps ≡ false
   pub opens : w.opened ≡ opened_in r.acts
   pub undoes : w.undone ≡ undone_in r.acts
+
+-- The run is at such a place. Acts lead to it from a core from which on all stays well.
+pub record IsOnWay {C S : Type 0} {G : Ghosts C} (code : Code S) (meant : JThread C → ThreadState S) (w : WordRun C G) (run : Run (Progress S)) : Type 0 where
+  pub core : Core S
+  pub well : StaysWell code w.machine.bounds w.machine.words.areas core
+  pub acts : AreActs code w.machine.bounds core run.state
+  pub place : IsPlaceOf meant w run.state
+  pub rest : run.rest ≡ w.rest
 
 -- in memory is the same core as before, with the same counts
 pub record IsSame {C S : Type 0} {G : Ghosts C} (meant : JThread C → ThreadState S) (old new : WordRun C G) : Type 0 where

@@ -1,7 +1,7 @@
 //! How threads ended, and how a run ends in which none can go on.
 
 ghost use Rattle.std.specs.Prelude.{◌≡◌, ℕ, true, false, Some, [], IfOk};
-ghost use Rattle.schedules.specs.Run.{Run, due_of, EndsBy};
+ghost use Rattle.schedules.specs.Run.{Run, due_of, EndsOfItself, EndsBy};
 ghost use Rattle.core_runs.specs.Cores.{Core};
 ghost use Rattle.rollback_core.specs.Thread.{thread_of};
 ghost use Rattle.word_runs.specs.WordTurns.{Progress, EndedBy, is_live, word_turns};
@@ -30,7 +30,7 @@ fn end_of<C: ThreadCode + Drop>(machine: &WordMachine<C>, number: u8) -> Option<
 }
 
 /// How the threads ended that have ended, by rising number.
-pub(crate) fn ends_of<C: ThreadCode + Drop>(
+pub fn ends_of<C: ThreadCode + Drop>(
     alloc: Global,
     machine: &WordMachine<C>,
 ) -> Result<Rows<ThreadEnd>, NoMemory>
@@ -83,9 +83,11 @@ fn has_died<C: ThreadCode + Drop>(machine: &WordMachine<C>) -> bool
 }
 
 /// How a run ends that has come this far, with its order through and no thread that can go on.
-pub(crate) fn how_it_ends<C: ThreadCode + Drop>(machine: &WordMachine<C>) -> How
+pub fn how_it_ends<C: ThreadCode + Drop>(machine: &WordMachine<C>) -> How
     requires { (t : ℕ) → CanGoOn C.code (thread_of C.state C.saved) machine.now.words machine.now.seats.places.items t → ⊥ }
-    ensures { (run : Run (Progress C.State)) → IsCoreOf (thread_of C.state C.saved) machine.now.words machine.now.seats.places.items run.state.core → run.state.keeps ≡ false
+    ensures itself { (run : Run (Progress C.State)) → IsCoreOf (thread_of C.state C.saved) machine.now.words machine.now.seats.places.items run.state.core
+        → (due_of (word_turns C.code machine.now.bounds) run).order ≡ [] → EndsOfItself (word_turns C.code machine.now.bounds) run result }
+    ensures ends { (run : Run (Progress C.State)) → IsCoreOf (thread_of C.state C.saved) machine.now.words machine.now.seats.places.items run.state.core → run.state.keeps ≡ false
         → (due_of (word_turns C.code machine.now.bounds) run).order ≡ [] → EndsBy (word_turns C.code machine.now.bounds) run result }
 {
     if has_live(machine) {

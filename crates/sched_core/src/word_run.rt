@@ -9,8 +9,9 @@ use word_machine::WordMachine;
 pub(crate) struct WordRun<'a, C: ThreadCode> {
     pub(crate) machine: WordMachine<C>,
     pub(crate) rest: Remaining<'a>,
-    // room to list the threads that can go on
+    // the threads that can go on, by rising number, where they are listed
     pub(crate) enabled: Vec<u8>,
+    pub(crate) is_listed: bool,
     // how many sections were opened, and how often a thread undid levels
     pub(crate) opened: u64,
     pub(crate) undone: u64,

@@ -19,11 +19,12 @@ use Rattle.thread_automaton.specs.ThreadState.{ThreadState, first_state}
 use Rattle.thread_automaton.specs.NextMove.{next_move}
 use Rattle.thread_automaton.specs.Told.{after_answer, after_quiet}
 use Rattle.core_runs.specs.WordRuns.{RunEntry, words_by, part_of}
-use Rattle.core_runs.specs.OwnParts.{IsCoreRun, is_beside, Quietly, MakesOwn, OwnTo, IsOwnPart, Birth, births_after, births, StepOnceBegun}
+use Rattle.core_runs.specs.declared.Birth.{Birth}
+use Rattle.core_runs.specs.OwnParts.{IsCoreRun, is_beside, Quietly, MakesOwn, OwnTo, IsOwnPart, births_after, births, StepOnceBegun}
 use Rattle.core_runs.specs.Cores.{Core, threads_by, core_after}
 use Rattle.core_runs.specs.Acts.{Act, quiet, did, beside, ActAt, ActFrom}
 use Rattle.section_laws.specs.Runs.{BeginsAt, IsRun, IsBeginning}
-use Rattle.section_laws.specs.InRuns.{StandsBehind, first_core, with_entry, with_entries, IsPlaceIn, ActsOf, BeginsSo, BeginAsHandedOut, RunsHaveActs}
+use Rattle.section_laws.specs.InRuns.{StandsBehind, first_core, with_entry, with_entries, IsPlaceIn, ActsOf, ActsTo, BeginsSo, BeginAsHandedOut, RunsHaveActs, RunsReachStates}
 use Rattle.section_laws.proofs.ClaimLemmas.{none_some}
 use Rattle.section_laws.proofs.FactLemmas.{Threads, each}
 use Rattle.section_laws.proofs.CoreRunLemmas.{in_front, behind_front, none_there, begun_later, equal, differ, sub_run}
@@ -600,11 +601,18 @@ module _ {S : Type 0} (code : Code S) (b : Bounds) where
             | inr at ↦ later at
           ]
 
+      acts_to : (run : List RunEntry) → IsOne run → BeginAsHandedOut code b first main run → (ys : ℕ → ThreadState S) → Owns run ys → ActsTo code b first main w objects run ys
+      acts_to run so begins ys owns =
+          let r = reached run so begins ys owns in
+          record { all = record { cores = r.path.cores; acts = r.path.acts; is_run = r.path.is_run; starts = r.path.starts; steps = r.path.steps; places = r.path.places }; last = r.threads }
+
       acts_of : (run : List RunEntry) → IsOne run → BeginAsHandedOut code b first main run → ActsOf code b first main w objects run
       acts_of run so begins =
           let single = (numbers_at code b first main w none fresh low run so).single in
-          let r = reached run so begins (chosen run (births main run) so.own) (chosen_own run (births main run) so.own single) in
-          record { cores = r.path.cores; acts = r.path.acts; is_run = r.path.is_run; starts = r.path.starts; steps = r.path.steps; places = r.path.places }
+          (acts_to run so begins (chosen run (births main run) so.own) (chosen_own run (births main run) so.own single)).all
 
 pub runs_have_acts : {S : Type 0} (code : Code S) → RunsHaveActs code
 runs_have_acts code b first main w run so low begins objects = acts_of code b first main w objects so.sections so.threads low run so.is_run begins
+
+pub runs_reach_states : {S : Type 0} (code : Code S) → RunsReachStates code
+runs_reach_states code b first main w run so low begins objects ys owns = acts_to code b first main w objects so.sections so.threads low run so.is_run begins ys owns

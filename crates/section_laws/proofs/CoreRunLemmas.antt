@@ -18,8 +18,10 @@ use Rattle.thread_automaton.specs.Told.{after_answer}
 use Rattle.automaton_rows.specs.Fits.{IsFit}
 use Rattle.automaton_rows.proofs.RowLemmas.{words_can_answer}
 use Rattle.automaton_rows.proofs.FitLemmas.{answers_keep}
-use Rattle.core_runs.specs.WordRuns.{StepMade, RunEntry, words_by, part_of}
-use Rattle.core_runs.specs.OwnParts.{is_beside, Quietly, MakesOwn, OwnTo, IsOwnPart, Birth, births_after, births, IsCoreRun}
+use Rattle.core_runs.specs.declared.StepMade.{StepMade}
+use Rattle.core_runs.specs.WordRuns.{RunEntry, words_by, part_of}
+use Rattle.core_runs.specs.declared.Birth.{Birth}
+use Rattle.core_runs.specs.OwnParts.{is_beside, Quietly, MakesOwn, OwnTo, IsOwnPart, births_after, births, IsCoreRun}
 use Rattle.section_laws.specs.Runs.{BeginsAt, RunsBeginWithRuns}
 use Rattle.section_laws.proofs.DeedLemmas.{view, calm, Deed, deed_of}
 use Rattle.section_laws.proofs.ClaimLemmas.{section_changes}

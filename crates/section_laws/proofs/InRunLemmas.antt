@@ -14,7 +14,8 @@ use Rattle.thread_automaton.specs.ThreadState.{ThreadState}
 use Rattle.thread_automaton.specs.NextMove.{next_move}
 use Rattle.thread_automaton.specs.Told.{after_answer}
 use Rattle.core_runs.specs.WordRuns.{RunEntry, words_by}
-use Rattle.core_runs.specs.OwnParts.{Birth, IsCoreRun}
+use Rattle.core_runs.specs.declared.Birth.{Birth}
+use Rattle.core_runs.specs.OwnParts.{IsCoreRun}
 use Rattle.section_laws.specs.Runs.{BeginsAt, IsPinnedOrRevoked}
 use Rattle.section_laws.specs.InRuns.{StandsBehind, IsMaker, SectionsOpenOnceInRuns, SectionsAreApartInRuns, OthersSectionsStayInRuns}
 use Rattle.section_laws.proofs.WordLemmas.{state_of_zero, put_section, state_packed}

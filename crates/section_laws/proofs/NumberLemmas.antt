@@ -35,7 +35,8 @@ use Rattle.automaton_rows.specs.Fits.{AttemptFits}
 use Rattle.automaton_rows.specs.Rows.{Row, is_lost, own_stands, handed_out, pins, restores, sets_monitor_back, gives_monitor_back, is_undone, level_opened, levels_closed, section_left, exits_one, wait_begins, notify_begins, start_begins, thread_numbered, is_started, is_unready}
 use Rattle.automaton_rows.proofs.RowLemmas.{answers_are_rows, words_can_answer, by_if}
 use Rattle.core_runs.specs.WordRuns.{RunEntry, words_by}
-use Rattle.core_runs.specs.OwnParts.{is_beside, Quietly, MakesOwn, Birth, births_after, births}
+use Rattle.core_runs.specs.declared.Birth.{Birth}
+use Rattle.core_runs.specs.OwnParts.{is_beside, Quietly, MakesOwn, births_after, births}
 use Rattle.section_laws.specs.Runs.{BeginsAt}
 use Rattle.section_laws.proofs.WordLemmas.{stays_at}
 use Rattle.section_laws.proofs.DeedLemmas.{makes_it}

@@ -13,7 +13,8 @@ use Rattle.thread_automaton.specs.declared.Move.TheVariants.{Make}
 use Rattle.thread_automaton.specs.ThreadState.{ThreadState, first_state}
 use Rattle.thread_automaton.specs.NextMove.{next_move}
 use Rattle.core_runs.specs.WordRuns.{RunEntry, words_by, part_of}
-use Rattle.core_runs.specs.OwnParts.{Quietly, OwnTo, Birth, births}
+use Rattle.core_runs.specs.declared.Birth.{Birth}
+use Rattle.core_runs.specs.OwnParts.{Quietly, OwnTo, births}
 use Rattle.core_runs.specs.Cores.{Core}
 use Rattle.core_runs.specs.Acts.{Act, quiet, did, beside}
 use Rattle.section_laws.specs.Runs.{IsRun, IsRunFrom, IsPinnedOrRevoked}
@@ -99,6 +100,21 @@ abbrev pub RunsHaveActs : {S : Type 0} → Code S → Type 0
 RunsHaveActs {S} code = (b : Bounds) (first : Birth → ThreadState S) (main : Birth) (w : Words) (run : List RunEntry)
     → IsRunFrom code b first main w run → main.number ≤ w (Control 4) → BeginAsHandedOut code b first main run
     → (objects : ℕ → Option Object) → ActsOf code b first main w objects run
+
+-- Such acts, at whose end each thread is in the state that is given for its number.
+pub record ActsTo {S : Type 0} (code : Code S) (b : Bounds) (first : Birth → ThreadState S) (main : Birth)
+    (w : Words) (objects : ℕ → Option Object) (run : List RunEntry) (states : ℕ → ThreadState S) : Type 0 where
+  pub all : ActsOf code b first main w objects run
+  pub last : (x : Birth) → Contains (births main run) x → (all.cores (length all.acts)).threads x.number ≡ Some (states x.number)
+
+-- A run has acts that end where each thread is right after its last step. Where its last steps are beside the threads there are more
+-- such states than one, and it can be each of them.
+abbrev pub RunsReachStates : {S : Type 0} → Code S → Type 0
+RunsReachStates {S} code = (b : Bounds) (first : Birth → ThreadState S) (main : Birth) (w : Words) (run : List RunEntry)
+    → IsRunFrom code b first main w run → main.number ≤ w (Control 4) → BeginAsHandedOut code b first main run
+    → (objects : ℕ → Option Object) (states : ℕ → ThreadState S)
+    → ((x : Birth) → Contains (births main run) x → OwnTo code b (first x) (part_of x.number run) (states x.number))
+    → ActsTo code b first main w objects run states
 
 -- ---- the laws of sections
 

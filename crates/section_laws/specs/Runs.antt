@@ -13,7 +13,8 @@ use Rattle.step_port.specs.Words.{Words}
 use Rattle.thread_automaton.specs.declared.Bounds.{Bounds}
 use Rattle.thread_automaton.specs.ThreadState.{ThreadState, first_state}
 use Rattle.core_runs.specs.WordRuns.{RunEntry}
-use Rattle.core_runs.specs.OwnParts.{Birth, IsCoreRun}
+use Rattle.core_runs.specs.declared.Birth.{Birth}
+use Rattle.core_runs.specs.OwnParts.{IsCoreRun}
 use Rattle.core_runs.specs.Cores.{Core}
 use Rattle.core_runs.specs.Acts.{Act, did, ActFrom}
 

@@ -1,7 +1,7 @@
 //! Sections along runs, of every thread code.
 
 ghost use Rattle.section_laws.specs.Runs.{SectionsOpenOnce, ZeroIsNoSection, SectionsAreApart, OthersSectionsStay, RunsBeginWithRuns};
-ghost use Rattle.section_laws.specs.InRuns.{RunsHaveActs, SectionsOpenOnceInRuns, SectionsAreApartInRuns, OthersSectionsStayInRuns};
+ghost use Rattle.section_laws.specs.InRuns.{RunsHaveActs, RunsReachStates, SectionsOpenOnceInRuns, SectionsAreApartInRuns, OthersSectionsStayInRuns};
 
 use op_core::ThreadCode;
 
@@ -15,6 +15,11 @@ pub fn runs_begin_with_runs<C: ThreadCode>()
 /// the code says for the one that hands it out.
 pub fn runs_have_acts<C: ThreadCode>()
     ensures { RunsHaveActs C.code }
+{}
+
+/// It has such acts that end where each thread is right after its last step, in each state in which it can be there.
+pub fn runs_reach_states<C: ThreadCode>()
+    ensures { RunsReachStates C.code }
 {}
 
 /// No number is opened twice.

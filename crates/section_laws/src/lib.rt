@@ -8,6 +8,6 @@ mod laws;
 
 pub use laws::{
     others_sections_stay, others_sections_stay_in_runs, runs_begin_with_runs, runs_have_acts,
-    sections_are_apart, sections_are_apart_in_runs, sections_open_once, sections_open_once_in_runs,
-    zero_is_no_section,
+    runs_reach_states, sections_are_apart, sections_are_apart_in_runs, sections_open_once,
+    sections_open_once_in_runs, zero_is_no_section,
 };

@@ -11,7 +11,9 @@ use Rattle.thread_automaton.specs.declared.Bounds.{Bounds}
 use Rattle.thread_automaton.specs.ThreadState.{ThreadState}
 use Rattle.thread_automaton.specs.Told.{Told}
 use Rattle.core_runs.specs.Entries.{event_told}
+use Rattle.core_runs.specs.Cores.{Core}
 use Rattle.word_runs.specs.WordTurns.{Progress}
+use Rattle.word_runs.specs.Laws.{AreActs}
 use Rattle.turn_runs.specs.declared.looks.Looks.{Looks}
 use Rattle.turn_runs.specs.Turns.{TurnMove, made, Turns}
 use Rattle.turn_runs.specs.Looks.{move_passes}
@@ -42,3 +44,8 @@ PassedTurnsHandNoneOut {S} {P} code stepped = (b : Bounds) (looks : Looks) (th l
 abbrev pub TurnsAreGiven : {S : Type 0} → Code S → Type 0
 TurnsAreGiven {S} code = (b : Bounds) (r : Progress S) (t : ℕ) (th last : ThreadState S) (v : Words) (moves : List TurnMove)
     → r.core.threads t ≡ Some th → Turns code b IsStepOnWords th r.core.words moves last v → AreApart t moves → LeadsTo code b r t moves last v
+
+-- acts that lead from a core to where a run has come, and then turns of one thread, are acts
+abbrev pub TurnsGoOn : {S : Type 0} → Code S → Type 0
+TurnsGoOn {S} code = (b : Bounds) (core : Core S) (r : Progress S) (t : ℕ) (last : ThreadState S) (v : Words) (moves : List TurnMove)
+    → AreActs code b core r → (led : LeadsTo code b r t moves last v) → AreActs code b core led.new

@@ -1,7 +1,7 @@
 //! What turns of one thread are on the words that threads share: turns that a schedule gives, and acts. Laws alone.
 #![tactic(auto)]
 
-ghost use Rattle.turn_run_laws.specs.Laws.{TurnsJoin, PassedTurnsAreUnseen, TurnsAreOnWords, PassedTurnsHandNoneOut, TurnsAreGiven};
+ghost use Rattle.turn_run_laws.specs.Laws.{TurnsJoin, PassedTurnsAreUnseen, TurnsAreOnWords, PassedTurnsHandNoneOut, TurnsAreGiven, TurnsGoOn};
 
 use op_core::ThreadCode;
 use step_port::StepPort;
@@ -30,4 +30,9 @@ pub fn passed_turns_hand_none_out<C: ThreadCode, P: StepPort>()
 /// threads as they are. Needed: none of them hands out a thread of its number.
 pub fn turns_are_given<C: ThreadCode>()
     ensures { TurnsAreGiven C.code }
+{}
+
+/// Acts that lead from a core to where a run has come, and then turns of one thread, are acts that lead from that core.
+pub fn turns_go_on<C: ThreadCode>()
+    ensures { TurnsGoOn C.code }
 {}

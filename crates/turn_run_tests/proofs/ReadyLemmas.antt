@@ -20,7 +20,7 @@ use Rattle.turn_run_tests.specs.InRange.{is_in_range}
 use Rattle.turn_run_tests.specs.Ready.{StaysReadyOnAny}
 use Rattle.turn_run_tests.proofs.KeptLemmas.{AllHave, each_turn}
 
-in_list : (steps : List ToyStep) (k : ℕ) (step : ToyStep) → list_all is_in_range steps ≡ true → slice_get steps k ≡ Some step → is_in_range step ≡ true
+pub in_list : (steps : List ToyStep) (k : ℕ) (step : ToyStep) → list_all is_in_range steps ≡ true → slice_get steps k ≡ Some step → is_in_range step ≡ true
 in_list [] k step all is = absurd cc
 in_list (x ∷ steps) zero step all is = let same : x ≡ step = cc in ap is_in_range (sym same) ∙ (and_parts (is_in_range x) (list_all is_in_range steps) all).0
 in_list (x ∷ steps) (suc k) step all is = in_list steps k step (and_parts (is_in_range x) (list_all is_in_range steps) all).1 is
@@ -38,7 +38,7 @@ does l (Write r i v) is = ltb-true (word_place r i) (2 ^ 32) is
 does l (New c n) is = few_words n (ltb-true n (2 ^ 32) is)
 does l op is = tt
 
-asks : (l : ToyState) (p : ToyPlace) (o : Option ToyStep) → ((step : ToyStep) → o ≡ Some step → is_in_range step ≡ true) → CanBeAsked toy_code l (next_at o p)
+pub asks : (l : ToyState) (p : ToyPlace) (o : Option ToyStep) → ((step : ToyStep) → o ≡ Some step → is_in_range step ≡ true) → CanBeAsked toy_code l (next_at o p)
 asks l p None each = tt
 asks l p (Some Pass) each = tt
 asks l p (Some Call) each = tt

@@ -3,8 +3,6 @@
 
 ghost use Rattle.std.specs.Prelude.{◌<◌};
 
-use crate::run::Run;
-use crate::setting::opening;
 use fixed_objects::Opening;
 use op_core::{Limits, Line, Op, Rows};
 use ordinary_machine::Ordinary;
@@ -12,6 +10,7 @@ use schedules::{Schedule, next_number};
 use std::alloc::{AllocError, Global};
 use std::test::Fail;
 use toy_code::{Toy, ToyScript, ToyStep};
+use turns_cases::{Run, opening};
 
 const SEEDS: u64 = 300;
 

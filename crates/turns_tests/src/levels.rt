@@ -1,16 +1,15 @@
 //! Scripts with monitors inside of each other: what is undone where a level of a section alone is wanted.
 
 use crate::cases::{
-    AMPLE, ENTER, ENTER_OTHER, EXIT, EXIT_OTHER, End, FOURTH, LOCK, OTHER, PAIR_MAIN, PRINT_1,
-    READ_X, READ_Y, Row, SECOND, THIRD, WORDS, WRITER, X_11, Y_12, run_of,
+    ENTER, ENTER_OTHER, EXIT, EXIT_OTHER, FOURTH, LOCK, OTHER, PAIR_MAIN, PRINT_1, READ_X, READ_Y,
+    SECOND, THIRD, WORDS, WRITER, X_11, Y_12,
 };
-use crate::run::Run;
-use crate::setting::FIRST;
 use op_core::{How, Limit, Limits, Line, Op, Rows};
 use schedules::{OrderItem, Schedule};
 use std::alloc::{AllocError, Global};
 use std::test::Fail;
 use toy_code::{ToyScript, ToyStep};
+use turns_cases::{AMPLE, End, FIRST, Row, Run, run_of};
 
 /// A row, and what becomes of levels in it.
 #[derive(Clone, Copy)]

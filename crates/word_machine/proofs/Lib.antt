@@ -2,3 +2,6 @@ mod SeatLemmas
 mod EndLemmas
 mod TurnLemmas
 mod SilentLemmas
+mod UsualLemmas
+mod ToldLemmas
+mod ResumeLemmas

@@ -6,9 +6,13 @@
 
 mod enabled;
 mod machine;
+mod resuming;
 mod seats;
 mod silent;
 mod threads;
+mod told_turn;
 mod turning;
+mod usual;
 
 pub use machine::WordMachine;
+pub use told_turn::ToldTurn;

@@ -89,7 +89,7 @@ impl<C: ThreadCode + Drop> WordMachine<C> {
     }
 
     // Gives the thread of a number a turn, and hands nothing out.
-    fn turn_seated(&mut self, number: u8) -> Result<Option<Came<C>>, NoMemory>
+    pub(crate) fn turn_seated(&mut self, number: u8) -> Result<Option<Came<C>>, NoMemory>
         requires { (x : JThread C) → seat_in self.old.seats.places.items number ≡ Some x → CanTurnOn C.code self.old.bounds self.old.words (thread_of C.state C.saved x) }
         ensures bounds { self.new.bounds ≡ self.old.bounds }
         ensures areas { self.new.words.areas ≡ self.old.words.areas }
@@ -103,7 +103,7 @@ impl<C: ThreadCode + Drop> WordMachine<C> {
     }
 
     // Seats the thread that a turn handed out, if it did so.
-    fn seat(&mut self, turn: Turn<C, ()>)
+    pub(crate) fn seat(&mut self, turn: Turn<C, ()>)
         requires { HandsOutWithin self.old.bounds turn }
         ensures bounds { self.new.bounds ≡ self.old.bounds }
         ensures words { self.new.words ≡ self.old.words }

@@ -1,35 +1,11 @@
-use Rattle.std.proofs.Common.{refl, sym, ◌∙◌, ap, subst}
-use Rattle.plain_words.specs.Table.{words_in}
-use Rattle.plain_words.specs.Opening.{areas_of}
-use Rattle.rollback_core.specs.Thread.{thread_of}
-use Rattle.word_machine.specs.Machine.{threads_in}
+use Rattle.std.proofs.Common.{false, subst}
+use Rattle.word_runs.specs.Laws.{begun_with}
 use Rattle.opening_cores.specs.Openings.{opening_core}
-use Rattle.sched_core.specs.Outcome.{bounds_of, rest_of}
-use Rattle.sched_core.specs.ScheduledRun.{GoesOnFrom}
-use Rattle.sched_core.proofs.RunLemmas.{ok_gives, come_first, come_ready, come_further, come_to_end}
+use Rattle.sched_core.specs.Outcome.{rest_of, IsOutcomeOf}
+use Rattle.sched_core.proofs.RunLemmas.{ok_gives}
 use Rattle.sched_core.proofs.schedule_run.run_schedule.Goals as goal
 
-pub loop-turn-init : goal.loop-turn-init
-loop-turn-init g c = come_first g.C.ThreadCode.code g.C.ThreadCode.state g.C.ThreadCode.saved (bounds_of c.args.opening.now c.args.limits.now) (areas_of c.args.opening.now c.args.limits.now)
-    (opening_core c.args.opening.now (g.C.ThreadCode.state c.args.code)) (rest_of c.args.schedule.now) c.new-run.result c.first-main.result (g.C.ThreadCode.state c.args.code)
-    (ap (λ m. m.bounds) c.new-run.ensures.machine ∙ c.in_ok-machine.ensures.bounds ∙ c.first-main.ensures.bounds)
-    (ap (λ m. m.words.areas) c.new-run.ensures.machine ∙ ap (λ w. w.areas) c.in_ok-machine.ensures.words ∙ c.in_ok-words.ensures.areas)
-    (sym (ap (λ m. words_in m.words) c.new-run.ensures.machine ∙ ap words_in c.in_ok-machine.ensures.words ∙ c.in_ok-words.ensures.words))
-    (ap (λ m. threads_in (thread_of g.C.ThreadCode.state g.C.ThreadCode.saved) m.seats.places.items) c.new-run.ensures.machine ∙ c.in_ok-machine.ensures.threads)
-    c.first-main.ensures.thread refl (sym c.new-run.ensures.rest) c.new-run.ensures.opened c.new-run.ensures.undone
-
-pub go_on-requires : goal.go_on-requires
-go_on-requires g c = come_ready g.C.ThreadCode.code g.C.ThreadCode.state g.C.ThreadCode.saved (bounds_of c.args.opening.now c.args.limits.now) (areas_of c.args.opening.now c.args.limits.now)
-    (opening_core c.args.opening.now (g.C.ThreadCode.state c.args.code)) (rest_of c.args.schedule.now) c.loop-turn.run c.requires.well c.loop-turn.invariant
-
-pub returns-in-Some : goal.returns-in-Some
-returns-in-Some g c = ok_gives c.outcome_of.result
-    (λ outcome says. come_to_end g.C.ThreadCode.code g.C.ThreadCode.state g.C.ThreadCode.saved (bounds_of c.args.opening.now c.args.limits.now) (areas_of c.args.opening.now c.args.limits.now)
-    (opening_core c.args.opening.now (g.C.ThreadCode.state c.args.code)) (rest_of c.args.schedule.now) c.loop-turn.run c.go_on.new.self c.in-Some.how c.args.schedule.now outcome refl c.requires.well c.loop-turn.invariant
-    (subst (λ how. GoesOnFrom g.C.ThreadCode.code (thread_of g.C.ThreadCode.state g.C.ThreadCode.saved) c.loop-turn.run.machine.bounds c.loop-turn.run how c.go_on.new.self) c.in-Some.is c.in_ok-how.ensures.goes) says)
-    c.outcome_of.ensures
-
-pub loop-turn-preserved : goal.loop-turn-preserved
-loop-turn-preserved g c = come_further g.C.ThreadCode.code g.C.ThreadCode.state g.C.ThreadCode.saved (bounds_of c.args.opening.now c.args.limits.now) (areas_of c.args.opening.now c.args.limits.now)
-    (opening_core c.args.opening.now (g.C.ThreadCode.state c.args.code)) (rest_of c.args.schedule.now) c.loop-turn.run c.go_on.new.self c.loop-turn.invariant c.go_on.ensures.bounds c.go_on.ensures.areas
-    (subst (λ how. GoesOnFrom g.C.ThreadCode.code (thread_of g.C.ThreadCode.state g.C.ThreadCode.saved) c.loop-turn.run.machine.bounds c.loop-turn.run how c.go_on.new.self) c.in_default.is c.in_ok-how.ensures.goes)
+pub returns : goal.returns
+returns g c = ok_gives c.run_to_end.result
+    (λ outcome says. subst (λ k. IsOutcomeOf g.C.ThreadCode.code k (begun_with (opening_core c.args.opening.now (g.C.ThreadCode.state c.args.code)) (rest_of c.args.schedule.now) false) outcome)
+    c.in_ok-run.ensures.bounds (says (begun_with (opening_core c.args.opening.now (g.C.ThreadCode.state c.args.code)) (rest_of c.args.schedule.now) false) c.in_ok-run.ensures.way)) c.run_to_end.ensures

@@ -10,3 +10,8 @@ returns-clause-gives g c =
     (subst (λ m. GivesTurn g.C.ThreadCode.code (thread_of g.C.ThreadCode.state g.C.ThreadCode.saved) c.args.self.now.machine.bounds c.args.self.now.machine.words c.args.self.now.machine.seats.places.items c.args.thread c.in_ok-end.end m.words m.seats.places.items)
     (sym c.count.ensures.machine) c.in_ok-end.ensures.gives)
     c.in_ok-count.ensures.opened c.in_ok-count.ensures.undone
+
+pub returns-clause-turn : goal.returns-clause-turn
+returns-clause-turn g c =
+    subst (λ m. GivesTurn g.C.ThreadCode.code (thread_of g.C.ThreadCode.state g.C.ThreadCode.saved) c.args.self.now.machine.bounds c.args.self.now.machine.words c.args.self.now.machine.seats.places.items c.args.thread c.in_ok-end.end m.words m.seats.places.items)
+    (sym c.count.ensures.machine) c.in_ok-end.ensures.gives

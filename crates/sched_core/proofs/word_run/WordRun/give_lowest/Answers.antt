@@ -5,45 +5,56 @@ use Rattle.schedules.specs.Run.{IsPicked}
 use Rattle.rollback_core.specs.Thread.{thread_of}
 use Rattle.word_runs.specs.WordTurns.{word_turns}
 use Rattle.word_machine.specs.Machine.{threads_in}
-use Rattle.word_machine.specs.Silent.{MakesQuiet}
+use Rattle.word_machine.specs.Usual.{MakesUsual}
 use Rattle.sched_core.specs.declared.word_run.WordRun.{WordRun}
-use Rattle.sched_core.specs.ScheduledRun.{CanGoOn, GivesNext}
-use Rattle.sched_core.proofs.RunLemmas.{ok_gives, can_seat, seat_lives, still_ready, picked_goes}
-use Rattle.sched_core.proofs.StretchLemmas.{silent_same, lowest_stretch, lowest_is_picked, still_can, still_same, same_back, can_within}
+use Rattle.sched_core.specs.ScheduledRun.{CanGoOn, AreReady, GivesNext}
+use Rattle.sched_core.proofs.RunLemmas.{ok_gives, still_ready, turn_now, picked_goes}
+use Rattle.sched_core.proofs.UsualLemmas.{usual_areas, no_stretch, usual_stretch}
+use Rattle.sched_core.proofs.StretchLemmas.{lowest_is_picked, still_can, still_same, same_back, can_within}
 use Rattle.sched_core.proofs.word_run.WordRun.give_lowest.Goals as goal
 
-pub returns-then-run_silent-gt0-clause-goes : goal.returns-then-run_silent-gt0-clause-goes
-returns-then-run_silent-gt0-clause-goes g c =
-    let silent = c.run_silent.ensures in
+pub run_usual-requires : goal.run_usual-requires
+run_usual-requires g c = (still_ready g.C.ThreadCode.code g.C.ThreadCode.state g.C.ThreadCode.saved c.args.self.now c.loop-number.self c.loop-number.invariant.same c.requires.ready).ready c.loop-number.number
+
+pub returns-then-run_usual-gt0-clause-areas : goal.returns-then-run_usual-gt0-clause-areas
+returns-then-run_usual-gt0-clause-areas g c =
+    usual_areas g.C.ThreadCode.code c.loop-number.self.machine.bounds c.run_usual.result c.loop-number.self.machine.words c.run_usual.new.self.words _ _ c.run_usual.ensures.usual
+    ∙ ap (λ w. w.areas) c.loop-number.invariant.same.words
+
+pub returns-then-run_usual-gt0-clause-goes : goal.returns-then-run_usual-gt0-clause-goes
+returns-then-run_usual-gt0-clause-goes g c =
+    let usual = c.run_usual.ensures in
     let most = c.count-number-end.ensures.most in
     let test = c.loop-number-test.true in
-    lowest_stretch g.C.ThreadCode.code g.C.ThreadCode.state g.C.ThreadCode.saved c.args.self.now.machine.bounds c.loop-number.number c.run_silent.result c.args.self.now c.loop-number.self _ c.if-run_silent-gt0.true c.loop-number.invariant.same
+    usual_stretch g.C.ThreadCode.code g.C.ThreadCode.state g.C.ThreadCode.saved c.args.self.now.machine.bounds c.loop-number.number c.run_usual.result c.args.self.now c.loop-number.self _ c.if-run_usual-gt0.true c.loop-number.invariant.same
     (record {
-      made = subst (λ b. MakesQuiet g.C.ThreadCode.code b c.run_silent.result (threads_in (thread_of g.C.ThreadCode.state g.C.ThreadCode.saved) c.loop-number.self.machine.seats.places.items c.loop-number.number)
-          (threads_in (thread_of g.C.ThreadCode.state g.C.ThreadCode.saved) c.run_silent.new.self.seats.places.items c.loop-number.number)) c.loop-number.invariant.same.bounds silent.made;
-      others = silent.others;
-      words = silent.words;
+      made = subst (λ b. MakesUsual g.C.ThreadCode.code b c.run_usual.result c.loop-number.self.machine.words (threads_in (thread_of g.C.ThreadCode.state g.C.ThreadCode.saved) c.loop-number.self.machine.seats.places.items c.loop-number.number)
+          c.run_usual.new.self.words (threads_in (thread_of g.C.ThreadCode.state g.C.ThreadCode.saved) c.run_usual.new.self.seats.places.items c.loop-number.number)) c.loop-number.invariant.same.bounds usual.usual;
+      others = usual.others;
       opened = refl;
       undone = refl;
     })
-    (λ u past. c.count-number-end.ensures.above u (omega (arith, most, past))) (omega (arith, most, test)) c.loop-number.invariant.none c.requires.rest (c.loop-number.invariant.rest ∙ c.requires.rest)
+    (λ u past. c.count-number-end.ensures.above u (omega (arith, most, past))) (omega (arith, most, test)) c.loop-number.invariant.none
+    (subst (λ b. AreReady g.C.ThreadCode.code (thread_of g.C.ThreadCode.state g.C.ThreadCode.saved) b c.loop-number.self.machine.words c.loop-number.self.machine.seats.places.items) c.loop-number.invariant.same.bounds
+    (still_ready g.C.ThreadCode.code g.C.ThreadCode.state g.C.ThreadCode.saved c.args.self.now c.loop-number.self c.loop-number.invariant.same c.requires.ready))
+    c.requires.rest (c.loop-number.invariant.rest ∙ c.requires.rest)
 
 pub give_next-requires-clause-ready : goal.give_next-requires-clause-ready
 give_next-requires-clause-ready g c = λ x here.
-    let silent = c.run_silent.ensures in
-    let same = silent_same g.C.ThreadCode.code (thread_of g.C.ThreadCode.state g.C.ThreadCode.saved) c.loop-number.number c.run_silent.result c.loop-number.self c.run_silent.new.self
-    c.if-run_silent-gt0.false silent.bounds silent.words silent.made silent.others in
-    let mid : WordRun _ _ = record c.loop-number.self { machine = c.run_silent.new.self } in
+    let usual = c.run_usual.ensures in
+    let mid : WordRun _ _ = record c.loop-number.self { machine = c.run_usual.new.self } in
+    let same = no_stretch g.C.ThreadCode.code g.C.ThreadCode.state g.C.ThreadCode.saved c.loop-number.self.machine.bounds c.loop-number.number c.run_usual.result c.loop-number.self c.loop-number.self mid
+    c.if-run_usual-gt0.false (record { made = usual.usual; others = usual.others; opened = refl; undone = refl }) usual.bounds in
     let all = still_same (thread_of g.C.ThreadCode.state g.C.ThreadCode.saved) c.args.self.now c.loop-number.self mid c.loop-number.invariant.same same in
-    let seat = can_seat g.C.ThreadCode.code g.C.ThreadCode.state g.C.ThreadCode.saved mid.machine.words mid.machine.seats.places.items c.loop-number.number (sym c.is_enabled.ensures ∙ c.if-is_enabled.true) in
-    still_ready g.C.ThreadCode.code g.C.ThreadCode.state g.C.ThreadCode.saved c.args.self.now mid all c.requires.ready c.loop-number.number x here (seat_lives seat.0 x seat.1 here seat.2)
+    turn_now g.C.ThreadCode.code mid.machine.bounds mid.machine.words (thread_of g.C.ThreadCode.state g.C.ThreadCode.saved x)
+    ((still_ready g.C.ThreadCode.code g.C.ThreadCode.state g.C.ThreadCode.saved c.args.self.now mid all c.requires.ready).ready c.loop-number.number x here)
 
 pub returns-then-is_enabled-clause-goes : goal.returns-then-is_enabled-clause-goes
 returns-then-is_enabled-clause-goes g c =
-    let silent = c.run_silent.ensures in
-    let same = silent_same g.C.ThreadCode.code (thread_of g.C.ThreadCode.state g.C.ThreadCode.saved) c.loop-number.number c.run_silent.result c.loop-number.self c.run_silent.new.self
-    c.if-run_silent-gt0.false silent.bounds silent.words silent.made silent.others in
-    let mid : WordRun _ _ = record c.loop-number.self { machine = c.run_silent.new.self } in
+    let usual = c.run_usual.ensures in
+    let mid : WordRun _ _ = record c.loop-number.self { machine = c.run_usual.new.self } in
+    let same = no_stretch g.C.ThreadCode.code g.C.ThreadCode.state g.C.ThreadCode.saved c.loop-number.self.machine.bounds c.loop-number.number c.run_usual.result c.loop-number.self c.loop-number.self mid
+    c.if-run_usual-gt0.false (record { made = usual.usual; others = usual.others; opened = refl; undone = refl }) usual.bounds in
     let all = still_same (thread_of g.C.ThreadCode.state g.C.ThreadCode.saved) c.args.self.now c.loop-number.self mid c.loop-number.invariant.same same in
     let most = c.count-number-end.ensures.most in
     let can = still_can g.C.ThreadCode.code (thread_of g.C.ThreadCode.state g.C.ThreadCode.saved) c.args.self.now mid c.loop-number.number all (sym c.is_enabled.ensures ∙ c.if-is_enabled.true) in
@@ -58,10 +69,10 @@ returns-then-is_enabled-clause-goes g c =
 
 pub loop-number-preserved : goal.loop-number-preserved
 loop-number-preserved g c =
-    let silent = c.run_silent.ensures in
-    let same = silent_same g.C.ThreadCode.code (thread_of g.C.ThreadCode.state g.C.ThreadCode.saved) c.loop-number.number c.run_silent.result c.loop-number.self c.run_silent.new.self
-    c.if-run_silent-gt0.false silent.bounds silent.words silent.made silent.others in
-    let mid : WordRun _ _ = record c.loop-number.self { machine = c.run_silent.new.self } in
+    let usual = c.run_usual.ensures in
+    let mid : WordRun _ _ = record c.loop-number.self { machine = c.run_usual.new.self } in
+    let same = no_stretch g.C.ThreadCode.code g.C.ThreadCode.state g.C.ThreadCode.saved c.loop-number.self.machine.bounds c.loop-number.number c.run_usual.result c.loop-number.self c.loop-number.self mid
+    c.if-run_usual-gt0.false (record { made = usual.usual; others = usual.others; opened = refl; undone = refl }) usual.bounds in
     let all = still_same (thread_of g.C.ThreadCode.state g.C.ThreadCode.saved) c.args.self.now c.loop-number.self mid c.loop-number.invariant.same same in
     record {
       same = all;

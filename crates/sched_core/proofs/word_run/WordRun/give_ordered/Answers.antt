@@ -3,7 +3,7 @@ use Rattle.rollback_core.specs.Thread.{thread_of}
 use Rattle.word_runs.specs.WordTurns.{is_live}
 use Rattle.sched_core.specs.declared.word_run.WordRun.{WordRun}
 use Rattle.sched_core.specs.ScheduledRun.{GivesNext}
-use Rattle.sched_core.proofs.RunLemmas.{ok_gives, live_there, seat_lives, still_ready, item_goes}
+use Rattle.sched_core.proofs.RunLemmas.{ok_gives, live_there, still_ready, turn_now, item_goes}
 use Rattle.sched_core.proofs.StretchLemmas.{silent_same, item_stretch}
 use Rattle.sched_core.proofs.word_run.WordRun.give_ordered.Goals as goal
 
@@ -27,9 +27,8 @@ give_next-requires-clause-ready g c = λ x here.
     let silent = c.run_silent-made.ensures in
     let same = silent_same g.C.ThreadCode.code (thread_of g.C.ThreadCode.state g.C.ThreadCode.saved) c.args.thread c.run_silent-made.result c.args.self.now c.run_silent-made.new.self
     c.if-made-gt0.false silent.bounds silent.words silent.made silent.others in
-    let seat = live_there g.C.ThreadCode.state g.C.ThreadCode.saved _ (ap (λ f. is_live (f c.args.thread)) same.threads ∙ c.requires.lives) in
-    still_ready g.C.ThreadCode.code g.C.ThreadCode.state g.C.ThreadCode.saved c.args.self.now (record c.args.self.now { machine = c.run_silent-made.new.self }) same c.requires.ready c.args.thread x here
-    (seat_lives seat.0 x seat.1 here seat.2)
+    turn_now g.C.ThreadCode.code c.run_silent-made.new.self.bounds c.run_silent-made.new.self.words (thread_of g.C.ThreadCode.state g.C.ThreadCode.saved x)
+    ((still_ready g.C.ThreadCode.code g.C.ThreadCode.state g.C.ThreadCode.saved c.args.self.now (record c.args.self.now { machine = c.run_silent-made.new.self }) same c.requires.ready).ready c.args.thread x here)
 
 pub returns-clause-goes : goal.returns-clause-goes
 returns-clause-goes g c =

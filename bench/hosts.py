@@ -1,0 +1,64 @@
+#!/usr/bin/env python3
+"""Times `jrev run` on several host threads beside one, beside `jrev pick` and beside `java -Xint`, over the programs of bench/hosts.
+
+usage: bench/hosts.py [RUNS]     at the top of the repository, after `./jrev` has built the program; javac and java have to be
+                                 there, and the machine should have four processors and nothing else to do
+
+Each program has seven threads beside main. Each row has the medians of RUNS (3) of the seconds that a run takes, by the clock, with
+those of an empty main taken off: under `pick`, under `run` with 1, 2 and 4 workers, and under `java -Xint`. Then come the speed of 4
+workers beside 1, and the time of `run` with 1 worker beside that of `pick`. All runs have to print the same.
+"""
+import os
+import statistics
+import subprocess
+import sys
+import tempfile
+import time
+
+PROGRAM = os.path.join("crates", "jrev_main", "out", "jrev_main")
+SOURCES = os.path.join("bench", "hosts")
+EMPTY = os.path.join("bench", "java", "Empty.java")
+JAVA = ["java", "-Xint", "-XX:+UseSerialGC", "-cp"]
+WORKERS = [1, 2, 4]
+
+
+def timed(words):
+    """The seconds that words take by the clock, and what they print."""
+    begun = time.perf_counter()
+    printed = subprocess.run(words, stdout=subprocess.PIPE, check=True).stdout
+    return time.perf_counter() - begun, printed
+
+
+def median(runs, words, empty, wanted):
+    """The median of the seconds that words take without those of an empty main; they have to print what is wanted, if it is given."""
+    seconds = []
+    for _ in range(runs):
+        took, printed = timed(words)
+        if wanted is not None and printed != wanted:
+            sys.exit(f"{' '.join(words)}: other lines than java")
+        seconds.append(took - timed(empty)[0])
+    return statistics.median(seconds)
+
+
+def main():
+    runs = int(sys.argv[1]) if len(sys.argv) > 1 else 3
+    if not os.path.exists(PROGRAM):
+        sys.exit("./jrev hasn't built the program")
+    with tempfile.TemporaryDirectory() as folder:
+        sources = [os.path.join(SOURCES, it) for it in sorted(os.listdir(SOURCES))]
+        subprocess.run(["javac", "--release", "8", "-Xlint:none", "-d", folder, EMPTY] + sources, check=True)
+        titles = ["pick s"] + [f"run {it} s" for it in WORKERS] + ["java s", "4 : 1", "1 : pick"]
+        print(f"{'class':<10}" + "".join(f"{it:>10}" for it in titles), flush=True)
+        for source in sources:
+            name = os.path.splitext(os.path.basename(source))[0]
+            wanted = timed(JAVA + [folder, name])[1]
+            seconds = [median(runs, [PROGRAM, "pick", folder, name], [PROGRAM, "pick", folder, "Empty"], wanted)]
+            for workers in WORKERS:
+                option = f"--workers={workers}"
+                seconds.append(median(runs, [PROGRAM, "run", folder, name, option], [PROGRAM, "run", folder, "Empty", option], wanted))
+            seconds.append(median(runs, JAVA + [folder, name], JAVA + [folder, "Empty"], None))
+            ratios = [seconds[1] / seconds[3], seconds[1] / seconds[0]]
+            print(f"{name:<10}" + "".join(f"{it:>10.3f}" for it in seconds) + "".join(f"{it:>10.2f}" for it in ratios), flush=True)
+
+
+main()

@@ -1,0 +1,5 @@
+pub mod Families
+pub mod Becoming
+pub mod Chunking
+pub mod Working
+pub mod Handing

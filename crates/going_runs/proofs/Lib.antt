@@ -1,0 +1,5 @@
+pub mod CountLemmas
+pub mod MoveLemmas
+pub mod PlaceLemmas
+pub mod GoingLemmas
+pub mod SeatedLemmas

@@ -1,0 +1,4 @@
+mod NumberLemmas
+mod ThreadLemmas
+mod RowLemmas
+mod ListLemmas

@@ -1,0 +1,4 @@
+pub mod UsualLemmas
+pub mod LeadLemmas
+pub mod StepLemmas
+pub mod PathLemmas

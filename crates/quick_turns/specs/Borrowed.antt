@@ -1,0 +1,12 @@
+-- Where a host is.
+use Rattle.std.specs.Prelude.{◌≡◌}
+use Rattle.quick_turns.specs.Place.{HostPlace}
+use Rattle.quick_turns.specs.declared.host.TurnHost.{TurnHost}
+
+abbrev pub host_place : {C P W : Type 0} → TurnHost C P W → HostPlace P
+host_place h = record { own = h.own.now; port = h.port.now; left = h.left }
+
+-- it still borrows the same
+pub record SameBorrows {C P W : Type 0} (h k : TurnHost C P W) : Type 0 where
+  pub own : k.own.ghost_name ≡ h.own.ghost_name
+  pub port : k.port.ghost_name ≡ h.port.ghost_name

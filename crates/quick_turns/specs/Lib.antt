@@ -1,0 +1,4 @@
+pub mod Usual
+pub mod Place
+pub mod Paths
+pub mod Borrowed

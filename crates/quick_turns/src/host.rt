@@ -1,0 +1,56 @@
+//! A thread on shared words as a host of its own code.
+
+use crate::WordSight;
+use crate::own::count_silent;
+use op_core::{Op, OpHost, Reply, ThreadCode};
+use rollback_core::Own;
+use std::marker::PhantomData;
+use step_port::StepPort;
+
+/// A thread as the host of its code: it answers an operation at once where the words that it finds are usual.
+#[derive(Drop)]
+pub(crate) struct TurnHost<'a, C, P, W> {
+    pub own: &'a mut Own,
+    pub port: &'a mut P,
+    pub sight: &'a W,
+    /// How many turns it may still have.
+    pub left: u64,
+    pub code: PhantomData<C>,
+}
+
+impl<'a, C: ThreadCode, P: StepPort, W: WordSight<P>> OpHost for TurnHost<'a, C, P, W> {
+    ghost use Rattle.quick_turns.specs.Place.{silent_room, HostPasses, HostAnswers, HostDeclines, HostMayAsk};
+    ghost use Rattle.quick_turns.specs.Borrowed.{host_place, SameBorrows};
+
+    ghost room = { λ h. silent_room (host_place h) };
+
+    ghost may = { λ h op. HostMayAsk C.code P.allows P.stepped (host_place h) op };
+
+    ghost passes = { λ h n k. SameBorrows h k × HostPasses (host_place h) n (host_place k) };
+
+    ghost answers = { λ h op reply k. SameBorrows h k × HostAnswers C.code P.stepped W.words (host_place h) op reply (host_place k) };
+
+    ghost declines = { λ h op k. SameBorrows h k × HostDeclines (host_place h) (host_place k) };
+
+    fn room(&self) -> u64 {
+        let turns = self.own.bounds.limits.turns;
+        self.left.min(turns.saturating_sub(self.own.counted))
+    }
+
+    fn pass(&mut self, made: u64) {
+        self.left -= made;
+        if made > 0 {
+            count_silent(&mut *self.own, made);
+        }
+    }
+
+    fn ask(&mut self, op: Op) -> Option<Reply> {
+        match op {
+            Op::Read(object, place) => self.read(object, place),
+            Op::Write(object, place, value) => self.write(object, place, value),
+            Op::ClassOf(object) => self.class_of(object),
+            Op::Init(class) => self.init(class),
+            _ => None,
+        }
+    }
+}

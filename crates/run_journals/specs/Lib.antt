@@ -1,0 +1,3 @@
+pub mod Journal
+pub mod RunCalls
+pub mod Laws

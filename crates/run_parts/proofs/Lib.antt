@@ -1,0 +1,2 @@
+pub mod NextStepLemmas
+pub mod NumberLemmas

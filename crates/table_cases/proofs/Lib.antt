@@ -1,0 +1,3 @@
+pub mod PremiseLemmas
+pub mod ProgramLemmas
+pub mod SliceLemmas

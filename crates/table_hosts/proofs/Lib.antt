@@ -1,0 +1,10 @@
+pub mod Families
+pub mod ThreadSteps
+pub mod Turns
+pub mod Standing
+pub mod Begetting
+pub mod Taking
+pub mod HostSteps
+pub mod Tallying
+pub mod SliceSteps
+pub mod SilentTurns

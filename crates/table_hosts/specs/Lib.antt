@@ -1,0 +1,7 @@
+pub mod Standing
+pub mod Families
+pub mod Seated
+pub mod Slices
+pub mod Turns
+pub mod Tallies
+pub mod HostSteps

@@ -1,0 +1,9 @@
+pub mod Sums
+pub mod Births
+pub mod Blocks
+pub mod Growing
+pub mod Keeps
+pub mod Allows
+pub mod Tells
+pub mod Splits
+pub mod Wholes

@@ -1,0 +1,3 @@
+mod EndLemmas
+pub mod StepLemmas
+pub mod SizeLemmas

@@ -1,0 +1,9 @@
+mod CallLemmas
+mod CoreLemmas
+mod ItemLemmas
+mod PlaceLemmas
+mod NextLemmas
+mod EndLemmas
+mod RunLemmas
+mod JournalLemmas
+mod FitLemmas
