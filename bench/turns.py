@@ -18,7 +18,7 @@ import tempfile
 import program
 
 STANDS_ON = ["anyhow", "op_core", "fixed_objects", "section_state", "write_log", "heap_words", "monitor_core", "step_port",
-             "plain_words", "thread_automaton", "automaton_rows", "rollback_core", "toy_code"]
+             "plain_words", "thread_automaton", "automaton_rows", "thread_moves", "rollback_core", "toy_code"]
 MODES = ["silent", "writes", "monitors"]
 STEPS = 1000000
 LENGTHS = [10, 100, 1000, 10000, 100000, 1000000]

@@ -21,7 +21,7 @@ use Rattle.thread_automaton.specs.ThreadState.{ThreadState}
 use Rattle.core_runs.specs.Cores.{Core}
 use Rattle.core_runs.specs.Acts.{Act}
 use Rattle.opening_cores.specs.Openings.{opening_core}
-use Rattle.rollback_core.specs.Thread.{CanBeAsked}
+use Rattle.thread_moves.specs.Thread.{CanBeAsked}
 use Rattle.word_runs.specs.WordTurns.{Progress, word_turns}
 use Rattle.word_runs.specs.Laws.{begun_with}
 use Rattle.quick_turn_laws.specs.Laws.{IsNotWaitedFor}

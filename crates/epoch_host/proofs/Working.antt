@@ -6,7 +6,7 @@ use Rattle.std.proofs.lemmas.List.Elements.{Contains-append_left, Contains-appen
 use Rattle.op_core.specs.declared.Limit.{Limit}
 use Rattle.op_core.specs.declared.NoMemory.{NoMemory}
 use Rattle.op_core.specs.ThreadCode.{Code}
-use Rattle.rollback_core.specs.Thread.{thread_of}
+use Rattle.thread_moves.specs.Thread.{thread_of}
 use Rattle.table_words.specs.declared.table.TableWords.{TableWords}
 use Rattle.table_words.specs.Tables.{setup_in}
 use Rattle.table_hosts.specs.declared.seated.SeatedThread.{SeatedThread}

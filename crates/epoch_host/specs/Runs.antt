@@ -3,7 +3,7 @@ use Rattle.std.specs.Prelude.{◌≡◌, ◌⊎◌, true, Option, None, Some, Li
 use Rattle.std.specs.List.{All}
 use Rattle.op_core.specs.declared.How.{How}
 use Rattle.op_core.specs.ThreadCode.{Code}
-use Rattle.rollback_core.specs.Thread.{thread_of}
+use Rattle.thread_moves.specs.Thread.{thread_of}
 use Rattle.table_words.specs.declared.setup.Setup.{Setup}
 use Rattle.table_words.specs.declared.table.TableWords.{TableWords}
 use Rattle.table_words.specs.Ends.{HaveAllThreads}

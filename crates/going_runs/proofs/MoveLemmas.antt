@@ -10,8 +10,8 @@ use Rattle.thread_automaton.specs.Told.{after_quiet}
 use Rattle.core_runs.specs.OwnParts.{Quietly}
 use Rattle.core_runs.specs.Cores.{Core}
 use Rattle.core_runs.specs.Acts.{Act, quiet}
-use Rattle.rollback_core.specs.Thread.{thread_of}
-use Rattle.rollback_core.specs.declared.thread.JThread.{JThread}
+use Rattle.thread_moves.specs.Thread.{thread_of}
+use Rattle.thread_moves.specs.declared.thread.JThread.{JThread}
 use Rattle.turn_runs.specs.Turns.{silent}
 use Rattle.turn_run_laws.specs.GivenTurns.{LeadsTo}
 use Rattle.turn_run_laws.proofs.GivenLemmas.{turns_given}

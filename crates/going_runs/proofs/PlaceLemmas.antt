@@ -25,8 +25,8 @@ use Rattle.section_laws.proofs.ActLemmas.{take_whole, runs_reach_states}
 use Rattle.section_laws.proofs.CoreRunLemmas.{begin_with_runs}
 use Rattle.run_threads.specs.Numbers.{AreNumbered}
 use Rattle.run_threads.proofs.NumberLemmas.{threads_are_numbered}
-use Rattle.rollback_core.specs.Thread.{thread_of}
-use Rattle.rollback_core.specs.declared.thread.JThread.{JThread}
+use Rattle.thread_moves.specs.Thread.{thread_of}
+use Rattle.thread_moves.specs.declared.thread.JThread.{JThread}
 use Rattle.opening_cores.specs.Openings.{opening_core}
 use Rattle.table_words.specs.declared.setup.Setup.{Setup}
 use Rattle.table_words.specs.declared.setup.ThreadPart.{ThreadPart}

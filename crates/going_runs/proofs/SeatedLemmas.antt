@@ -2,7 +2,7 @@
 use Rattle.std.proofs.Common.{◌≡◌, List, [], ◌∷◌, ◌++◌, map, sym, ap, subst}
 use Rattle.std.proofs.lemmas.List.Elements.{All-nil, All-cons, All-head, All-tail}
 use Rattle.op_core.specs.ThreadCode.{Code}
-use Rattle.rollback_core.specs.declared.thread.JThread.{JThread}
+use Rattle.thread_moves.specs.declared.thread.JThread.{JThread}
 use Rattle.table_words.specs.Setups.{setup_bounds}
 use Rattle.table_words.specs.Tables.{setup_in}
 use Rattle.table_hosts.specs.declared.seated.SeatedThread.{SeatedThread}

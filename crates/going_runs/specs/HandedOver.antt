@@ -6,8 +6,8 @@ use Rattle.op_core.specs.declared.How.TheVariants as how
 use Rattle.op_core.specs.ThreadCode.{Code}
 use Rattle.plain_words.specs.declared.plain.PlainWords.{PlainWords}
 use Rattle.plain_words.specs.Table.{words_in}
-use Rattle.rollback_core.specs.Thread.{thread_of}
-use Rattle.rollback_core.specs.declared.thread.JThread.{JThread}
+use Rattle.thread_moves.specs.Thread.{thread_of}
+use Rattle.thread_moves.specs.declared.thread.JThread.{JThread}
 use Rattle.going_threads.specs.declared.going.Going.{Going}
 use Rattle.opening_cores.specs.Openings.{opening_core}
 use Rattle.table_words.specs.declared.setup.Setup.{Setup}

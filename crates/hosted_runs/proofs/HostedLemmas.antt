@@ -9,7 +9,7 @@ use Rattle.heap_words.specs.declared.areas.Areas.{Areas}
 use Rattle.plain_words.specs.declared.plain.PlainWords.{PlainWords}
 use Rattle.plain_words.specs.Opening.{areas_of}
 use Rattle.plain_words.specs.Table.{words_in}
-use Rattle.rollback_core.specs.Thread.{thread_of}
+use Rattle.thread_moves.specs.Thread.{thread_of}
 use Rattle.table_words.specs.declared.setup.Setup.{Setup}
 use Rattle.table_words.specs.Setups.{setup, setup_areas}
 use Rattle.table_words.specs.Tables.{setup_in, parts_of_seats}

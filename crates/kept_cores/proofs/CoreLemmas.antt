@@ -34,7 +34,7 @@ use Rattle.run_layout.proofs.RunLemmas.{laid_at}
 use Rattle.first_law.proofs.GroundedLemmas.{from_take}
 use Rattle.grounded_monitors.specs.Free.{IsFreeRun}
 use Rattle.grounded_monitors.proofs.RunLemmas.{free_runs_are_in_place, free_runs_fit_objects}
-use Rattle.rollback_core.specs.Thread.{CanBeAsked}
+use Rattle.thread_moves.specs.Thread.{CanBeAsked}
 use Rattle.kept_states.specs.Kept.{Objects, IsKeptState}
 use Rattle.kept_states.proofs.KeptLemmas.{lists_keep}
 use Rattle.kept_cores.specs.KeptCores.{CoresAreKept, CoresKeep, IsBegunRun, KeepsFitting, ObjectsEndInRange}

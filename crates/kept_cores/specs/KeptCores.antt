@@ -19,7 +19,7 @@ use Rattle.run_bits.specs.Bits.{BeginsInBits}
 use Rattle.start_words.specs.Starts.{BeginsWithStarts}
 use Rattle.run_monitors.specs.Monitors.{IsObject}
 use Rattle.grounded_monitors.specs.Free.{IsFreeRun}
-use Rattle.rollback_core.specs.Thread.{CanBeAsked}
+use Rattle.thread_moves.specs.Thread.{CanBeAsked}
 use Rattle.kept_states.specs.Kept.{Objects, Keeps, IsKeptState}
 
 -- A run that begins as it has to.

@@ -5,9 +5,9 @@ use Rattle.step_port.specs.declared.answer.StepAnswer.{StepAnswer}
 use Rattle.step_port.specs.declared.step.Step.{Step}
 use Rattle.thread_automaton.specs.declared.Bounds.{Bounds}
 use Rattle.thread_automaton.specs.ThreadState.{ThreadState}
-use Rattle.rollback_core.specs.declared.mark.SavedMark.{SavedMark}
-use Rattle.rollback_core.specs.Thread.{without_opening, CanBeAsked}
-use Rattle.rollback_core.specs.Change.{NamesThread}
+use Rattle.thread_moves.specs.declared.mark.SavedMark.{SavedMark}
+use Rattle.thread_moves.specs.Thread.{without_opening, CanBeAsked}
+use Rattle.thread_moves.specs.Change.{NamesThread}
 use Rattle.toy_code.specs.declared.script.ToyPlace.{ToyPlace}
 use Rattle.toy_code.specs.declared.script.ToyScript.{ToyScript}
 use Rattle.toy_code.specs.declared.script.ToyStep.{ToyStep}

@@ -64,7 +64,7 @@ impl<R: Abort> CheckedWords<R> {
 impl<R: Abort> StepPort for CheckedWords<R> {
     ghost use Rattle.step_port.specs.Words.{IsStepOnWords};
     ghost use Rattle.plain_words.specs.Table.{words_in};
-    ghost use Rattle.rollback_core.specs.Change.{NamesThread};
+    ghost use Rattle.thread_moves.specs.Change.{NamesThread};
 
     type Pass = ();
 

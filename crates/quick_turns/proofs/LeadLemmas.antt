@@ -12,9 +12,9 @@ use Rattle.step_port.specs.Words.{Words, IsStepOnWords}
 use Rattle.thread_automaton.specs.declared.Attempt.{Attempt}
 use Rattle.thread_automaton.specs.declared.Attempt.TheVariants.{Begin}
 use Rattle.automaton_rows.specs.Fits.{IsFit}
-use Rattle.rollback_core.specs.declared.thread.JThread.{JThread}
-use Rattle.rollback_core.specs.declared.thread.Own.{Own}
-use Rattle.rollback_core.specs.Thread.{thread_of, without_opening, AreCounted}
+use Rattle.thread_moves.specs.declared.thread.JThread.{JThread}
+use Rattle.thread_moves.specs.declared.thread.Own.{Own}
+use Rattle.thread_moves.specs.Thread.{thread_of, without_opening, AreCounted}
 use Rattle.turn_runs.specs.Turns.{StaysReady}
 use Rattle.quick_turns.specs.declared.host.TurnHost.{TurnHost}
 use Rattle.quick_turns.specs.Usual.{UsualTurns}

@@ -27,8 +27,8 @@ use Rattle.thread_automaton.specs.NextMove.{word_place, first_step, move_of}
 use Rattle.thread_automaton.specs.Changes as changes
 use Rattle.thread_automaton.specs.Checks.{tag_seen}
 use Rattle.word_runs.specs.Enabled.{has_to_wait_for}
-use Rattle.rollback_core.specs.declared.thread.Own.{Own}
-use Rattle.rollback_core.specs.Thread.{CanBeAsked}
+use Rattle.thread_moves.specs.declared.thread.Own.{Own}
+use Rattle.thread_moves.specs.Thread.{CanBeAsked}
 use Rattle.turn_runs.specs.Turns.{StaysReady}
 use Rattle.quick_turns.specs.Usual.{is_awaited_by_none, UsualTurns}
 use Rattle.quick_turns.specs.Place.{thread_at, HostPlace, IsBetween, HostKeeps, HostLeads, HostLeadsAmid, HostAnswers, HostDeclines, HostMayAsk}

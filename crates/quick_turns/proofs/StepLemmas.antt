@@ -35,7 +35,7 @@ use Rattle.thread_automaton.specs.Checks.{is_safe, meets_writer, written_word, w
 use Rattle.thread_automaton.specs.Answers.{class_loaded, change_of}
 use Rattle.thread_automaton.specs.Told.{Told, probed, advanced, shown, told_of, told, counted_for, after_answer}
 use Rattle.word_runs.specs.Enabled.{is_being_undone, is_of_another, has_to_wait_for}
-use Rattle.rollback_core.specs.declared.thread.Own.{Own}
+use Rattle.thread_moves.specs.declared.thread.Own.{Own}
 use Rattle.quick_turns.specs.Usual.{goes_through, is_awaited_by_none, is_usual_step, UsualTurns}
 use Rattle.quick_turns.specs.Place.{thread_at, HostPlace, HostKeeps, HostLeads}
 use Rattle.quick_turns.specs.Paths.{is_safe_for, written_by, has_unseen_level, IsAsSeen, IsOfWord, IsInitialized, looked, probed_at, own_knowing, own_counted, HasWritten}

@@ -22,8 +22,8 @@ use Rattle.thread_automaton.specs.Told.{Told, told, after_answer, after_quiet}
 use Rattle.automaton_rows.specs.Fits.{IsFit}
 use Rattle.automaton_rows.proofs.FitLemmas.{answers_keep}
 use Rattle.word_runs.specs.Enabled.{has_to_wait_for, has_to_undo, is_enabled}
-use Rattle.rollback_core.specs.declared.thread.Own.{Own}
-use Rattle.rollback_core.specs.Thread.{AreCounted}
+use Rattle.thread_moves.specs.declared.thread.Own.{Own}
+use Rattle.thread_moves.specs.Thread.{AreCounted}
 use Rattle.rollback_core.proofs.CountLemmas.{answers_within, quiet_within}
 use Rattle.rollback_core.proofs.QuietLemmas.{silent_by}
 use Rattle.rollback_core.proofs.TurnLemmas.{silent_steps_keep}

@@ -19,7 +19,7 @@ use Rattle.thread_automaton.specs.ThreadState.{ThreadState}
 use Rattle.thread_automaton.specs.NextMove.{word_place}
 use Rattle.thread_automaton.specs.Changes.{knows}
 use Rattle.thread_automaton.specs.Checks.{is_safe, written_word, tag_seen}
-use Rattle.rollback_core.specs.declared.thread.Own.{Own}
+use Rattle.thread_moves.specs.declared.thread.Own.{Own}
 use Rattle.quick_turns.specs.Place.{thread_at, HostPlace, HostLeadsAmid}
 
 -- the thread of which this is kept, whatever its code

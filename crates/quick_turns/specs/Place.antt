@@ -10,8 +10,8 @@ use Rattle.step_port.specs.Words.{Words}
 use Rattle.thread_automaton.specs.declared.Attempt.{Attempt}
 use Rattle.thread_automaton.specs.declared.Attempt.TheVariants.{Begin}
 use Rattle.thread_automaton.specs.ThreadState.{ThreadState}
-use Rattle.rollback_core.specs.declared.thread.Own.{Own}
-use Rattle.rollback_core.specs.Thread.{mark_meant, printed}
+use Rattle.thread_moves.specs.declared.thread.Own.{Own}
+use Rattle.thread_moves.specs.Thread.{mark_meant, printed}
 use Rattle.turn_runs.specs.Turns.{StaysReady}
 use Rattle.quick_turns.specs.Usual.{UsualTurns}
 

@@ -3,9 +3,9 @@
 use crate::WordSight;
 use crate::own::count_silent;
 use op_core::{Op, OpHost, Reply, ThreadCode};
-use rollback_core::Own;
 use std::marker::PhantomData;
 use step_port::StepPort;
+use thread_moves::Own;
 
 /// A thread as the host of its code: it answers an operation at once where the words that it finds are usual.
 #[derive(Drop)]

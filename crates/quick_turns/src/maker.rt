@@ -2,15 +2,16 @@
 
 ghost use Rattle.std.specs.Prelude.{◌≡◌, ◌+◌, ◌≤◌, ◌^◌, None};
 ghost use Rattle.automaton_rows.specs.Fits.{IsFit};
-ghost use Rattle.rollback_core.specs.Thread.{thread_of, AreCounted};
+ghost use Rattle.thread_moves.specs.Thread.{thread_of, AreCounted};
 
 use crate::WordSight;
 use crate::host::TurnHost;
 use op_core::ThreadCode;
-use rollback_core::{JThread, TurnMaker};
+use rollback_core::TurnMaker;
 use std::marker::PhantomData;
 use step_port::StepPort;
 use thread_automaton::Attempt;
+use thread_moves::JThread;
 
 /// What gives a thread usual turns on the words of a port.
 #[derive(Drop)]
@@ -23,7 +24,7 @@ pub(crate) struct UsualMaker<'a, P, W> {
 
 impl<'a, C: ThreadCode, P: StepPort, W: WordSight<P>> TurnMaker<C> for UsualMaker<'a, P, W> {
     ghost use Rattle.std.specs.Prelude.{◌≡◌, ℕ, ◌+◌};
-    ghost use Rattle.rollback_core.specs.Thread.{thread_of};
+    ghost use Rattle.thread_moves.specs.Thread.{thread_of};
     ghost use Rattle.turn_runs.specs.Turns.{StaysReady};
     ghost use Rattle.quick_turns.specs.Usual.{UsualTurns};
 

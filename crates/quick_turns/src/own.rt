@@ -5,7 +5,7 @@ ghost use Rattle.quick_turns.specs.Place.{own_quiet};
 ghost use Rattle.quick_turns.specs.Paths.{is_safe_for, written_by, has_unseen_level, own_knowing, own_counted, HasWritten, IsInitialized};
 
 use heap_words::{ClassWord, HeapWord, Tag};
-use rollback_core::Own;
+use thread_moves::Own;
 use write_log::Noted;
 
 /// The number of the kind of a step that loads a word of an object.

@@ -19,9 +19,9 @@ use crate::own::{
 };
 use heap_words::{Header, HeapWord, Tag};
 use op_core::{Op, Reply, ThreadCode};
-use rollback_core::is_in;
 use section_state::{State, pinned_of};
 use step_port::StepPort;
+use thread_moves::is_in;
 
 /// The most turns that an answer takes.
 const LONGEST: u64 = 5;

@@ -1,7 +1,7 @@
 //! Usual turns of a thread, as many as come.
 
 ghost use Rattle.std.specs.Prelude.{◌≡◌, ◌≤◌};
-ghost use Rattle.rollback_core.specs.Thread.{thread_of};
+ghost use Rattle.thread_moves.specs.Thread.{thread_of};
 ghost use Rattle.turn_runs.specs.Turns.{StaysReady};
 ghost use Rattle.quick_turns.specs.Usual.{UsualTurns};
 

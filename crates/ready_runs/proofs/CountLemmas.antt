@@ -25,7 +25,7 @@ use Rattle.thread_automaton.specs.Changes.{Change, sees_pinned, opens_level, clo
 use Rattle.thread_automaton.specs.Answers.{ticket_drawn, thread_drawn, change_of}
 use Rattle.thread_automaton.specs.Told.{Told, advanced, born, shown, told_of, told, counted_for, after_answer}
 use Rattle.automaton_rows.proofs.RowLemmas.{by_if}
-use Rattle.rollback_core.specs.Thread.{GoesOn}
+use Rattle.thread_moves.specs.Thread.{GoesOn}
 use Rattle.ready_runs.proofs.MoveLemmas.{is_going}
 
 -- ---- what a change leaves of the count

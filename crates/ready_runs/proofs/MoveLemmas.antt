@@ -20,7 +20,7 @@ use Rattle.thread_automaton.specs.ThreadState.{ThreadState, is_open, mark_of, no
 use Rattle.thread_automaton.specs.NextMove.{own_pin, deepened_since, undo_step, first_step, silent_move, move_of, next_move}
 use Rattle.automaton_rows.proofs.RowLemmas.{by_if}
 use Rattle.section_laws.proofs.DeedLemmas.{makes_it}
-use Rattle.rollback_core.specs.Thread.{GoesOn}
+use Rattle.thread_moves.specs.Thread.{GoesOn}
 
 -- ---- moves
 

@@ -51,7 +51,7 @@ use Rattle.held_levels.proofs.StandLemmas.{threads_stand_in_order}
 use Rattle.grounded_monitors.specs.Free.{IsFreeRun}
 use Rattle.grounded_monitors.proofs.RunLemmas.{free_runs_are_in_place}
 use Rattle.quick_turn_laws.specs.Laws.{IsNotWaitedFor}
-use Rattle.rollback_core.specs.Change.{NamesThread}
+use Rattle.thread_moves.specs.Change.{NamesThread}
 use Rattle.ready_runs.specs.Ready.{HasWordsFor, IsRunInRoom, IsAllowed, CanStep, StepsAreAllowed, WritesAreApart, TablesAreReady}
 use Rattle.ready_runs.proofs.MeetLemmas.{own_low, opens_low, met_at}
 use Rattle.ready_runs.proofs.DrawLemmas.{drawn_in, drawn_low}

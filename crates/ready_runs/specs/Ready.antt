@@ -21,7 +21,7 @@ use Rattle.core_runs.specs.Acts.{Act}
 use Rattle.grounded_monitors.specs.Free.{IsFreeRun}
 use Rattle.written_words.specs.Tags.{IsWrittenRun}
 use Rattle.quick_turn_laws.specs.Laws.{IsNotWaitedFor}
-use Rattle.rollback_core.specs.Change.{NamesThread}
+use Rattle.thread_moves.specs.Change.{NamesThread}
 
 -- The table has a word for each section that can be drawn, for each class below a number, and for each place up to the end of
 -- the heap.

@@ -1,27 +1,12 @@
--- What is made ready for a step is ready for the change that comes of it, and what a lost step comes to.
-use Rattle.std.proofs.Common.{◌≡◌, ◌≢◌, ℕ, ◌<◌, refl, sym, ap, subst}
-use Rattle.op_core.specs.declared.Next.{Next}
-use Rattle.op_core.specs.ThreadCode.{Code}
-use Rattle.step_port.specs.declared.answer.StepAnswer.TheVariants.{Lost}
-use Rattle.step_port.specs.declared.step.ThreadWord.TheVariants.{Start, Ended}
+-- What is made ready for a step is ready for the change that comes of it.
+use Rattle.std.proofs.Common.{◌≡◌, ◌≢◌, ℕ, ◌<◌, refl, sym, subst}
 use Rattle.step_port.specs.declared.step.Step.{Step}
-use Rattle.step_port.specs.declared.step.Step.TheVariants.{LoadWord, LoadThread, SwapWord, OpenSection, OpenLevel, TakeMonitor, Ticket}
-use Rattle.step_port.specs.Steps.{place_of}
-use Rattle.thread_automaton.specs.declared.Bounds.{Bounds}
-use Rattle.thread_automaton.specs.ThreadState.{ThreadState}
-use Rattle.thread_automaton.specs.Answers.{lost_on, change_of}
-use Rattle.rollback_core.specs.declared.thread.JThread.{JThread}
-use Rattle.rollback_core.specs.declared.change.ThreadChange.{ThreadChange}
-use Rattle.rollback_core.specs.declared.change.ThreadChange.TheVariants.{Writes, Opens, OpensLevel, Takes, Prints}
-use Rattle.rollback_core.specs.Change.{HasRoom, OpensNone, IsMadeBy}
-use Rattle.rollback_core.specs.Told.{HasRoomFor}
-
-pub lost_change : {S : Type 0} (code : Code S) (b : Bounds) (th : ThreadState S) (next : Next) (step : Step) (v : ℕ)
-    → change_of code b th next step (Lost v) ≡ lost_on th (place_of step)
-lost_change code b th next (LoadWord at) v = refl
-lost_change code b th next (LoadThread (Start r)) v = refl
-lost_change code b th next (LoadThread (Ended n)) v = refl
-lost_change code b th next step v = refl
+use Rattle.step_port.specs.declared.step.Step.TheVariants.{SwapWord, OpenSection, OpenLevel, TakeMonitor, Ticket}
+use Rattle.thread_moves.specs.declared.thread.JThread.{JThread}
+use Rattle.thread_moves.specs.declared.change.ThreadChange.{ThreadChange}
+use Rattle.thread_moves.specs.declared.change.ThreadChange.TheVariants.{Writes, Opens, OpensLevel, Takes, Prints}
+use Rattle.thread_moves.specs.Change.{HasRoom, OpensNone, IsMadeBy}
+use Rattle.thread_moves.specs.Told.{HasRoomFor}
 
 pub opens_none : (change : ThreadChange) → ((s : ℕ) (attempt : _) → change ≢ Opens s attempt) → ((attempt : _) → change ≢ OpensLevel attempt) → OpensNone change
 opens_none (Opens s attempt) not_first not_next = absurd (not_first s attempt refl)

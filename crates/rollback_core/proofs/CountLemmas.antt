@@ -7,7 +7,7 @@ use Rattle.thread_automaton.specs.declared.Bounds.{Bounds}
 use Rattle.step_port.specs.declared.step.Step.{Step}
 use Rattle.step_port.specs.declared.answer.StepAnswer.{StepAnswer}
 use Rattle.thread_automaton.specs.Told.{Told, advanced, born, told, counted_for, after_answer, after_quiet}
-use Rattle.rollback_core.specs.Thread.{AreAtMost, AreCounted}
+use Rattle.thread_moves.specs.Thread.{AreAtMost, AreCounted}
 use Rattle.thread_automaton.specs.Changes.{Change, goes, opens, opens_level, closes_to, sees_pinned, closes, goes_back, changed, forgotten}
 
 abbrev silents_of : List Mark → List ℕ

@@ -34,11 +34,11 @@ use Rattle.automaton_rows.specs.Rows.{Row, is_lost, level_opened}
 use Rattle.automaton_rows.proofs.RowLemmas.{answers_are_rows}
 use Rattle.automaton_rows.proofs.PinLemmas.{usual, usual_can, steps_caused}
 use Rattle.automaton_rows.proofs.ReplyLemmas.{replies_fit}
-use Rattle.rollback_core.specs.declared.mark.SavedMark.{SavedMark}
-use Rattle.rollback_core.specs.declared.thread.JThread.{JThread}
-use Rattle.rollback_core.specs.Thread.{thread_of, mark_meant, without_opening, Saves, IsReady}
-use Rattle.rollback_core.specs.Change.{EntersWith}
-use Rattle.rollback_core.specs.Told.{TakesMemory}
+use Rattle.thread_moves.specs.declared.mark.SavedMark.{SavedMark}
+use Rattle.thread_moves.specs.declared.thread.JThread.{JThread}
+use Rattle.thread_moves.specs.Thread.{thread_of, mark_meant, without_opening, Saves, IsReady}
+use Rattle.thread_moves.specs.Change.{EntersWith}
+use Rattle.thread_moves.specs.Told.{TakesMemory}
 use Rattle.rollback_core.specs.Turn.{MoveTakesMemory}
 
 -- ---- silent moves
@@ -176,7 +176,7 @@ saves_of state saved code x settled fits = record {
 
 pub ready_of : {C S : Type 0} (state : C → S) (saved : C → List S) (code : Code S) (x : JThread C) → x.own.opening ≡ None → IsFit code (thread_of state saved x) → IsReady state saved x
 ready_of state saved code x settled fits = record {
-  opening = subst (λ opening. IfSome opening (Rattle.rollback_core.specs.Thread.OpensWith state saved x)) (sym settled) tt;
+  opening = subst (λ opening. IfSome opening (Rattle.thread_moves.specs.Thread.OpensWith state saved x)) (sym settled) tt;
   same = fits.kept.saves ∙ length-map (reverse x.own.marks.items) mark_meant ∙ length-reverse x.own.marks.items;
 }
 

@@ -17,8 +17,8 @@ use Rattle.thread_automaton.specs.ThreadState.{ThreadState, is_open}
 use Rattle.thread_automaton.specs.NextMove.{own_pin, move_of, next_move}
 use Rattle.thread_automaton.specs.Told.{after_quiet}
 use Rattle.automaton_rows.specs.Fits.{IsFit}
-use Rattle.rollback_core.specs.declared.thread.JThread.{JThread}
-use Rattle.rollback_core.specs.Thread.{thread_of, without_opening, AreCounted}
+use Rattle.thread_moves.specs.declared.thread.JThread.{JThread}
+use Rattle.thread_moves.specs.Thread.{thread_of, without_opening, AreCounted}
 use Rattle.rollback_core.specs.Quiet.{QuietTurns, StartsQuiet, MayBeQuiet, own_after}
 use Rattle.rollback_core.proofs.CountLemmas.{quiet_within}
 use Rattle.rollback_core.proofs.TurnLemmas.{silent_steps_keep}

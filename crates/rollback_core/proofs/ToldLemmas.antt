@@ -1,5 +1,5 @@
--- What a turn reports where a monitor was left, and that it reports a thread only where one is handed out.
-use Rattle.std.proofs.Common.{◌≡◌, ◌≢◌, ◌∙◌, ap, subst, ℕ, List, [], ◌∷◌, Option, None, Some, refl}
+-- A turn reports a thread only where one is handed out, and says what it reports.
+use Rattle.std.proofs.Common.{◌≡◌, ◌≢◌, ◌∙◌, ap, subst, ℕ, Option, None, Some, refl}
 use Rattle.op_core.specs.declared.Reply.{Reply}
 use Rattle.op_core.specs.declared.Next.{Next}
 use Rattle.op_core.specs.declared.Op.{Op}
@@ -15,21 +15,11 @@ use Rattle.step_port.specs.Steps.{effect_of}
 use Rattle.step_port.specs.Words.{CanAnswer}
 use Rattle.thread_automaton.specs.declared.Bounds.{Bounds}
 use Rattle.thread_automaton.specs.ThreadState.{ThreadState}
-use Rattle.rollback_core.specs.declared.thread.JThread.{JThread}
+use Rattle.thread_moves.specs.declared.thread.JThread.{JThread}
 use Rattle.rollback_core.specs.declared.turned.Turn.{Turn}
 use Rattle.rollback_core.specs.Turn.{Says, SaysPlainly, MadeStep}
-use Rattle.thread_automaton.specs.declared.Held.{Held}
-use Rattle.thread_automaton.specs.Monitors.{left_with}
 use Rattle.thread_automaton.specs.Changes.{Change, has_to_wait}
-use Rattle.thread_automaton.specs.Told.{Told, born, shown, told_by, told_unseen, told_of, told, after_answer}
-
-pub left_shown : (held : List Held) → shown (left_with held) ≡ Some Reply.Done
-left_shown [] = refl
-left_shown (r ∷ held) = refl
-
-pub left_unseen : (next : Next) (step : Step) (held : List Held) → told_unseen next step (left_with held) ≡ told_by step (effect_of step) next
-left_unseen next step [] = refl
-left_unseen next step (r ∷ held) = refl
+use Rattle.thread_automaton.specs.Told.{Told, born, told_by, told_unseen, told_of, told, after_answer}
 
 unborn_by : (step : Step) (effect : Effect) (next : Next) → told_by step effect next ≢ born
 unborn_by (LoadWait n) effect (Want (Op.Notify r)) is = cc

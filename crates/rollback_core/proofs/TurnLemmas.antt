@@ -16,9 +16,9 @@ use Rattle.thread_automaton.specs.NextMove.{next_move}
 use Rattle.thread_automaton.specs.Told.{after_answer, after_quiet}
 use Rattle.automaton_rows.specs.Fits.{IsFit}
 use Rattle.automaton_rows.proofs.FitLemmas.{answers_keep}
-use Rattle.rollback_core.specs.declared.thread.JThread.{JThread}
+use Rattle.thread_moves.specs.declared.thread.JThread.{JThread}
 use Rattle.rollback_core.specs.declared.turned.Turn.{Turn}
-use Rattle.rollback_core.specs.Thread.{AreCounted}
+use Rattle.thread_moves.specs.Thread.{AreCounted}
 use Rattle.rollback_core.specs.Turn.{Turned, MoveTakesMemory}
 use Rattle.rollback_core.proofs.CountLemmas.{answers_within, quiet_within}
 use Rattle.rollback_core.proofs.MoveLemmas.{undoing_takes_none}

@@ -8,7 +8,7 @@ use Rattle.thread_automaton.specs.declared.Move.TheVariants.{Quiet}
 use Rattle.thread_automaton.specs.ThreadState.{ThreadState}
 use Rattle.thread_automaton.specs.NextMove.{next_move}
 use Rattle.thread_automaton.specs.Told.{after_quiet}
-use Rattle.rollback_core.specs.declared.thread.Own.{Own}
+use Rattle.thread_moves.specs.declared.thread.Own.{Own}
 
 -- a silent step of its code comes next, and the thread makes it
 pub record IsQuietTurn {S : Type 0} (code : Code S) (b : Bounds) (th next : ThreadState S) : Type 0 where

@@ -20,10 +20,10 @@ use Rattle.thread_automaton.specs.declared.Move.TheVariants.{Over, Quiet, Stop, 
 use Rattle.thread_automaton.specs.ThreadState.{ThreadState, first_state}
 use Rattle.thread_automaton.specs.Told.{Told, probed, advanced, born, lost, blocked, told, after_answer, after_quiet}
 use Rattle.automaton_rows.specs.Fits.{IsFit}
-use Rattle.rollback_core.specs.Thread.{AreCounted}
-use Rattle.rollback_core.specs.declared.thread.JThread.{JThread}
+use Rattle.thread_moves.specs.Thread.{AreCounted}
+use Rattle.thread_moves.specs.declared.thread.JThread.{JThread}
 use Rattle.rollback_core.specs.declared.turned.Turn.{Turn}
-use Rattle.rollback_core.specs.Told.{TakesMemory}
+use Rattle.thread_moves.specs.Told.{TakesMemory}
 
 -- the class of the exception by which a thread ended that had wanted this, if it did so
 abbrev pub end_wanted : Next → Option ℕ

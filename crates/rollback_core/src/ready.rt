@@ -8,18 +8,20 @@ ghost use Rattle.thread_automaton.specs.declared.Move.{Move};
 ghost use Rattle.thread_automaton.specs.ThreadState.{first_state};
 ghost use Rattle.thread_automaton.specs.NextMove.{next_move};
 ghost use Rattle.automaton_rows.specs.Fits.{IsFit};
-ghost use Rattle.rollback_core.specs.Thread.{thread_of, CanBeAsked, AreCounted};
-ghost use Rattle.rollback_core.specs.Change.{NamesThread};
+ghost use Rattle.thread_moves.specs.Thread.{thread_of, CanBeAsked, AreCounted};
+ghost use Rattle.thread_moves.specs.Change.{NamesThread};
 ghost use Rattle.rollback_core.specs.Turn.{Turned, MoveTakesMemory, kind_made};
 ghost use Rattle.rollback_core.specs.Quiet.{QuietTurns};
 
+use crate::Turn;
+use crate::silent::run_silent;
 use crate::turning::turn_of;
-use crate::{JThread, Turn};
 use op_core::{Next, NoMemory, ThreadCode};
 use std::alloc::Global;
 use std::marker::Model;
 use step_port::StepPort;
 use thread_automaton::{Bounds, Move};
+use thread_moves::JThread;
 
 /// A thread that began by [`ReadyThread::first`] and went on by turns alone: so it is fit, its silent moves are counted, no
 /// level of it is half opened, and its heap ends below place 2^32. Contracts see the [`JThread`].
@@ -31,8 +33,8 @@ pub struct ReadyThread<C: ThreadCode> {
 impl<C: ThreadCode> Model for ReadyThread<C> {
     ghost use Rattle.std.specs.Prelude.{◌≡◌, None, ◌+◌, ◌≤◌, ◌^◌};
     ghost use Rattle.automaton_rows.specs.Fits.{IsFit};
-    ghost use Rattle.rollback_core.specs.declared.thread.JThread.{JThread};
-    ghost use Rattle.rollback_core.specs.Thread.{thread_of, AreCounted};
+    ghost use Rattle.thread_moves.specs.declared.thread.JThread.{JThread};
+    ghost use Rattle.thread_moves.specs.Thread.{thread_of, AreCounted};
 
     ghost Value = { JThread C };
 
@@ -80,7 +82,7 @@ impl<C: ThreadCode> ReadyThread<C> {
         ensures bounds { self.new.own.bounds ≡ self.old.own.bounds }
         ensures last_kind { self.new.own.last_kind ≡ (if nat_eq result 0 then self.old.own.last_kind else 0) }
     {
-        self.thread.run_silent(most)
+        run_silent(&mut self.thread, most)
     }
 
     /// Has a maker of turns go on with the thread.
@@ -95,7 +97,7 @@ impl<C: ThreadCode> ReadyThread<C> {
 
 /// What goes on with a thread that can be given turns, and leaves it so that it can be given more.
 pub trait TurnMaker<C: ThreadCode>: Sized {
-    ghost use Rattle.rollback_core.specs.declared.thread.JThread.{JThread};
+    ghost use Rattle.thread_moves.specs.declared.thread.JThread.{JThread};
 
     /// It may now go on with this thread.
     ghost may: { Self → JThread C → Type 0 };

@@ -12,15 +12,18 @@ ghost use Rattle.thread_automaton.specs.ThreadState.{ThreadState};
 ghost use Rattle.thread_automaton.specs.Told.{born};
 ghost use Rattle.thread_automaton.specs.NextMove.{next_move};
 ghost use Rattle.automaton_rows.specs.Fits.{IsFit};
-ghost use Rattle.rollback_core.specs.Thread.{thread_of, CanBeAsked, AreCounted};
-ghost use Rattle.rollback_core.specs.Change.{NamesThread};
-ghost use Rattle.rollback_core.specs.Told.{told_meant, TakesMemory};
+ghost use Rattle.thread_moves.specs.Thread.{thread_of, CanBeAsked, AreCounted};
+ghost use Rattle.thread_moves.specs.Change.{NamesThread};
+ghost use Rattle.thread_moves.specs.Told.{told_meant, TakesMemory};
 ghost use Rattle.rollback_core.specs.Turn.{end_wanted, event_of, IsChild, MadeStep, SaysPlainly, Turned, MoveTakesMemory, kind_made};
 
-use crate::{JThread, ReadyThread, StepTold, Turn};
+use crate::absorb::{absorb, prepare};
+use crate::quiet::quiet_turn;
+use crate::{ReadyThread, Turn};
 use op_core::{Event, Next, NoMemory, Op, ThreadCode};
 use step_port::{Step, StepAnswer, StepPort, make_step};
 use thread_automaton::Move;
+use thread_moves::{JThread, StepTold};
 
 // The class of the exception by which a thread ended that had wanted this, if it did so.
 fn end_wanted(next: Next) -> Option<u32>
@@ -51,19 +54,22 @@ fn said<C: ThreadCode, S>(number: u8, silents: u64, next: Next, told: StepTold) 
     }
 }
 
-impl<C: ThreadCode + Drop> JThread<C> {
-    // The thread of this number and priority that the object starts.
-    fn child(&self, number: u8, object: u32, priority: u8) -> Result<Box<ReadyThread<C>>, NoMemory>
-        requires { self.now.own.bounds.first + self.now.own.bounds.limits.heap ≤ 2 ^ 32 }
-        ensures child { IfOk result (λ child. IsChild C.code (thread_of C.state C.saved self.now) (Step.Split number object priority) (thread_of C.state C.saved child.value)) }
-        ensures bounds { IfOk result (λ child. child.value.own.bounds ≡ self.now.own.bounds) }
-    {
-        let code = self.code.child(object)?;
-        let child = ReadyThread::first(self.own.alloc, code, number, priority, self.own.bounds);
-        match Box::new(self.own.alloc, child) {
-            Ok(boxed) => Ok(boxed),
-            Err(_) => Err(NoMemory),
-        }
+// The thread of this number and priority that the object starts.
+fn child_of<C: ThreadCode + Drop>(
+    thread: &JThread<C>,
+    number: u8,
+    object: u32,
+    priority: u8,
+) -> Result<Box<ReadyThread<C>>, NoMemory>
+    requires { thread.now.own.bounds.first + thread.now.own.bounds.limits.heap ≤ 2 ^ 32 }
+    ensures child { IfOk result (λ child. IsChild C.code (thread_of C.state C.saved thread.now) (Step.Split number object priority) (thread_of C.state C.saved child.value)) }
+    ensures bounds { IfOk result (λ child. child.value.own.bounds ≡ thread.now.own.bounds) }
+{
+    let code = thread.code.child(object)?;
+    let child = ReadyThread::first(thread.own.alloc, code, number, priority, thread.own.bounds);
+    match Box::new(thread.own.alloc, child) {
+        Ok(boxed) => Ok(boxed),
+        Err(_) => Err(NoMemory),
     }
 }
 
@@ -93,11 +99,11 @@ fn step_turn<C: ThreadCode + Drop, P: StepPort>(
     ensures err_port { OnErr result (port.new ≡ port.old) }
     ensures memory { OnErr result (TakesMemory step) }
 {
-    thread.prepare(step)?;
+    prepare(thread, step)?;
     let number = thread.own.number;
     let silents = thread.own.silents;
     let answer = make_step(port, step);
-    let told = thread.absorb(next, step, answer);
+    let told = absorb(thread, next, step, answer);
     thread.own.last_kind = step.kind();
     Ok(said(number, silents, next, told))
 }
@@ -128,10 +134,10 @@ fn split_turn<C: ThreadCode + Drop, P: StepPort>(
     ensures err { OnErr result (thread_of C.state C.saved thread.new ≡ thread_of C.state C.saved thread.old) }
     ensures err_port { OnErr result (port.new ≡ port.old) }
 {
-    let child = thread.child(number, object, priority)?;
+    let child = child_of(thread, number, object, priority)?;
     let pass = port.split(number, object, priority)?;
     let step = Step::Split(number, object, priority);
-    let _told = thread.absorb(next, step, StepAnswer::Found(0));
+    let _told = absorb(thread, next, step, StepAnswer::Found(0));
     thread.own.last_kind = step.kind();
     Ok(Turn::Born(child, pass))
 }
@@ -170,7 +176,7 @@ fn make_turn<C: ThreadCode + Drop, P: StepPort>(
             thread.own.last_kind = 0;
             Ok(Turn::Spent(limit))
         }
-        Move::Quiet => thread.quiet_turn(),
+        Move::Quiet => quiet_turn(thread),
         Move::Make(step) => match step {
             Step::Split(number, object, priority) => {
                 split_turn(thread, port, next, number, object, priority)

@@ -10,7 +10,7 @@ use Rattle.heap_words.specs.declared.areas.Areas.{Areas}
 use Rattle.thread_automaton.specs.declared.Bounds.{Bounds}
 use Rattle.thread_automaton.specs.ThreadState.{ThreadState}
 use Rattle.core_runs.specs.Cores.{Core}
-use Rattle.rollback_core.specs.declared.thread.JThread.{JThread}
+use Rattle.thread_moves.specs.declared.thread.JThread.{JThread}
 use Rattle.word_runs.specs.WordTurns.{Progress, word_turns}
 use Rattle.word_runs.specs.Laws.{AreActs}
 use Rattle.word_machine.specs.Seats.{seat_in}

@@ -28,7 +28,7 @@ use Rattle.thread_automaton.specs.Changes.{Change, has_to_wait}
 use Rattle.thread_automaton.specs.Told.{Told, lost, blocked, told_by, told_unseen, told_of, told}
 use Rattle.plain_words.specs.declared.plain.PlainWords.{PlainWords}
 use Rattle.plain_words.specs.Table.{words_in}
-use Rattle.rollback_core.specs.declared.thread.JThread.{JThread}
+use Rattle.thread_moves.specs.declared.thread.JThread.{JThread}
 use Rattle.core_runs.specs.Cores.{threads_by}
 use Rattle.section_laws.proofs.WordLemmas as words
 use Rattle.word_runs.specs.WordTurns.{Progress, GivesBy, GivesQuiet, end_of}

@@ -19,8 +19,8 @@ use Rattle.thread_automaton.specs.Told.{Told, after_answer, after_quiet}
 use Rattle.plain_words.specs.declared.plain.PlainWords.{PlainWords}
 use Rattle.plain_words.specs.Table.{words_in, MayStep, Stepped, HasRoom}
 use Rattle.core_runs.specs.Cores.{Core}
-use Rattle.rollback_core.specs.Thread.{CanBeAsked}
-use Rattle.rollback_core.specs.Change.{NamesThread}
+use Rattle.thread_moves.specs.Thread.{CanBeAsked}
+use Rattle.thread_moves.specs.Change.{NamesThread}
 use Rattle.turn_runs.specs.Turns.{TurnMove, silent, made, Turns, CanTurn, StaysReady}
 use Rattle.word_runs.specs.WordTurns.{Progress}
 use Rattle.word_runs.specs.Laws.{AreActs}

@@ -21,8 +21,8 @@ use Rattle.thread_automaton.specs.declared.Bounds.{Bounds}
 use Rattle.thread_automaton.specs.ThreadState.{ThreadState}
 use Rattle.plain_words.specs.declared.plain.PlainWords.{PlainWords}
 use Rattle.plain_words.specs.Table.{words_in, MayStep, Stepped}
-use Rattle.rollback_core.specs.declared.thread.JThread.{JThread}
-use Rattle.rollback_core.specs.Thread.{thread_of}
+use Rattle.thread_moves.specs.declared.thread.JThread.{JThread}
+use Rattle.thread_moves.specs.Thread.{thread_of}
 use Rattle.word_runs.specs.Enabled.{is_enabled}
 use Rattle.word_runs.specs.WordTurns.{Progress, IsEnabledIn, is_live, word_turns}
 use Rattle.word_machine.specs.Seats.{seat_in}

@@ -10,8 +10,8 @@ use Rattle.plain_words.specs.Table.{words_in}
 use Rattle.thread_automaton.specs.declared.Bounds.{Bounds}
 use Rattle.thread_automaton.specs.ThreadState.{ThreadState, first_state}
 use Rattle.core_runs.specs.Cores.{Core}
-use Rattle.rollback_core.specs.Thread.{thread_of}
-use Rattle.rollback_core.specs.declared.thread.JThread.{JThread}
+use Rattle.thread_moves.specs.Thread.{thread_of}
+use Rattle.thread_moves.specs.declared.thread.JThread.{JThread}
 use Rattle.going_threads.specs.declared.going.Going.{Going}
 use Rattle.word_runs.specs.WordTurns.{Progress}
 use Rattle.word_runs.specs.Laws.{begun_with, AreActs}

@@ -24,8 +24,8 @@ use Rattle.thread_automaton.specs.Told.{Told, probed, advanced, born, lost, bloc
 use Rattle.plain_words.specs.declared.plain.PlainWords.{PlainWords}
 use Rattle.plain_words.specs.Table.{words_in, Stepped}
 use Rattle.core_runs.specs.Cores.{threads_by}
-use Rattle.rollback_core.specs.declared.thread.JThread.{JThread}
-use Rattle.rollback_core.specs.Thread.{thread_of}
+use Rattle.thread_moves.specs.declared.thread.JThread.{JThread}
+use Rattle.thread_moves.specs.Thread.{thread_of}
 use Rattle.turn_runs.specs.Turns.{TurnMove, silent, made, Turns}
 use Rattle.quick_turns.specs.Usual.{goes_through, is_usual_step, AreUsual}
 use Rattle.quick_turn_laws.specs.Laws.{IsNotWaitedFor, OverwriteNone}

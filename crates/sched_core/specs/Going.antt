@@ -13,7 +13,7 @@ use Rattle.thread_automaton.specs.declared.Bounds.{Bounds}
 use Rattle.thread_automaton.specs.ThreadState.{ThreadState}
 use Rattle.core_runs.specs.Cores.{Core}
 use Rattle.core_runs.specs.Acts.{Act}
-use Rattle.rollback_core.specs.declared.thread.JThread.{JThread}
+use Rattle.thread_moves.specs.declared.thread.JThread.{JThread}
 use Rattle.going_threads.specs.declared.going.Going.{Going}
 use Rattle.word_runs.specs.WordTurns.{Progress, word_turns}
 use Rattle.word_runs.specs.Laws.{AreActs}

@@ -18,8 +18,8 @@ use Rattle.core_runs.specs.Cores.{Core}
 use Rattle.core_runs.specs.Acts.{Act, ActFrom}
 use Rattle.run_threads.specs.Lines.{LinesHaveTickets}
 pub use Rattle.quick_turn_laws.specs.Laws.{IsNotWaitedFor}
-use Rattle.rollback_core.specs.Thread.{CanBeAsked}
-use Rattle.rollback_core.specs.Change.{NamesThread}
+use Rattle.thread_moves.specs.Thread.{CanBeAsked}
+use Rattle.thread_moves.specs.Change.{NamesThread}
 
 -- The thread can have a turn on these words: what it wants can be asked for, its step's word is there and has room, and a start
 -- word that it loads names a thread.

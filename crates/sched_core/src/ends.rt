@@ -3,7 +3,7 @@
 ghost use Rattle.std.specs.Prelude.{◌≡◌, ℕ, true, false, Some, [], IfOk};
 ghost use Rattle.schedules.specs.Run.{Run, due_of, EndsOfItself, EndsBy};
 ghost use Rattle.core_runs.specs.Cores.{Core};
-ghost use Rattle.rollback_core.specs.Thread.{thread_of};
+ghost use Rattle.thread_moves.specs.Thread.{thread_of};
 ghost use Rattle.word_runs.specs.WordTurns.{Progress, EndedBy, is_live, word_turns};
 ghost use Rattle.word_machine.specs.Machine.{threads_in, IsCoreOf};
 ghost use Rattle.sched_core.specs.Outcome.{AreEnds};

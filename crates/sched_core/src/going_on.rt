@@ -2,7 +2,7 @@
 
 ghost use Rattle.std.specs.Prelude.{◌≡◌, false, None, [], IfOk};
 ghost use Rattle.std.specs.List.{All};
-ghost use Rattle.rollback_core.specs.Thread.{thread_of};
+ghost use Rattle.thread_moves.specs.Thread.{thread_of};
 ghost use Rattle.word_runs.specs.WordTurns.{Progress};
 ghost use Rattle.sched_core.specs.Outcome.{rest_of};
 ghost use Rattle.sched_core.specs.ScheduledRun.{IsOnWay};

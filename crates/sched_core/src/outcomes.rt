@@ -2,7 +2,7 @@
 
 ghost use Rattle.std.specs.Prelude.{◌≡◌, false, IfOk};
 ghost use Rattle.schedules.specs.Run.{Run};
-ghost use Rattle.rollback_core.specs.Thread.{thread_of};
+ghost use Rattle.thread_moves.specs.Thread.{thread_of};
 ghost use Rattle.word_runs.specs.WordTurns.{Progress};
 ghost use Rattle.sched_core.specs.Outcome.{IsOutcomeOf};
 ghost use Rattle.sched_core.specs.ScheduledRun.{SaysRun, IsOnWay};

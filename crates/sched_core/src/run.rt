@@ -4,8 +4,8 @@ ghost use Rattle.std.specs.Prelude.{◌≡◌, ◌+◌, true, false, IfOk, IfSom
 ghost use Rattle.std.specs.Option.{option_map};
 ghost use Rattle.schedules.specs.Schedule as schedule;
 ghost use Rattle.schedules.specs.Run.{AreThose};
-ghost use Rattle.rollback_core.specs.Thread.{thread_of};
-ghost use Rattle.rollback_core.specs.declared.thread.JThread.{JThread};
+ghost use Rattle.thread_moves.specs.Thread.{thread_of};
+ghost use Rattle.thread_moves.specs.declared.thread.JThread.{JThread};
 ghost use Rattle.word_runs.specs.WordTurns.{is_live};
 ghost use Rattle.word_machine.specs.Seats.{seat_in};
 ghost use Rattle.word_machine.specs.Machine.{threads_in};

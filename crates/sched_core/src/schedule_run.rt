@@ -3,7 +3,7 @@
 ghost use Rattle.std.specs.Prelude.{◌≡◌, false, [], IfOk};
 ghost use Rattle.plain_words.specs.Opening.{HasPlace, areas_of};
 ghost use Rattle.opening_cores.specs.Openings.{opening_core};
-ghost use Rattle.rollback_core.specs.Thread.{thread_of};
+ghost use Rattle.thread_moves.specs.Thread.{thread_of};
 ghost use Rattle.word_runs.specs.Laws.{begun_with};
 ghost use Rattle.sched_core.specs.Outcome.{bounds_of, rest_of, IsOutcome};
 ghost use Rattle.sched_core.specs.Readiness.{StaysWell};

@@ -15,7 +15,7 @@ use Rattle.thread_automaton.specs.ThreadState.{ThreadState}
 use Rattle.thread_automaton.specs.Told.{told}
 use Rattle.core_runs.specs.declared.StepMade.{StepMade}
 use Rattle.rollback_core.specs.Turn.{Says, Turned}
-use Rattle.rollback_core.specs.declared.thread.JThread.{JThread}
+use Rattle.thread_moves.specs.declared.thread.JThread.{JThread}
 use Rattle.rollback_core.specs.declared.turned.Turn.{Turn}
 use Rattle.section_laws.proofs.CoreRunLemmas.{in_front, none_there}
 use Rattle.run_parts.specs.NextSteps.{step_made}

@@ -9,7 +9,7 @@ use Rattle.thread_automaton.specs.declared.Move.TheVariants.{Over, Quiet, Stop, 
 use Rattle.thread_automaton.specs.ThreadState.{ThreadState}
 use Rattle.thread_automaton.specs.NextMove.{next_move}
 use Rattle.thread_automaton.specs.Told.{Told, probed, advanced, born, lost, blocked, told}
-use Rattle.rollback_core.specs.Thread.{thread_of}
+use Rattle.thread_moves.specs.Thread.{thread_of}
 use Rattle.rollback_core.specs.Turn.{Says, Turned}
 use Rattle.rollback_core.specs.declared.turned.Turn.{Turn}
 use Rattle.run_parts.specs.NextSteps.{step_made}

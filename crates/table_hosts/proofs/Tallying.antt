@@ -16,7 +16,7 @@ use Rattle.thread_automaton.specs.NextMove.{next_move}
 use Rattle.thread_automaton.specs.Changes.{Change, sees_pinned, opens_level, closes_to, closes, goes_back, changed, forgotten}
 use Rattle.thread_automaton.specs.Answers.{change_of}
 use Rattle.thread_automaton.specs.Told.{Told, probed, advanced, born, lost, blocked, told, counted_for, after_answer}
-use Rattle.rollback_core.specs.Thread.{thread_of}
+use Rattle.thread_moves.specs.Thread.{thread_of}
 use Rattle.rollback_core.specs.Turn.{SaysPlainly, Says, Turned, kind_made}
 use Rattle.rollback_core.specs.declared.turned.Turn.{Turn}
 use Rattle.run_parts.specs.NextSteps.{step_made}

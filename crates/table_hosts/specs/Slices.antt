@@ -2,7 +2,7 @@
 use Rattle.std.specs.Prelude.{ℕ, List}
 use Rattle.std.specs.List.{All}
 use Rattle.op_core.specs.ThreadCode.{Code}
-use Rattle.rollback_core.specs.Thread.{thread_of}
+use Rattle.thread_moves.specs.Thread.{thread_of}
 use Rattle.table_words.specs.declared.table.TableWords.{TableWords}
 use Rattle.table_words.specs.Tables.{setup_in, parts_of_seat}
 use Rattle.table_hosts.specs.declared.seated.SeatedThread.{SeatedThread}

@@ -13,9 +13,9 @@ use Rattle.thread_automaton.specs.NextMove.{next_move}
 use Rattle.core_runs.specs.WordRuns.{RunEntry, words_by}
 use Rattle.core_runs.specs.OwnParts.{Quietly, OwnTo}
 use Rattle.section_laws.specs.InRuns.{StandsBehind}
-use Rattle.rollback_core.specs.Thread.{thread_of, CanBeAsked}
-use Rattle.rollback_core.specs.Change.{NamesThread}
-use Rattle.rollback_core.specs.declared.thread.JThread.{JThread}
+use Rattle.thread_moves.specs.Thread.{thread_of, CanBeAsked}
+use Rattle.thread_moves.specs.Change.{NamesThread}
+use Rattle.thread_moves.specs.declared.thread.JThread.{JThread}
 use Rattle.table_words.specs.declared.setup.Setup.{Setup}
 use Rattle.table_words.specs.declared.setup.ThreadPart.{ThreadPart}
 use Rattle.table_words.specs.Setups.{setup_bounds, setup_areas, setup_words, first_birth}

@@ -3,7 +3,7 @@ use Rattle.std.specs.Prelude.{◌≡◌, ◌≤◌, ◌<◌, ◌⊎◌, ℕ, zer
 use Rattle.op_core.specs.ThreadCode.{Code}
 use Rattle.thread_automaton.specs.ThreadState.{ThreadState}
 use Rattle.thread_automaton.specs.NextMove.{next_move}
-use Rattle.rollback_core.specs.Thread.{thread_of}
+use Rattle.thread_moves.specs.Thread.{thread_of}
 use Rattle.rollback_core.specs.Turn.{Turned}
 use Rattle.rollback_core.specs.declared.turned.Turn.{Turn}
 use Rattle.run_parts.specs.NextSteps.{step_made}

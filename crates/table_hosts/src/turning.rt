@@ -2,7 +2,7 @@
 
 ghost use Rattle.std.specs.Prelude.{◌≡◌, ◌≤◌, ◌<◌, false, IfOk, IfSome, OnErr};
 ghost use Rattle.thread_automaton.specs.NextMove.{next_move};
-ghost use Rattle.rollback_core.specs.Thread.{thread_of};
+ghost use Rattle.thread_moves.specs.Thread.{thread_of};
 ghost use Rattle.rollback_core.specs.Turn.{kind_made};
 ghost use Rattle.rollback_core.specs.Quiet.{QuietTurns};
 ghost use Rattle.table_words.specs.Setups.{setup_bounds};

@@ -27,8 +27,8 @@ use Rattle.section_laws.proofs.ActLemmas.{take_whole, runs_have_acts}
 use Rattle.section_laws.proofs.CoreRunLemmas.{begun_later, begin_with_runs}
 use Rattle.run_parts.specs.NextSteps.{after_move, next_quiet, state_after_part, step_made}
 use Rattle.run_parts.proofs.NextStepLemmas.{quiet_join, quiet_front, part_says}
-use Rattle.rollback_core.specs.Thread.{CanBeAsked}
-use Rattle.rollback_core.specs.Change.{NamesThread}
+use Rattle.thread_moves.specs.Thread.{CanBeAsked}
+use Rattle.thread_moves.specs.Change.{NamesThread}
 use Rattle.kept_states.specs.Kept.{Objects}
 use Rattle.opening_cores.specs.Openings.{opening_core}
 use Rattle.table_words.specs.declared.setup.Setup.{Setup}

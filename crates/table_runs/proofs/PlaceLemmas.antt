@@ -21,7 +21,7 @@ use Rattle.kept_cores.specs.KeptCores.{CoresAreKept}
 use Rattle.kept_cores.proofs.CoreLemmas.{cores_keep}
 use Rattle.opening_cores.specs.Openings.{opening_core}
 use Rattle.opening_cores.proofs.OpeningLemmas.{openings_begin_runs, openings_are_ordinary, openings_have_no_tags}
-use Rattle.rollback_core.specs.Thread.{CanBeAsked}
+use Rattle.thread_moves.specs.Thread.{CanBeAsked}
 use Rattle.ready_runs.specs.Ready.{HasWordsFor, IsRunInRoom, CanStep}
 use Rattle.ready_runs.proofs.ReadyLemmas.{steps_are_allowed}
 use Rattle.table_words.specs.declared.setup.Setup.{Setup}

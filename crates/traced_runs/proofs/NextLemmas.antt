@@ -8,8 +8,8 @@ use Rattle.schedules.specs.Run.{AreThose, IsPicked, Run, due_of, GetsTurn}
 use Rattle.thread_automaton.specs.declared.Bounds.{Bounds}
 use Rattle.thread_automaton.specs.ThreadState.{ThreadState}
 use Rattle.plain_words.specs.declared.plain.PlainWords.{PlainWords}
-use Rattle.rollback_core.specs.declared.thread.JThread.{JThread}
-use Rattle.rollback_core.specs.Thread.{thread_of as meant_by}
+use Rattle.thread_moves.specs.declared.thread.JThread.{JThread}
+use Rattle.thread_moves.specs.Thread.{thread_of as meant_by}
 use Rattle.word_runs.specs.WordTurns.{Progress, is_live, word_turns}
 use Rattle.word_machine.specs.Seats.{seat_in}
 use Rattle.word_machine.specs.Machine.{threads_in, IsCoreOf}

@@ -16,7 +16,7 @@ use Rattle.thread_automaton.specs.declared.Move.TheVariants.{Over, Quiet, Stop, 
 use Rattle.thread_automaton.specs.ThreadState.{ThreadState}
 use Rattle.thread_automaton.specs.NextMove.{next_move}
 use Rattle.thread_automaton.specs.Told.{told}
-use Rattle.rollback_core.specs.declared.thread.JThread.{JThread}
+use Rattle.thread_moves.specs.declared.thread.JThread.{JThread}
 use Rattle.core_runs.specs.Cores.{Core}
 use Rattle.core_runs.specs.Acts.{Act, quiet, did, mover, ActFrom}
 use Rattle.section_laws.specs.Runs.{IsBeginning}

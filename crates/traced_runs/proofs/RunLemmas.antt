@@ -18,8 +18,8 @@ use Rattle.schedules.specs.Run.{Run, due_of, IsNext, Follows, EndsOfItself, Ends
 use Rattle.thread_automaton.specs.declared.Bounds.{Bounds}
 use Rattle.thread_automaton.specs.ThreadState.{ThreadState, first_state}
 use Rattle.plain_words.specs.Table.{words_in}
-use Rattle.rollback_core.specs.declared.thread.JThread.{JThread}
-use Rattle.rollback_core.specs.Thread.{thread_of}
+use Rattle.thread_moves.specs.declared.thread.JThread.{JThread}
+use Rattle.thread_moves.specs.Thread.{thread_of}
 use Rattle.core_runs.specs.Cores.{Core}
 use Rattle.section_laws.specs.Runs.{IsBeginning}
 use Rattle.word_runs.specs.WordTurns.{Progress, last_mover, most_shown, word_turns}

@@ -10,7 +10,7 @@ use Rattle.schedules.specs.Run.{Run, due_of, IsNext, IsTurn, EndsBy}
 use Rattle.thread_automaton.specs.declared.Bounds.{Bounds}
 use Rattle.thread_automaton.specs.ThreadState.{ThreadState}
 use Rattle.plain_words.specs.declared.plain.PlainWords.{PlainWords}
-use Rattle.rollback_core.specs.declared.thread.JThread.{JThread}
+use Rattle.thread_moves.specs.declared.thread.JThread.{JThread}
 use Rattle.core_runs.specs.Cores.{Core}
 use Rattle.core_runs.specs.Acts.{ActFrom}
 use Rattle.section_laws.specs.Runs.{IsBeginning}

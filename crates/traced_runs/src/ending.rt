@@ -1,7 +1,7 @@
 //! What comes of a run that has ended.
 
 ghost use Rattle.std.specs.Prelude.{IfOk};
-ghost use Rattle.rollback_core.specs.Thread.{thread_of};
+ghost use Rattle.thread_moves.specs.Thread.{thread_of};
 ghost use Rattle.traced_runs.specs.TracedRun.{SaysTracedRun};
 
 use crate::telling::tell_ends;

@@ -1,7 +1,7 @@
 //! The thread that a schedule gives the next turn.
 
 ghost use Rattle.std.specs.Prelude.{IfOk, OnOk};
-ghost use Rattle.rollback_core.specs.Thread.{thread_of};
+ghost use Rattle.thread_moves.specs.Thread.{thread_of};
 ghost use Rattle.schedules.specs.Run.{AreThose};
 ghost use Rattle.sched_core.specs.ScheduledRun.{CanGoOn};
 ghost use Rattle.traced_runs.specs.TracedRun.{IsNextOf};

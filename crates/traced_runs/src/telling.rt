@@ -5,7 +5,7 @@ ghost use Rattle.core_runs.specs.Cores.{Core};
 ghost use Rattle.journal_rows.specs.Rows.{AreRowsTold};
 ghost use Rattle.journal_rows.specs.Told.{RowsTold, after_row_calls};
 ghost use Rattle.plain_words.specs.Table.{words_in};
-ghost use Rattle.rollback_core.specs.Thread.{thread_of};
+ghost use Rattle.thread_moves.specs.Thread.{thread_of};
 ghost use Rattle.told_journals.specs.Calls.{end_call_told, end_calls_told};
 ghost use Rattle.word_machine.specs.Machine.{threads_in, IsCoreOf};
 ghost use Rattle.word_texts.specs.PutBack.{levels_back};
@@ -14,8 +14,8 @@ ghost use Rattle.traced_runs.specs.Calls.{calls_of_shown, calls_of_levels, calls
 use heap_words::Area;
 use journal_rows::JournalRows;
 use op_core::{NoMemory, ThreadCode};
-use rollback_core::{JThread, is_in};
 use section_state::{State, revoke_of};
+use thread_moves::{JThread, is_in};
 use word_machine::{ToldTurn, WordMachine};
 
 /// The number of the kind of the step that puts a word back.

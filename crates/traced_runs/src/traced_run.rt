@@ -3,8 +3,8 @@
 ghost use Rattle.std.specs.Prelude.{◌≡◌, ◌+◌, IfOk, IsSome, OnOk, Some, if◌then◌else◌};
 ghost use Rattle.journal_rows.specs.Told.{nothing_told};
 ghost use Rattle.journal_rows.specs.Rows.{AreRowsTold};
-ghost use Rattle.rollback_core.specs.Thread.{thread_of};
-ghost use Rattle.rollback_core.specs.declared.thread.JThread.{JThread};
+ghost use Rattle.thread_moves.specs.Thread.{thread_of};
+ghost use Rattle.thread_moves.specs.declared.thread.JThread.{JThread};
 ghost use Rattle.sched_core.specs.Outcome.{rest_of};
 ghost use Rattle.sched_core.specs.ScheduledRun.{how_at, opens_by, undoes_by, AreReady};
 ghost use Rattle.word_machine.specs.Seats.{seat_in};

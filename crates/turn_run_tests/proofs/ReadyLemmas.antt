@@ -10,8 +10,8 @@ use Rattle.step_port.specs.declared.step.Step.{Step}
 use Rattle.thread_automaton.specs.declared.Bounds.{Bounds}
 use Rattle.thread_automaton.specs.ThreadState.{ThreadState}
 use Rattle.thread_automaton.specs.NextMove.{word_place}
-use Rattle.rollback_core.specs.Thread.{CanBeAsked}
-use Rattle.rollback_core.specs.Change.{NamesThread}
+use Rattle.thread_moves.specs.Thread.{CanBeAsked}
+use Rattle.thread_moves.specs.Change.{NamesThread}
 use Rattle.toy_code.specs.declared.script.ToyStep.{ToyStep}
 use Rattle.toy_code.specs.declared.script.ToyStep.TheVariants.{Do, Show, Pass, Call, Return, WaitOn}
 use Rattle.toy_code.specs.declared.script.ToyPlace.{ToyPlace}

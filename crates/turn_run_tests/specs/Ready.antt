@@ -2,7 +2,7 @@
 use Rattle.op_core.specs.ThreadCode.{Code}
 use Rattle.thread_automaton.specs.declared.Bounds.{Bounds}
 use Rattle.thread_automaton.specs.ThreadState.{ThreadState}
-use Rattle.rollback_core.specs.Change.{NamesThread}
+use Rattle.thread_moves.specs.Change.{NamesThread}
 use Rattle.turn_runs.specs.Turns.{StaysReady}
 
 -- the thread stays ready where each step may be made, and each start word that is loaded says the number of a thread

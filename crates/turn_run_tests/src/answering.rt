@@ -110,7 +110,7 @@ impl Answering {
 }
 
 impl StepPort for Answering {
-    ghost use Rattle.rollback_core.specs.Change.{NamesThread};
+    ghost use Rattle.thread_moves.specs.Change.{NamesThread};
 
     type Pass = ();
 

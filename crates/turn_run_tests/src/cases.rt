@@ -2,7 +2,7 @@
 
 ghost use Rattle.std.specs.Prelude.{◌≡◌, ◌+◌, ◌≤◌, ◌^◌, IfOk};
 ghost use Rattle.std.specs.List.{list_all};
-ghost use Rattle.rollback_core.specs.Thread.{thread_of};
+ghost use Rattle.thread_moves.specs.Thread.{thread_of};
 ghost use Rattle.turn_run_tests.specs.InRange.{is_in_range};
 ghost use Rattle.turn_run_tests.specs.Ready.{StaysReadyOnAny};
 

@@ -11,7 +11,7 @@ use Rattle.thread_automaton.specs.declared.Move.TheVariants.{Over, Quiet, Stop, 
 use Rattle.thread_automaton.specs.ThreadState.{ThreadState}
 use Rattle.thread_automaton.specs.NextMove.{next_move}
 use Rattle.thread_automaton.specs.Told.{told}
-use Rattle.rollback_core.specs.declared.thread.JThread.{JThread}
+use Rattle.thread_moves.specs.declared.thread.JThread.{JThread}
 use Rattle.rollback_core.specs.declared.turned.Turn.{Turn}
 use Rattle.rollback_core.specs.Turn.{Turned, kind_made}
 use Rattle.turn_runs.specs.declared.looks.Looks.{Looks}

@@ -9,7 +9,7 @@ use Rattle.step_port.specs.declared.step.Step.{Step}
 use Rattle.thread_automaton.specs.declared.Bounds.{Bounds}
 use Rattle.thread_automaton.specs.ThreadState.{ThreadState}
 use Rattle.thread_automaton.specs.Told.{Told, probed, advanced, born, lost, blocked, after_answer, after_quiet}
-use Rattle.rollback_core.specs.declared.thread.JThread.{JThread}
+use Rattle.thread_moves.specs.declared.thread.JThread.{JThread}
 use Rattle.rollback_core.specs.declared.turned.Turn.{Turn}
 use Rattle.rollback_core.specs.Turn.{SaysPlainly, Says}
 use Rattle.turn_runs.specs.declared.looks.Looks.{Looks}

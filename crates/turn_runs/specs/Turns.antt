@@ -11,8 +11,8 @@ use Rattle.thread_automaton.specs.declared.Move.TheVariants.{Quiet, Make}
 use Rattle.thread_automaton.specs.ThreadState.{ThreadState}
 use Rattle.thread_automaton.specs.NextMove.{next_move}
 use Rattle.thread_automaton.specs.Told.{Told, told, after_answer, after_quiet}
-use Rattle.rollback_core.specs.Thread.{CanBeAsked}
-use Rattle.rollback_core.specs.Change.{NamesThread}
+use Rattle.thread_moves.specs.Thread.{CanBeAsked}
+use Rattle.thread_moves.specs.Change.{NamesThread}
 
 -- what a turn made
 pub data TurnMove : Type 0 where

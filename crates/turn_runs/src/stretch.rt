@@ -3,7 +3,7 @@
 ghost use Rattle.std.specs.Prelude.{◌≡◌, ℕ, IfOk, IsOk, OnErr};
 ghost use Rattle.thread_automaton.specs.declared.Attempt.{Attempt};
 ghost use Rattle.thread_automaton.specs.NextMove.{next_move};
-ghost use Rattle.rollback_core.specs.Thread.{thread_of};
+ghost use Rattle.thread_moves.specs.Thread.{thread_of};
 ghost use Rattle.rollback_core.specs.Turn.{MoveTakesMemory};
 ghost use Rattle.turn_runs.specs.Turns.{StaysReady};
 ghost use Rattle.turn_runs.specs.Stretch.{Stretched};

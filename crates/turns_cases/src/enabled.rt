@@ -4,8 +4,8 @@ use heap_words::{Area, ClassWord, HeapWord, Tag, WaitWord};
 use monitor_core::{Contend, MonitorWord, decide};
 use op_core::{Next, Op, ThreadCode};
 use plain_words::PlainWords;
-use rollback_core::JThread;
 use section_state::{State, section_parts};
+use thread_moves::JThread;
 
 /// The word of an area, 0 where there is none.
 pub fn word(words: &PlainWords, area: Area) -> u64 {

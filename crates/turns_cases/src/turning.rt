@@ -5,7 +5,7 @@ ghost use Rattle.step_port.specs.declared.step.Step.{Step};
 ghost use Rattle.thread_automaton.specs.declared.Move.{Move};
 ghost use Rattle.thread_automaton.specs.NextMove.{next_move};
 ghost use Rattle.plain_words.specs.Table.{MayStep};
-ghost use Rattle.rollback_core.specs.Thread.{thread_of, CanBeAsked};
+ghost use Rattle.thread_moves.specs.Thread.{thread_of, CanBeAsked};
 ghost use Rattle.turns_cases.specs.MadeSteps.{LoadsNumber, CanMake};
 
 use heap_words::{Area, HeapWord};

@@ -7,7 +7,7 @@ use Rattle.schedules.specs.declared.order.TurnEnd.TheVariants as ends
 use Rattle.step_port.specs.declared.step.Step.{Step}
 use Rattle.step_port.specs.Steps.{kind_of}
 use Rattle.thread_automaton.specs.Told.{Told, probed, advanced, born, lost, blocked}
-use Rattle.rollback_core.specs.declared.thread.JThread.{JThread}
+use Rattle.thread_moves.specs.declared.thread.JThread.{JThread}
 use Rattle.rollback_core.specs.declared.turned.Turn.{Turn}
 use Rattle.rollback_core.specs.Turn.{SaysPlainly}
 use Rattle.word_runs.specs.WordTurns as runs

@@ -10,7 +10,7 @@ use Rattle.op_core.proofs.PointwiseLemmas.{set_at-at}
 use Rattle.plain_words.specs.declared.plain.PlainWords.{PlainWords}
 use Rattle.plain_words.specs.Table.{words_in}
 use Rattle.thread_automaton.specs.ThreadState.{ThreadState}
-use Rattle.rollback_core.specs.declared.thread.JThread.{JThread}
+use Rattle.thread_moves.specs.declared.thread.JThread.{JThread}
 use Rattle.core_runs.specs.Cores.{Core}
 use Rattle.word_machine.specs.Seats.{seat_in}
 use Rattle.word_machine.specs.Machine.{IsCoreOf}

@@ -7,7 +7,7 @@ use Rattle.op_core.specs.OrdinaryState.{set_at}
 use Rattle.op_core.proofs.PointwiseLemmas.{set_at-both}
 use Rattle.thread_automaton.specs.declared.Bounds.{Bounds}
 use Rattle.thread_automaton.specs.ThreadState.{ThreadState}
-use Rattle.rollback_core.specs.declared.thread.JThread.{JThread}
+use Rattle.thread_moves.specs.declared.thread.JThread.{JThread}
 use Rattle.rollback_core.specs.Quiet.{QuietTurns}
 use Rattle.word_machine.specs.Turns.{KeepsBounds}
 use Rattle.word_machine.specs.Silent.{MakesQuiet, QuietAt}

@@ -14,9 +14,9 @@ use Rattle.thread_automaton.specs.NextMove.{next_move}
 use Rattle.thread_automaton.specs.Told.{Told, probed, advanced, born, lost, blocked, told}
 use Rattle.plain_words.specs.declared.plain.PlainWords.{PlainWords}
 use Rattle.plain_words.specs.Table.{words_in, Stepped, Handed}
-use Rattle.rollback_core.specs.declared.thread.JThread.{JThread}
+use Rattle.thread_moves.specs.declared.thread.JThread.{JThread}
 use Rattle.rollback_core.specs.declared.turned.Turn.{Turn}
-use Rattle.rollback_core.specs.Thread.{thread_of}
+use Rattle.thread_moves.specs.Thread.{thread_of}
 use Rattle.rollback_core.specs.Turn.{Says, SaysPlainly, TurnedQuiet, Turned, kind_made}
 use Rattle.core_runs.specs.Cores.{Core}
 use Rattle.word_machine.specs.declared.turning.Came.{Came}

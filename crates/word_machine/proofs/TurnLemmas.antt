@@ -25,9 +25,9 @@ use Rattle.thread_automaton.specs.Told.{Told, probed, advanced, born, lost, bloc
 use Rattle.core_runs.specs.Cores.{threads_by}
 use Rattle.plain_words.specs.declared.plain.PlainWords.{PlainWords}
 use Rattle.plain_words.specs.Table.{words_in, Stepped, Handed}
-use Rattle.rollback_core.specs.declared.thread.JThread.{JThread}
+use Rattle.thread_moves.specs.declared.thread.JThread.{JThread}
 use Rattle.rollback_core.specs.declared.turned.Turn.{Turn}
-use Rattle.rollback_core.specs.Thread.{thread_of}
+use Rattle.thread_moves.specs.Thread.{thread_of}
 use Rattle.rollback_core.specs.Turn.{IsChild, Says, SaysPlainly, MadeStep, TurnedQuiet, Turned, kind_made}
 use Rattle.word_runs.specs.WordTurns as runs
 use Rattle.word_runs.specs.WordTurns.{Progress, GivesQuiet, GivesBy, after_step, after_silent, word_turns}

@@ -6,7 +6,7 @@ use Rattle.plain_words.specs.declared.plain.PlainWords.{PlainWords}
 use Rattle.plain_words.specs.Table.{words_in, Stepped}
 use Rattle.thread_automaton.specs.declared.Bounds.{Bounds}
 use Rattle.thread_automaton.specs.ThreadState.{ThreadState}
-use Rattle.rollback_core.specs.declared.thread.JThread.{JThread}
+use Rattle.thread_moves.specs.declared.thread.JThread.{JThread}
 use Rattle.quick_turns.specs.Usual.{UsualTurns}
 use Rattle.word_machine.specs.Turns.{KeepsBounds}
 use Rattle.word_machine.specs.Usual.{UsualAt, MakesUsual}

@@ -8,7 +8,7 @@ use Rattle.plain_words.specs.Table.{words_in}
 use Rattle.thread_automaton.specs.ThreadState.{ThreadState}
 use Rattle.core_runs.specs.Cores.{Core}
 use Rattle.word_runs.specs.Enabled.{is_enabled}
-use Rattle.rollback_core.specs.declared.thread.JThread.{JThread}
+use Rattle.thread_moves.specs.declared.thread.JThread.{JThread}
 use Rattle.word_machine.specs.Seats.{seat_in}
 
 -- the thread of the definitions that it is

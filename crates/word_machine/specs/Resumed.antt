@@ -3,7 +3,7 @@ use Rattle.std.specs.Prelude.{◌≡◌, ℕ, Option, Some, List, [], ◌∷◌,
 use Rattle.std.specs.List.{All}
 use Rattle.op_core.specs.OrdinaryState.{set_at}
 use Rattle.thread_automaton.specs.ThreadState.{ThreadState}
-use Rattle.rollback_core.specs.declared.thread.JThread.{JThread}
+use Rattle.thread_moves.specs.declared.thread.JThread.{JThread}
 
 -- the threads by their numbers, once these are seated too, one after another
 abbrev pub seats_with : {C : Type 0} → (ℕ → Option (JThread C)) → List (JThread C) → ℕ → Option (JThread C)

@@ -15,7 +15,7 @@ use Rattle.thread_automaton.specs.ThreadState.{ThreadState}
 use Rattle.thread_automaton.specs.NextMove.{next_move}
 use Rattle.thread_automaton.specs.Told.{Told, advanced, told, after_answer}
 use Rattle.plain_words.specs.declared.plain.PlainWords.{PlainWords}
-use Rattle.rollback_core.specs.declared.thread.JThread.{JThread}
+use Rattle.thread_moves.specs.declared.thread.JThread.{JThread}
 use Rattle.rollback_core.specs.declared.turned.Turn.{Turn}
 use Rattle.rollback_core.specs.declared.turned.Turn.TheVariants.{Advanced}
 use Rattle.core_runs.specs.Cores.{Core}

@@ -12,11 +12,11 @@ use Rattle.thread_automaton.specs.ThreadState.{ThreadState}
 use Rattle.thread_automaton.specs.NextMove.{next_move}
 use Rattle.plain_words.specs.declared.plain.PlainWords.{PlainWords}
 use Rattle.plain_words.specs.Table.{MayStep, Stepped, Handed}
-use Rattle.rollback_core.specs.declared.thread.JThread.{JThread}
+use Rattle.thread_moves.specs.declared.thread.JThread.{JThread}
 use Rattle.rollback_core.specs.declared.turned.Turn.{Turn}
 use Rattle.rollback_core.specs.declared.turned.Turn.TheVariants.{Silent, Born, Lost, Blocked, Ended, Spent}
-use Rattle.rollback_core.specs.Thread.{CanBeAsked}
-use Rattle.rollback_core.specs.Change.{NamesThread}
+use Rattle.thread_moves.specs.Thread.{CanBeAsked}
+use Rattle.thread_moves.specs.Change.{NamesThread}
 use Rattle.rollback_core.specs.Turn.{Turned, kind_made}
 use Rattle.word_runs.specs.WordTurns.{Progress, word_turns}
 use Rattle.word_machine.specs.Machine.{IsCoreOf}

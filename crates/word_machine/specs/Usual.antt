@@ -5,7 +5,7 @@ use Rattle.plain_words.specs.declared.plain.PlainWords.{PlainWords}
 use Rattle.plain_words.specs.Table.{words_in, Stepped}
 use Rattle.thread_automaton.specs.declared.Bounds.{Bounds}
 use Rattle.thread_automaton.specs.ThreadState.{ThreadState}
-use Rattle.rollback_core.specs.declared.thread.JThread.{JThread}
+use Rattle.thread_moves.specs.declared.thread.JThread.{JThread}
 use Rattle.quick_turns.specs.Usual.{UsualTurns}
 
 -- The thread at a place made n usual turns on these words, if one is there; else nothing changes.

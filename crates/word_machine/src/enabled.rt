@@ -3,7 +3,7 @@
 ghost use Rattle.std.specs.Prelude.{◌≡◌, ◌+◌, ℕ};
 ghost use Rattle.heap_words.specs.declared.areas.Area.{Area};
 ghost use Rattle.plain_words.specs.Table.{words_in};
-ghost use Rattle.rollback_core.specs.Thread.{thread_of};
+ghost use Rattle.thread_moves.specs.Thread.{thread_of};
 ghost use Rattle.word_runs.specs.Enabled.{is_monitor_busy, is_being_undone, is_waiting, is_alive, is_of_another, has_to_wait_for, has_to_undo, is_enabled};
 ghost use Rattle.thread_automaton.specs.NextMove.{word_place};
 ghost use Rattle.word_machine.specs.Machine.{threads_in, is_enabled_in};
@@ -13,8 +13,8 @@ use heap_words::{Area, ClassWord, HeapWord, Tag, WaitWord};
 use monitor_core::{Contend, MonitorWord, decide};
 use op_core::{Next, Op, ThreadCode};
 use plain_words::PlainWords;
-use rollback_core::{JThread, is_in};
 use section_state::State;
+use thread_moves::{JThread, is_in};
 
 /// The word of an area, 0 where it isn't there.
 pub(crate) fn word(words: &PlainWords, area: Area) -> u64

@@ -1,7 +1,7 @@
 //! Threads and the words that they share, in memory.
 
 ghost use Rattle.std.specs.Prelude.{◌≡◌, ℕ, Some};
-ghost use Rattle.rollback_core.specs.declared.thread.JThread.{JThread};
+ghost use Rattle.thread_moves.specs.declared.thread.JThread.{JThread};
 ghost use Rattle.word_machine.specs.Seats.{seat_in};
 
 use crate::seats::Seats;

@@ -2,7 +2,7 @@
 
 ghost use Rattle.std.specs.Prelude.{◌≡◌, ◌≤◌};
 ghost use Rattle.op_core.specs.OrdinaryState.{set_at};
-ghost use Rattle.rollback_core.specs.Thread.{thread_of};
+ghost use Rattle.thread_moves.specs.Thread.{thread_of};
 ghost use Rattle.word_machine.specs.Machine.{threads_in};
 ghost use Rattle.word_machine.specs.Silent.{MakesQuiet, QuietAt};
 

@@ -5,8 +5,8 @@ ghost use Rattle.std.specs.Option.{option_copied};
 ghost use Rattle.op_core.specs.OrdinaryState.{set_at};
 ghost use Rattle.heap_words.specs.declared.areas.Area.{Area};
 ghost use Rattle.plain_words.specs.Table.{words_in};
-ghost use Rattle.rollback_core.specs.Thread.{thread_of};
-ghost use Rattle.rollback_core.specs.declared.thread.JThread.{JThread};
+ghost use Rattle.thread_moves.specs.Thread.{thread_of};
+ghost use Rattle.thread_moves.specs.declared.thread.JThread.{JThread};
 ghost use Rattle.word_runs.specs.WordTurns.{is_live};
 ghost use Rattle.word_machine.specs.Seats.{seat_in};
 ghost use Rattle.word_machine.specs.Machine.{threads_in};
@@ -19,9 +19,10 @@ use crate::turning::{Came, end_of, turn_at};
 use heap_words::Area;
 use op_core::{NoMemory, ThreadCode};
 use plain_words::PlainWords;
-use rollback_core::{JThread, ReadyThread, Turn};
+use rollback_core::{ReadyThread, Turn};
 use schedules::{LiveThreads, TurnEnd};
 use std::alloc::Global;
+use thread_moves::JThread;
 
 impl<C: ThreadCode + Drop> LiveThreads for WordMachine<C> {
     ghost live = { λ m t. is_live (threads_in (thread_of C.state C.saved) m.seats.places.items t) };

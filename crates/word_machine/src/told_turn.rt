@@ -1,8 +1,8 @@
 //! A turn with what it shows of its thread.
 
 ghost use Rattle.std.specs.Prelude.{◌≡◌, Some, IfOk, IsSome};
-ghost use Rattle.rollback_core.specs.Thread.{thread_of};
-ghost use Rattle.rollback_core.specs.declared.thread.JThread.{JThread};
+ghost use Rattle.thread_moves.specs.Thread.{thread_of};
+ghost use Rattle.thread_moves.specs.declared.thread.JThread.{JThread};
 ghost use Rattle.word_machine.specs.Seats.{seat_in};
 ghost use Rattle.word_machine.specs.ToldTurn.{event_said, TellsTurn};
 ghost use Rattle.word_machine.specs.Turns.{CanTurnOn};

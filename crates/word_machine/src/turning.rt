@@ -2,8 +2,8 @@
 
 ghost use Rattle.std.specs.Prelude.{◌≡◌, Some, IfOk, OnErr};
 ghost use Rattle.std.specs.Option.{option_map};
-ghost use Rattle.rollback_core.specs.Thread.{thread_of};
-ghost use Rattle.rollback_core.specs.declared.thread.JThread.{JThread};
+ghost use Rattle.thread_moves.specs.Thread.{thread_of};
+ghost use Rattle.thread_moves.specs.declared.thread.JThread.{JThread};
 ghost use Rattle.word_machine.specs.Turns.{end_of, CanTurnOn, TurnMade, KeepsBounds, TurnsAt};
 
 use op_core::{NoMemory, ThreadCode};

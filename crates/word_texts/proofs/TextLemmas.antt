@@ -16,7 +16,7 @@ use Rattle.step_port.specs.Words.{Words}
 use Rattle.thread_automaton.specs.NextMove.{word_place}
 use Rattle.thread_automaton.specs.ThreadState.{ThreadState}
 use Rattle.core_runs.specs.Cores.{Core}
-use Rattle.rollback_core.specs.declared.thread.JThread.{JThread}
+use Rattle.thread_moves.specs.declared.thread.JThread.{JThread}
 use Rattle.word_machine.specs.Machine.{threads_in, IsCoreOf}
 use Rattle.word_texts.specs.OldWords.{oldest_at, AreOldest, value_then, unit_then, units_then, AreUnitsThen}
 use Rattle.word_texts.specs.PutBack.{back_in, back_of, heap_in, WillBe}

@@ -3,7 +3,7 @@
 ghost use Rattle.std.specs.Prelude.{◌≡◌, ℕ, Some, IfOk, OnOk, reverse};
 ghost use Rattle.std.specs.Option.{option_or};
 ghost use Rattle.plain_words.specs.Table.{words_in};
-ghost use Rattle.rollback_core.specs.Thread.{thread_of};
+ghost use Rattle.thread_moves.specs.Thread.{thread_of};
 ghost use Rattle.thread_automaton.specs.ThreadState.{noted_since};
 ghost use Rattle.word_machine.specs.Machine.{threads_in};
 ghost use Rattle.word_texts.specs.OldWords.{old_at, oldest_at, AreOldest};
@@ -12,9 +12,9 @@ ghost use Rattle.word_texts.specs.PutBack.{back_in};
 use crate::old_words::OldWords;
 use heap_words::Area;
 use op_core::{NoMemory, ThreadCode};
-use rollback_core::{JThread, is_in};
 use section_state::{State, revoke_of};
 use std::alloc::Global;
+use thread_moves::{JThread, is_in};
 use word_machine::WordMachine;
 use write_log::Noted;
 

@@ -4,7 +4,7 @@ ghost use Rattle.std.specs.Prelude.{◌≡◌, All, IfOk};
 ghost use Rattle.core_runs.specs.Cores.{Core};
 ghost use Rattle.op_core.specs.MadeTexts.{references_of};
 ghost use Rattle.plain_words.specs.Table.{words_in};
-ghost use Rattle.rollback_core.specs.Thread.{thread_of};
+ghost use Rattle.thread_moves.specs.Thread.{thread_of};
 ghost use Rattle.word_machine.specs.Machine.{IsCoreOf};
 ghost use Rattle.word_texts.specs.OldWords.{old_at, AreUnitsThen};
 ghost use Rattle.word_texts.specs.Texts.{AreTextsOf};

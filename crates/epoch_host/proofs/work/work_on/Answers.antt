@@ -2,7 +2,7 @@ use Rattle.std.proofs.Common.{◌≡◌, ◌⊎◌, inl, inr, ◌+◌, Some, [],
 use Rattle.std.specs.Prelude.{IfSome}
 use Rattle.step_port.specs.declared.answer.StepAnswer.{StepAnswer}
 use Rattle.step_port.specs.declared.step.Step.{Step}
-use Rattle.rollback_core.specs.Thread.{thread_of}
+use Rattle.thread_moves.specs.Thread.{thread_of}
 use Rattle.table_words.specs.Tables.{setup_in}
 use Rattle.table_hosts.specs.declared.tally.Pace.{Pace}
 use Rattle.table_hosts.specs.Tallies.{MeetsLimit}

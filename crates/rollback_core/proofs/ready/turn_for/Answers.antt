@@ -1,5 +1,5 @@
 use Rattle.std.proofs.Common.{◌≡◌}
-use Rattle.rollback_core.specs.Thread.{thread_of}
+use Rattle.thread_moves.specs.Thread.{thread_of}
 use Rattle.rollback_core.proofs.TurnLemmas.{turned_as}
 use Rattle.rollback_core.proofs.ready.turn_for.Goals as goal
 

@@ -2,7 +2,7 @@ use Rattle.std.proofs.Common.{refl}
 use Rattle.step_port.specs.declared.answer.StepAnswer.TheVariants.{Found}
 use Rattle.step_port.specs.declared.step.Step.TheVariants.{Split}
 use Rattle.thread_automaton.specs.ThreadState.{ThreadState}
-use Rattle.rollback_core.specs.Thread.{thread_of}
+use Rattle.thread_moves.specs.Thread.{thread_of}
 use Rattle.rollback_core.proofs.MoveLemmas.{replies_fit_of, ready_of}
 use Rattle.rollback_core.proofs.turning.split_turn.Goals as goal
 

@@ -1,5 +1,5 @@
 use Rattle.std.proofs.Common.{◌∙◌, sym, subst}
-use Rattle.rollback_core.specs.Thread.{thread_of}
+use Rattle.thread_moves.specs.Thread.{thread_of}
 use Rattle.rollback_core.proofs.MoveLemmas.{makes_own_step, saves_of, enters_of, opens_below, replies_fit_of}
 use Rattle.rollback_core.proofs.ToldLemmas.{told_unborn, step_made}
 use Rattle.rollback_core.proofs.turning.step_turn.Goals as goal
@@ -21,11 +21,11 @@ absorb-told-requires-clause-fits g c =
 
 pub absorb-told-requires-clause-levels : goal.absorb-told-requires-clause-levels
 absorb-told-requires-clause-levels g c = opens_below g.C.ThreadCode.code c.args.thread.now.own.bounds (thread_of g.C.ThreadCode.state g.C.ThreadCode.saved c.args.thread.now)
-    (thread_of g.C.ThreadCode.state g.C.ThreadCode.saved c.prepare.new.self) c.args.step c.requires.fits c.requires.makes c.prepare.ensures.thread
+    (thread_of g.C.ThreadCode.state g.C.ThreadCode.saved c.prepare.new.thread) c.args.step c.requires.fits c.requires.makes c.prepare.ensures.thread
 
 pub said-requires : goal.said-requires
 said-requires g c = λ is.
-    told_unborn g.C.ThreadCode.code c.prepare.new.self.own.bounds (thread_of g.C.ThreadCode.state g.C.ThreadCode.saved c.prepare.new.self) c.args.step
+    told_unborn g.C.ThreadCode.code c.prepare.new.thread.own.bounds (thread_of g.C.ThreadCode.state g.C.ThreadCode.saved c.prepare.new.thread) c.args.step
     c.make_step-answer.result c.requires.apart (sym c.absorb-told.ensures.told ∙ is)
 
 pub returns-clause-made : goal.returns-clause-made

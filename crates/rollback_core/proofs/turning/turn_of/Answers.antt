@@ -1,4 +1,4 @@
-use Rattle.rollback_core.specs.Thread.{thread_of}
+use Rattle.thread_moves.specs.Thread.{thread_of}
 use Rattle.rollback_core.proofs.TurnLemmas.{turn_fits, turn_counts, undoing_is_ok}
 use Rattle.rollback_core.proofs.turning.turn_of.Goals as goal
 

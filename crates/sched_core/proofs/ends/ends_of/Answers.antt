@@ -1,7 +1,7 @@
 use Rattle.std.proofs.Common.{◌≡◌, ℕ, ◌+◌, Option, List, [], ◌∷◌, ◌++◌, sym, ◌∙◌, subst, arith}
 use Rattle.op_core.specs.declared.ThreadEnd.{ThreadEnd}
 use Rattle.thread_automaton.specs.ThreadState.{ThreadState}
-use Rattle.rollback_core.specs.Thread.{thread_of}
+use Rattle.thread_moves.specs.Thread.{thread_of}
 use Rattle.word_machine.specs.Machine.{threads_in}
 use Rattle.sched_core.specs.Ends.{end_at}
 use Rattle.sched_core.proofs.EndLemmas.{AreEndsBelow, one_more_end, no_more_ends, ends_so, none_left, unsaid, all_ended}

@@ -1,4 +1,4 @@
-use Rattle.rollback_core.specs.Thread.{thread_of}
+use Rattle.thread_moves.specs.Thread.{thread_of}
 use Rattle.word_machine.specs.Machine.{threads_in}
 use Rattle.sched_core.proofs.EndLemmas.{AreEndsBelow}
 use Rattle.sched_core.proofs.ends.ends_of.Given as goal

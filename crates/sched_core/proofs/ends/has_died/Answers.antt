@@ -1,6 +1,6 @@
 use Rattle.std.proofs.Common.{◌≡◌, inl, inr, Some, subst, arith}
 use Rattle.std.proofs.lemmas.Bool.{cases_lt}
-use Rattle.rollback_core.specs.Thread.{thread_of}
+use Rattle.thread_moves.specs.Thread.{thread_of}
 use Rattle.word_runs.specs.WordTurns.{EndedBy}
 use Rattle.word_machine.specs.Machine.{threads_in}
 use Rattle.sched_core.proofs.ends.has_died.Goals as goal

@@ -1,5 +1,5 @@
 use Rattle.std.proofs.Common.{ℕ, ◌<◌, Some}
-use Rattle.rollback_core.specs.Thread.{thread_of}
+use Rattle.thread_moves.specs.Thread.{thread_of}
 use Rattle.word_runs.specs.WordTurns.{EndedBy}
 use Rattle.word_machine.specs.Machine.{threads_in}
 use Rattle.sched_core.proofs.ends.has_died.Given as goal

@@ -1,5 +1,5 @@
 use Rattle.std.proofs.Common.{sym, subst}
-use Rattle.rollback_core.specs.Thread.{thread_of}
+use Rattle.thread_moves.specs.Thread.{thread_of}
 use Rattle.sched_core.specs.Outcome.{IsOutcomeOf}
 use Rattle.sched_core.specs.Going.{unscheduled, IsGoneOn}
 use Rattle.sched_core.proofs.RunLemmas.{ok_gives}

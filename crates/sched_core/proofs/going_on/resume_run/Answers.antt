@@ -1,5 +1,5 @@
 use Rattle.std.proofs.Common.{refl, sym, ◌∙◌, ap, subst}
-use Rattle.rollback_core.specs.Thread.{thread_of}
+use Rattle.thread_moves.specs.Thread.{thread_of}
 use Rattle.word_machine.specs.Machine.{IsCoreOf}
 use Rattle.sched_core.proofs.StartLemmas.{way_goes}
 use Rattle.sched_core.proofs.going_on.resume_run.Goals as goal

@@ -1,6 +1,6 @@
 use Rattle.std.proofs.Common.{sym, ◌∙◌, subst}
 use Rattle.std.proofs.lemmas.Bool.{false≢true}
-use Rattle.rollback_core.specs.Thread.{thread_of}
+use Rattle.thread_moves.specs.Thread.{thread_of}
 use Rattle.sched_core.specs.ScheduledRun.{GoesOnFrom}
 use Rattle.sched_core.proofs.RunLemmas.{ok_gives}
 use Rattle.sched_core.proofs.ComeLemmas.{come_first, come_ready, come_further, come_to_end}

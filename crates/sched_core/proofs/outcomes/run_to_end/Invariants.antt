@@ -1,5 +1,5 @@
 use Rattle.schedules.specs.Run.{Run}
-use Rattle.rollback_core.specs.Thread.{thread_of}
+use Rattle.thread_moves.specs.Thread.{thread_of}
 use Rattle.word_runs.specs.WordTurns.{Progress}
 use Rattle.sched_core.specs.ScheduledRun.{AreListed, IsOnWay}
 use Rattle.sched_core.proofs.ComeLemmas.{HasCome}

@@ -1,7 +1,7 @@
 use Rattle.std.proofs.Common.{◌≡◌, ℕ, ◌+◌, List, [], ◌∷◌, ◌++◌, sym, ◌∙◌, ap, subst}
 use Rattle.std.proofs.lemmas.Bool.{false≢true}
 use Rattle.schedules.specs.Laws.{AreThoseBelow}
-use Rattle.rollback_core.specs.Thread.{thread_of}
+use Rattle.thread_moves.specs.Thread.{thread_of}
 use Rattle.sched_core.specs.ScheduledRun.{CanGoOn}
 use Rattle.sched_core.proofs.ListLemmas.{one_more_listed, no_more_listed}
 use Rattle.sched_core.proofs.run.list_enabled.Goals as goal

@@ -1,5 +1,5 @@
 use Rattle.schedules.specs.Laws.{AreThoseBelow}
-use Rattle.rollback_core.specs.Thread.{thread_of}
+use Rattle.thread_moves.specs.Thread.{thread_of}
 use Rattle.sched_core.specs.ScheduledRun.{CanGoOn}
 use Rattle.sched_core.proofs.run.list_enabled.Given as goal
 

@@ -2,7 +2,7 @@ use Rattle.std.proofs.Common.{◌≡◌, ◌+◌, ◌<◌, ◌≤◌, ◌⊎◌,
 use Rattle.std.specs.Prelude.{IfSome}
 use Rattle.std.specs.List.{All}
 use Rattle.thread_automaton.specs.NextMove.{next_move}
-use Rattle.rollback_core.specs.Thread.{thread_of}
+use Rattle.thread_moves.specs.Thread.{thread_of}
 use Rattle.rollback_core.specs.Turn.{kind_made}
 use Rattle.table_words.specs.Setups.{setup_bounds}
 use Rattle.table_words.specs.Tables.{setup_in, parts_of_seat}

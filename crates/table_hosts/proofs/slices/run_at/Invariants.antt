@@ -1,5 +1,5 @@
 use Rattle.std.proofs.Common.{◌≡◌, ◌≤◌, true}
-use Rattle.rollback_core.specs.Thread.{thread_of}
+use Rattle.thread_moves.specs.Thread.{thread_of}
 use Rattle.table_words.specs.Tables.{setup_in, parts_of_seat}
 use Rattle.table_words.specs.Ports.{port_view}
 use Rattle.table_hosts.specs.Turns.{goes_on, TookTurns}

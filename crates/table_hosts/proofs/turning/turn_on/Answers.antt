@@ -2,7 +2,7 @@ use Rattle.std.proofs.Common.{ap, sym, subst, ◌∙◌}
 use Rattle.thread_automaton.specs.declared.Bounds.{Bounds}
 use Rattle.thread_automaton.specs.declared.Move.TheVariants.{Make}
 use Rattle.thread_automaton.specs.NextMove.{next_move}
-use Rattle.rollback_core.specs.Thread.{thread_of}
+use Rattle.thread_moves.specs.Thread.{thread_of}
 use Rattle.run_parts.specs.NextSteps.{step_made}
 use Rattle.table_words.specs.Views.{first_after, FirstIsInRun}
 use Rattle.table_words.specs.Plays.{SeatMayMake}

@@ -1,7 +1,7 @@
 use Rattle.std.proofs.Common.{refl, sym, ◌∙◌, ap, subst}
 use Rattle.plain_words.specs.Table.{words_in}
 use Rattle.plain_words.specs.Opening.{areas_of}
-use Rattle.rollback_core.specs.Thread.{thread_of}
+use Rattle.thread_moves.specs.Thread.{thread_of}
 use Rattle.word_machine.specs.Machine.{threads_in}
 use Rattle.opening_cores.specs.Openings.{opening_core}
 use Rattle.sched_core.specs.Outcome.{bounds_of, rest_of}

@@ -1,6 +1,6 @@
 use Rattle.plain_words.specs.Opening.{areas_of}
 use Rattle.opening_cores.specs.Openings.{opening_core}
-use Rattle.rollback_core.specs.Thread.{thread_of}
+use Rattle.thread_moves.specs.Thread.{thread_of}
 use Rattle.sched_core.specs.Outcome.{bounds_of, rest_of}
 use Rattle.traced_runs.proofs.RunLemmas.{HasTraced}
 use Rattle.traced_runs.proofs.run.run_traced.Given as goal

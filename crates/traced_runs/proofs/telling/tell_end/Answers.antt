@@ -1,7 +1,7 @@
 use Rattle.std.proofs.Common.{◌-◌, sym, ◌∙◌, ap, subst}
 use Rattle.std.specs.Option.{option_map, option_copied}
 use Rattle.plain_words.specs.Table.{words_in}
-use Rattle.rollback_core.specs.Thread.{thread_of}
+use Rattle.thread_moves.specs.Thread.{thread_of}
 use Rattle.journal_rows.specs.Told.{leaves_levels_out, after_row_call, after_row_calls}
 use Rattle.journal_rows.specs.Rows.{AreRowsTold}
 use Rattle.word_machine.specs.Machine.{threads_in}

@@ -1,5 +1,5 @@
 use Rattle.plain_words.specs.Table.{words_in}
-use Rattle.rollback_core.specs.Thread.{thread_of}
+use Rattle.thread_moves.specs.Thread.{thread_of}
 use Rattle.word_machine.specs.Machine.{threads_in}
 use Rattle.traced_runs.proofs.EndLemmas.{one_end_more}
 use Rattle.traced_runs.proofs.telling.tell_ends.Goals as goal

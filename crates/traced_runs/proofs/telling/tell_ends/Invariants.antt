@@ -1,4 +1,4 @@
-use Rattle.rollback_core.specs.Thread.{thread_of}
+use Rattle.thread_moves.specs.Thread.{thread_of}
 use Rattle.core_runs.specs.Cores.{Core}
 use Rattle.word_machine.specs.Machine.{IsCoreOf}
 use Rattle.journal_rows.specs.Told.{RowsTold, after_row_calls}

@@ -1,4 +1,4 @@
-use Rattle.rollback_core.specs.Thread.{thread_of}
+use Rattle.thread_moves.specs.Thread.{thread_of}
 use Rattle.turn_run_tests.specs.Ready.{StaysReadyOnAny}
 use Rattle.turn_run_tests.proofs.cases.give_turns.Given as goal
 

@@ -1,5 +1,5 @@
 use Rattle.std.proofs.Common.{refl, ◌∙◌, ap, arith}
-use Rattle.rollback_core.specs.Thread.{thread_of}
+use Rattle.thread_moves.specs.Thread.{thread_of}
 use Rattle.turn_runs.proofs.StretchLemmas.{goes_on, stops_here, ready_after, ready_on}
 use Rattle.turn_runs.proofs.stretch.turns.Goals as goal
 

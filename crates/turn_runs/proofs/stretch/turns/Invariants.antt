@@ -1,5 +1,5 @@
 use Rattle.std.proofs.Common.{◌≡◌}
-use Rattle.rollback_core.specs.Thread.{thread_of}
+use Rattle.thread_moves.specs.Thread.{thread_of}
 use Rattle.turn_runs.specs.Stretch.{PassBy}
 use Rattle.turn_runs.proofs.stretch.turns.Given as goal
 

@@ -1,6 +1,6 @@
 use Rattle.std.proofs.Common.{Some, sym, ◌∙◌, ap}
 use Rattle.op_core.specs.OrdinaryState.{set_at}
-use Rattle.rollback_core.specs.declared.thread.JThread.{JThread}
+use Rattle.thread_moves.specs.declared.thread.JThread.{JThread}
 use Rattle.word_machine.specs.Seats.{seat_in}
 use Rattle.word_machine.proofs.ResumeLemmas.{seats_more}
 use Rattle.word_machine.proofs.resuming.seat_all.Goals as goal

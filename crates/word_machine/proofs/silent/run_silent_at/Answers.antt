@@ -1,5 +1,5 @@
 use Rattle.std.proofs.Common.{Some, refl, sym, subst}
-use Rattle.rollback_core.specs.Thread.{thread_of}
+use Rattle.thread_moves.specs.Thread.{thread_of}
 use Rattle.word_machine.specs.Silent.{QuietAt}
 use Rattle.word_machine.proofs.silent.run_silent_at.Goals as goal
 

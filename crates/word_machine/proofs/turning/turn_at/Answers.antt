@@ -1,6 +1,6 @@
 use Rattle.std.proofs.Common.{Some, refl, sym, ◌∙◌, ap, subst}
-use Rattle.rollback_core.specs.Thread.{thread_of}
-use Rattle.rollback_core.specs.declared.thread.JThread.{JThread}
+use Rattle.thread_moves.specs.Thread.{thread_of}
+use Rattle.thread_moves.specs.declared.thread.JThread.{JThread}
 use Rattle.word_machine.specs.Turns.{KeepsBounds, TurnsAt}
 use Rattle.word_machine.proofs.SeatLemmas.{some_same, err_has}
 use Rattle.word_machine.proofs.turning.turn_at.Goals as goal

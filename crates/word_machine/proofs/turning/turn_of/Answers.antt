@@ -1,5 +1,5 @@
 use Rattle.std.proofs.Common.{◌∙◌, ap}
-use Rattle.rollback_core.specs.declared.thread.JThread.{JThread}
+use Rattle.thread_moves.specs.declared.thread.JThread.{JThread}
 use Rattle.word_machine.proofs.turning.turn_of.Goals as goal
 
 pub turn-requires-clause-allows : goal.turn-requires-clause-allows

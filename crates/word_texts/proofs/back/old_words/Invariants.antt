@@ -1,5 +1,5 @@
 use Rattle.plain_words.specs.Table.{words_in}
-use Rattle.rollback_core.specs.Thread.{thread_of}
+use Rattle.thread_moves.specs.Thread.{thread_of}
 use Rattle.word_machine.specs.Machine.{threads_in}
 use Rattle.word_texts.specs.OldWords.{old_at}
 use Rattle.word_texts.specs.PutBack.{back_in}

@@ -3,7 +3,7 @@ use Rattle.op_core.specs.declared.Op.TheVariants.{ClassOf}
 use Rattle.op_core.specs.declared.Reply.TheVariants.{Class}
 use Rattle.heap_words.specs.Words.{header_class, header_length}
 use Rattle.heap_words.specs.declared.words.Header.{Header}
-use Rattle.rollback_core.specs.declared.thread.Own.{Own}
+use Rattle.thread_moves.specs.declared.thread.Own.{Own}
 use Rattle.quick_turns.specs.Place.{HostAnswers}
 use Rattle.quick_turns.specs.Borrowed.{host_place}
 use Rattle.quick_turns.proofs.PathLemmas.{allowed_look, allowed_header, header_answers}

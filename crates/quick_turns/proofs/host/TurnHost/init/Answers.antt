@@ -1,7 +1,7 @@
 use Rattle.std.proofs.Common.{refl, sym, subst, ◌-◌}
 use Rattle.op_core.specs.declared.Op.TheVariants.{Init}
 use Rattle.op_core.specs.declared.Reply.TheVariants.{Ready}
-use Rattle.rollback_core.specs.declared.thread.Own.{Own}
+use Rattle.thread_moves.specs.declared.thread.Own.{Own}
 use Rattle.quick_turns.specs.Place.{HostAnswers}
 use Rattle.quick_turns.specs.Paths.{IsInitialized}
 use Rattle.quick_turns.specs.Borrowed.{host_place}

@@ -4,7 +4,7 @@ use Rattle.op_core.specs.declared.Reply.TheVariants.{Value}
 use Rattle.heap_words.specs.Words.{value_of}
 use Rattle.heap_words.specs.declared.words.HeapWord.{HeapWord}
 use Rattle.thread_automaton.specs.NextMove.{word_place}
-use Rattle.rollback_core.specs.declared.thread.Own.{Own}
+use Rattle.thread_moves.specs.declared.thread.Own.{Own}
 use Rattle.quick_turns.specs.Place.{HostAnswers}
 use Rattle.quick_turns.specs.Borrowed.{host_place}
 use Rattle.quick_turns.proofs.PathLemmas.{read_range, allowed_reached, read_answers}

@@ -1,5 +1,5 @@
 use Rattle.std.proofs.Common.{sym, subst}
-use Rattle.rollback_core.specs.Thread.{thread_of}
+use Rattle.thread_moves.specs.Thread.{thread_of}
 use Rattle.word_machine.specs.Turns.{GivesTurn}
 use Rattle.sched_core.proofs.RunLemmas.{gives_place}
 use Rattle.sched_core.proofs.word_run.WordRun.give.Goals as goal

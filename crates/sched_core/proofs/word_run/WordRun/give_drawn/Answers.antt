@@ -1,7 +1,7 @@
 use Rattle.std.proofs.Common.{◌≡◌, Some, length, slice_get, is_some, sym, ap, subst}
 use Rattle.schedules.specs.Schedule.{Rest, place_of}
 use Rattle.schedules.specs.Run.{IsPicked}
-use Rattle.rollback_core.specs.Thread.{thread_of}
+use Rattle.thread_moves.specs.Thread.{thread_of}
 use Rattle.word_runs.specs.WordTurns.{word_turns}
 use Rattle.word_machine.specs.Machine.{threads_in}
 use Rattle.sched_core.specs.ScheduledRun.{IsSame, GivesNext}

@@ -1,7 +1,7 @@
 use Rattle.std.proofs.Common.{◌≡◌, true, sym, ◌∙◌, ap, subst}
 use Rattle.std.proofs.lemmas.Bool.{false≢true}
 use Rattle.schedules.specs.Run.{AreThose}
-use Rattle.rollback_core.specs.Thread.{thread_of}
+use Rattle.thread_moves.specs.Thread.{thread_of}
 use Rattle.sched_core.specs.ScheduledRun.{leaves_words, CanGoOn}
 use Rattle.sched_core.proofs.KeepLemmas.{list_stays}
 use Rattle.sched_core.proofs.word_run.WordRun.give_listed.Goals as goal

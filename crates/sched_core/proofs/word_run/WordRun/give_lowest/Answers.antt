@@ -2,7 +2,7 @@ use Rattle.std.proofs.Common.{below_more, refl, sym, ◌∙◌, ap, subst, arith
 use Rattle.std.proofs.lemmas.Bool.{false≢true}
 use Rattle.schedules.specs.Schedule.{Rest}
 use Rattle.schedules.specs.Run.{IsPicked}
-use Rattle.rollback_core.specs.Thread.{thread_of}
+use Rattle.thread_moves.specs.Thread.{thread_of}
 use Rattle.word_runs.specs.WordTurns.{word_turns}
 use Rattle.word_machine.specs.Machine.{threads_in}
 use Rattle.word_machine.specs.Usual.{MakesUsual}

@@ -1,5 +1,5 @@
 use Rattle.std.proofs.Common.{◌≡◌, ℕ, ◌<◌}
-use Rattle.rollback_core.specs.Thread.{thread_of}
+use Rattle.thread_moves.specs.Thread.{thread_of}
 use Rattle.sched_core.specs.ScheduledRun.{CanGoOn, IsSame}
 use Rattle.sched_core.proofs.word_run.WordRun.give_lowest.Given as goal
 

@@ -1,5 +1,5 @@
 use Rattle.std.proofs.Common.{is_some, refl, ◌∙◌, ap, subst}
-use Rattle.rollback_core.specs.Thread.{thread_of}
+use Rattle.thread_moves.specs.Thread.{thread_of}
 use Rattle.word_runs.specs.WordTurns.{is_live}
 use Rattle.sched_core.specs.declared.word_run.WordRun.{WordRun}
 use Rattle.sched_core.specs.ScheduledRun.{GivesNext}

@@ -4,7 +4,7 @@ use Rattle.journal_rows.specs.Told.{after_row_calls}
 use Rattle.journal_rows.specs.Rows.{AreRowsTold}
 use Rattle.word_machine.specs.ToldTurn.{TellsTurn}
 use Rattle.traced_runs.specs.Calls.{calls_of_turn}
-use Rattle.rollback_core.specs.Thread.{thread_of}
+use Rattle.thread_moves.specs.Thread.{thread_of}
 use Rattle.sched_core.proofs.RunLemmas.{turn_now}
 use Rattle.traced_runs.proofs.PlaceLemmas.{turn_leads, undone_low}
 use Rattle.traced_runs.proofs.traced_run.TracedRun.give.Goals as goal

@@ -1,5 +1,5 @@
 use Rattle.std.proofs.Common.{◌∙◌, ap}
-use Rattle.rollback_core.specs.Thread.{thread_of}
+use Rattle.thread_moves.specs.Thread.{thread_of}
 use Rattle.schedules.specs.Schedule.{Rest, order_after}
 use Rattle.traced_runs.proofs.PlaceLemmas.{gives_left}
 use Rattle.traced_runs.proofs.traced_run.TracedRun.give_next.Goals as goal

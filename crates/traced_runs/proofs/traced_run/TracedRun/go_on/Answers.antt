@@ -1,5 +1,5 @@
 use Rattle.std.proofs.Common.{refl, subst}
-use Rattle.rollback_core.specs.Thread.{thread_of}
+use Rattle.thread_moves.specs.Thread.{thread_of}
 use Rattle.sched_core.proofs.RunLemmas.{ok_gives}
 use Rattle.traced_runs.specs.declared.traced_run.TracedRun.{TracedRun}
 use Rattle.traced_runs.specs.TracedRun.{IsNextOf}

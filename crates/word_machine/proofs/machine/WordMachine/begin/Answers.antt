@@ -2,8 +2,8 @@ use Rattle.std.proofs.Common.{◌≡◌, ℕ, Option, None, Some, sym, ◌∙◌
 use Rattle.std.specs.Option.{option_map}
 use Rattle.op_core.specs.OrdinaryState.{set_at}
 use Rattle.thread_automaton.specs.ThreadState.{ThreadState}
-use Rattle.rollback_core.specs.Thread.{thread_of}
-use Rattle.rollback_core.specs.declared.thread.JThread.{JThread}
+use Rattle.thread_moves.specs.Thread.{thread_of}
+use Rattle.thread_moves.specs.declared.thread.JThread.{JThread}
 use Rattle.word_machine.specs.Seats.{seat_in}
 use Rattle.word_machine.proofs.SeatLemmas.{all_set, some_same, mapped_set}
 use Rattle.word_machine.proofs.machine.WordMachine.begin.Goals as goal

@@ -1,6 +1,6 @@
 use Rattle.std.proofs.Common.{◌≡◌, ◌∙◌, ap}
-use Rattle.rollback_core.specs.Thread.{thread_of}
-use Rattle.rollback_core.specs.declared.thread.JThread.{JThread}
+use Rattle.thread_moves.specs.Thread.{thread_of}
+use Rattle.thread_moves.specs.declared.thread.JThread.{JThread}
 use Rattle.word_machine.specs.Seats.{seat_in}
 use Rattle.word_machine.specs.Resumed.{seats_with}
 use Rattle.word_machine.proofs.ResumeLemmas.{all_seated, is_core}

@@ -1,5 +1,5 @@
 use Rattle.std.proofs.Common.{sym, ◌∙◌, ap, subst, ◌≡◌}
-use Rattle.rollback_core.specs.declared.thread.JThread.{JThread}
+use Rattle.thread_moves.specs.declared.thread.JThread.{JThread}
 use Rattle.word_machine.specs.Turns.{HandsOutWithin}
 use Rattle.word_machine.proofs.SeatLemmas.{all_set, some_same}
 use Rattle.word_machine.proofs.machine.WordMachine.seat.Goals as goal

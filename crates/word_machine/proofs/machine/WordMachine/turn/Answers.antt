@@ -1,5 +1,5 @@
 use Rattle.std.proofs.Common.{Some, refl, sym, subst}
-use Rattle.rollback_core.specs.Thread.{thread_of}
+use Rattle.thread_moves.specs.Thread.{thread_of}
 use Rattle.word_machine.specs.Seats.{seat_in}
 use Rattle.word_machine.specs.Turns.{end_of, TurnsAt, HandsOutWithin, GivesTurn}
 use Rattle.word_machine.proofs.TurnLemmas.{hands_within, gives_by}

@@ -3,8 +3,8 @@ use Rattle.std.proofs.lemmas.List.{length-set}
 use Rattle.thread_automaton.specs.ThreadState.{ThreadState}
 use Rattle.std.proofs.Common.{◌≡◌, ◌<◌, ℕ, Option, Some, IfOk, slice_set, length, sym, ◌∙◌, ap, subst}
 use Rattle.op_core.specs.OrdinaryState.{set_at}
-use Rattle.rollback_core.specs.Thread.{thread_of}
-use Rattle.rollback_core.specs.declared.thread.JThread.{JThread}
+use Rattle.thread_moves.specs.Thread.{thread_of}
+use Rattle.thread_moves.specs.declared.thread.JThread.{JThread}
 use Rattle.word_machine.specs.Seats.{seat_in}
 use Rattle.word_machine.specs.Turns.{CanTurnOn, KeepsBounds, TurnsAt}
 use Rattle.word_machine.proofs.SeatLemmas.{seats_set, seat_inside, seat_hit, mapped_kept, all_set, none_set, err_gives}

@@ -1,0 +1,4 @@
+pub mod Items
+pub mod Thread
+pub mod Change
+pub mod Told
