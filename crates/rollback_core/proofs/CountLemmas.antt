@@ -1,6 +1,6 @@
 -- How a thread's counts are related to one another.
-use Rattle.std.proofs.Common.{◌∙◌, ap, subst, sym, ◌≡◌, ℕ, zero, suc, ◌≤◌, Bool, true, false, List, [], ◌∷◌, map, drop, Some, None, refl, arith}
-use Rattle.std.specs.Prelude.{get_or, if◌then◌else◌}
+use Rattle.std.proofs.Common.{ℕ, zero, suc, ◌≤◌, Bool, true, false, List, [], ◌∷◌, map, drop, Some, None, arith}
+use Rattle.std.specs.Prelude.{if◌then◌else◌}
 use Rattle.op_core.specs.ThreadCode.{Code}
 use Rattle.thread_automaton.specs.ThreadState.{ThreadState, Mark, is_open, inside, no_mark, nth_or}
 use Rattle.thread_automaton.specs.declared.Bounds.{Bounds}
@@ -8,28 +8,10 @@ use Rattle.step_port.specs.declared.step.Step.{Step}
 use Rattle.step_port.specs.declared.answer.StepAnswer.{StepAnswer}
 use Rattle.thread_automaton.specs.Told.{Told, advanced, born, told, counted_for, after_answer, after_quiet}
 use Rattle.thread_moves.specs.Thread.{AreAtMost, AreCounted}
-use Rattle.thread_automaton.specs.Changes.{Change, goes, opens, opens_level, closes_to, sees_pinned, closes, goes_back, changed, forgotten}
+use Rattle.thread_automaton.specs.Changes.{Change, opens, opens_level, closes_to, sees_pinned, closes, goes_back, changed, forgotten}
 
 abbrev silents_of : List Mark → List ℕ
 silents_of marks = map (λ (m : Mark). m.silents) marks
-
-forgotten_counted : {S : Type 0} (th : ThreadState S) → (forgotten th).counted ≡ th.counted
-forgotten_counted th = by_test (is_open th)
-  where
-    by_test : (t : Bool) → (if t then th else record th { log = []; saved = []; marks = [] }).counted ≡ th.counted
-    by_test true = refl
-    by_test false = refl
-
-changed_counted : {S : Type 0} (code : Code S) (th : ThreadState S) (change : Change) → (changed code th change).counted ≡ th.counted
-changed_counted code th (sees_pinned depth attempt) = forgotten_counted (record th { pinned = depth; attempt = attempt })
-changed_counted code th (opens_level attempt) = forgotten_counted _
-changed_counted code th (closes_to n attempt) = forgotten_counted _
-changed_counted code th closes = forgotten_counted _
-changed_counted code th (goes_back n) = forgotten_counted _
-changed_counted code th change = refl
-
-pub counted_stays : {S : Type 0} (code : Code S) (th behind : ThreadState S) (change : Change) → behind ≡ changed code th change → behind.counted ≡ th.counted
-counted_stays code th behind change is = ap (λ th. th.counted) is ∙ changed_counted code th change
 
 mark_within : (n k : ℕ) (marks : List Mark) → AreAtMost n (silents_of marks) → (nth_or no_mark k marks).silents ≤ n
 mark_within n k [] within = omega arith

@@ -1,5 +1,5 @@
 -- What is so of a fit thread before the move that comes next.
-use Rattle.std.proofs.Common.{◌≡◌, ◌≢◌, ◌∙◌, ℕ, ◌<◌, ◌≤◌, ◌^◌, ◌&&◌, Bool, true, false, Option, None, Some, List, [], ◌∷◌, length, map, reverse, nat_eq, refl, sym, ap, subst, arith}
+use Rattle.std.proofs.Common.{◌≡◌, ◌≢◌, ◌∙◌, ℕ, ◌<◌, ◌^◌, ◌&&◌, Bool, true, false, None, List, [], ◌∷◌, length, reverse, nat_eq, refl, sym, ap, subst, arith}
 use Rattle.std.specs.Prelude.{nat_le, IfSome, if◌then◌else◌}
 use Rattle.std.proofs.lemmas.Grind.{common_steps}
 use Rattle.std.proofs.lemmas.Bool.Decides.{nat_tests}
@@ -34,7 +34,6 @@ use Rattle.automaton_rows.specs.Rows.{Row, is_lost, level_opened}
 use Rattle.automaton_rows.proofs.RowLemmas.{answers_are_rows}
 use Rattle.automaton_rows.proofs.PinLemmas.{usual, usual_can, steps_caused}
 use Rattle.automaton_rows.proofs.ReplyLemmas.{replies_fit}
-use Rattle.thread_moves.specs.declared.mark.SavedMark.{SavedMark}
 use Rattle.thread_moves.specs.declared.thread.JThread.{JThread}
 use Rattle.thread_moves.specs.Thread.{thread_of, mark_meant, without_opening, Saves, IsReady}
 use Rattle.thread_moves.specs.Change.{EntersWith}

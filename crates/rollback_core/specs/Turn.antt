@@ -19,8 +19,6 @@ use Rattle.thread_automaton.specs.declared.Move.{Move}
 use Rattle.thread_automaton.specs.declared.Move.TheVariants.{Over, Quiet, Stop, Make}
 use Rattle.thread_automaton.specs.ThreadState.{ThreadState, first_state}
 use Rattle.thread_automaton.specs.Told.{Told, probed, advanced, born, lost, blocked, told, after_answer, after_quiet}
-use Rattle.automaton_rows.specs.Fits.{IsFit}
-use Rattle.thread_moves.specs.Thread.{AreCounted}
 use Rattle.thread_moves.specs.declared.thread.JThread.{JThread}
 use Rattle.rollback_core.specs.declared.turned.Turn.{Turn}
 use Rattle.thread_moves.specs.Told.{TakesMemory}

@@ -1,8 +1,6 @@
 //! One turn of a Java thread on the words that threads share.
 #![tactic(auto)]
 
-mod absorb;
-mod apply;
 mod quiet;
 mod ready;
 mod silent;

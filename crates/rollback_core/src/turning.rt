@@ -17,12 +17,12 @@ ghost use Rattle.thread_moves.specs.Change.{NamesThread};
 ghost use Rattle.thread_moves.specs.Told.{told_meant, TakesMemory};
 ghost use Rattle.rollback_core.specs.Turn.{end_wanted, event_of, IsChild, MadeStep, SaysPlainly, Turned, MoveTakesMemory, kind_made};
 
-use crate::absorb::{absorb, prepare};
 use crate::quiet::quiet_turn;
 use crate::{ReadyThread, Turn};
 use op_core::{Event, Next, NoMemory, Op, ThreadCode};
 use step_port::{Step, StepAnswer, StepPort, make_step};
 use thread_automaton::Move;
+use thread_changes::{absorb, prepare};
 use thread_moves::{JThread, StepTold};
 
 // The class of the exception by which a thread ended that had wanted this, if it did so.

@@ -1,4 +1,4 @@
-use Rattle.std.proofs.Common.{◌∙◌, sym, subst}
+use Rattle.std.proofs.Common.{◌∙◌, sym}
 use Rattle.thread_moves.specs.Thread.{thread_of}
 use Rattle.rollback_core.proofs.MoveLemmas.{makes_own_step, saves_of, enters_of, opens_below, replies_fit_of}
 use Rattle.rollback_core.proofs.ToldLemmas.{told_unborn, step_made}

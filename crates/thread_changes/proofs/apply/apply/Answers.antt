@@ -5,8 +5,8 @@ use Rattle.automaton_rows.specs.Laws.{reply_of}
 use Rattle.thread_automaton.specs.ThreadState.{ThreadState}
 use Rattle.thread_moves.specs.Thread.{thread_of}
 use Rattle.thread_moves.specs.Change.{change_meant, OpensNone}
-use Rattle.rollback_core.proofs.ChangeLemmas.{opens_none, room_stays}
-use Rattle.rollback_core.proofs.apply.apply.Goals as goal
+use Rattle.thread_changes.proofs.ChangeLemmas.{opens_none, room_stays}
+use Rattle.thread_changes.proofs.apply.apply.Goals as goal
 
 pub apply_settled-requires : goal.apply_settled-requires
 apply_settled-requires g c =

@@ -38,8 +38,14 @@ fn prepare_level<C: ThreadCode>(thread: &mut JThread<C>) -> Result<(), NoMemory>
     Ok(())
 }
 
-// Takes the memory that the step wants, before it is made. Nothing that is seen of the thread changes.
-pub(crate) fn prepare<C: ThreadCode>(thread: &mut JThread<C>, step: Step) -> Result<(), NoMemory>
+/// Takes the memory that the step wants, before it is made. Nothing that is seen of the thread changes. No level of it may be
+/// half opened; where a level opens with the step, that is so after this call until [`absorb`].
+///
+/// # Errors
+///
+/// `NoMemory` where there was no memory: for a step that opens a section or a level, overwrites a word, takes a monitor or
+/// prints a line. No level is half opened then.
+pub fn prepare<C: ThreadCode>(thread: &mut JThread<C>, step: Step) -> Result<(), NoMemory>
     requires saves { Saves C.saved thread.old }
     requires enters { EntersWith step (C.code.next (C.state thread.old.code)) }
     ensures thread { thread_of C.state C.saved thread.new ≡ thread_of C.state C.saved thread.old }
@@ -75,9 +81,10 @@ fn count_turn<C: ThreadCode>(thread: &mut JThread<C>, told: StepTold)
     }
 }
 
-// Changes the thread as the answer to the step demands, and returns what the turn reports.
+/// Changes the thread as the answer to the step demands, and returns what the turn reports. `next` is what the thread's code
+/// says, [`prepare`] has taken the memory for the step, and one more turn can be counted. No level is half opened afterwards.
 #[tactic(auto, using(crate::proofs::ChangeLemmas::room_of))]
-pub(crate) fn absorb<C: ThreadCode>(
+pub fn absorb<C: ThreadCode>(
     thread: &mut JThread<C>,
     next: Next,
     step: Step,

@@ -2,8 +2,8 @@ use Rattle.std.proofs.Common.{◌≡◌, arith}
 use Rattle.thread_automaton.specs.ThreadState.{ThreadState}
 use Rattle.thread_moves.specs.Thread.{thread_of}
 use Rattle.thread_moves.specs.Change.{change_meant}
-use Rattle.rollback_core.proofs.CountLemmas.{counted_stays}
-use Rattle.rollback_core.proofs.absorb.absorb.Goals as goal
+use Rattle.thread_changes.proofs.CountLemmas.{counted_stays}
+use Rattle.thread_changes.proofs.absorbing.absorb.Goals as goal
 
 pub count_turn-requires : goal.count_turn-requires
 count_turn-requires g c =

@@ -1,6 +1,6 @@
 use Rattle.std.proofs.Common.{◌≡◌, None, drop, ℕ, ◌+◌, ◌-◌, ◌*◌, ◌<◌, ◌≤◌, length}
 use Rattle.thread_moves.specs.Thread.{thread_of, Saves}
-use Rattle.rollback_core.proofs.apply.drop_saves.Given as goal
+use Rattle.thread_changes.proofs.apply.drop_saves.Given as goal
 
 abbrev pub invariant-loop-dropped : goal.invariant-loop-dropped
 invariant-loop-dropped g l =
