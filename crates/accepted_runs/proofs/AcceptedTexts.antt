@@ -7,9 +7,9 @@ use Rattle.link_rules.specs.Units.{AreUnits}
 use Rattle.linker.specs.Tables.{HasOrder}
 use Rattle.program_accept.specs.Accepted.{Accepted, IsProgram}
 use Rattle.java_rows.specs.Start.{start_of_program}
-use Rattle.accepted_programs.proofs.MainMethods.{is_sound}
-use Rattle.sound_texts.specs.Texts.{TextsStay}
-use Rattle.sound_texts.proofs.Whole.{stay_from_start}
+use Rattle.accepted_runs.proofs.accepted_programs.MainMethods.{is_sound}
+use Rattle.accepted_runs.specs.Texts.{TextsStay}
+use Rattle.accepted_runs.proofs.sound_texts.Whole.{stay_from_start}
 
 pub texts_stay : (p : Accepted) (files : List (List ℕ)) (name : List ℕ) → AreUnits p.units → (link_rules p.units).Hold → HasOrder p.units → IsProgram files name p → (first : ℕ) → first ≡ first_free (program_names p.units) → first < 2 ^ 30
     → TextsStay p.units (start_of_program p.units p.main)

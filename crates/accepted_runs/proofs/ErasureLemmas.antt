@@ -30,16 +30,16 @@ use Rattle.row_soundness.specs.Runs.{IsThread, MayStand, ObjectFits, RunsLocal}
 use Rattle.program_soundness.specs.SoundPrograms.{IsSound}
 use Rattle.program_soundness.specs.Programs.{IsMainMethod}
 use Rattle.program_accept.specs.Accepted.{Accepted, IsProgram}
-use Rattle.accepted_programs.proofs.MainMethods.{is_sound}
+use Rattle.accepted_runs.proofs.accepted_programs.MainMethods.{is_sound}
 use Rattle.program_soundness.specs.Priorities.{StartsInRange}
 use Rattle.program_soundness.proofs.PriorityLaws.{fit_from_start}
-use Rattle.java_cores.proofs.Whole.{core_states_fit}
+use Rattle.accepted_runs.proofs.java_cores.Whole.{core_states_fit}
 use Rattle.program_soundness.specs.Seen.{IsPriority}
-use Rattle.kept_cores.specs.KeptCores.{CoresAreKept}
+use Rattle.opening_cores.specs.KeptCores.{CoresAreKept}
 use Rattle.heap_words.specs.declared.areas.Area.{Area}
 use Rattle.heap_words.specs.Words.{tag_of}
-use Rattle.run_layout.specs.Layout.{IsWordPlace}
-use Rattle.grounded_monitors.proofs.RunLemmas.{free_runs_hold_monitors, free_runs_fit_objects}
+use Rattle.section_laws.specs.Layout.{IsWordPlace}
+use Rattle.first_law.proofs.grounded_monitors.RunLemmas.{free_runs_hold_monitors, free_runs_fit_objects}
 use Rattle.written_words.specs.Tags.{IsWrittenRun}
 use Rattle.plain_words.specs.Opening.{opening_words}
 use Rattle.section_laws.specs.InRuns.{ActsOf}

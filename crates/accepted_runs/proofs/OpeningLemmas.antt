@@ -18,7 +18,7 @@ use Rattle.fixed_objects.specs.declared.FixedObject.{FixedObject}
 use Rattle.fixed_objects.specs.Fixed.{fixed_at, fixed_header, fixed_word}
 use Rattle.java_rows.specs.Start.{fixed_object, opening_of, start_of_program}
 use Rattle.java_laws.proofs.OpeningLemmas.{openings_have_place, openings_start_main}
-use Rattle.opening_law.specs.Laws.{HasRanges, TellsThreads}
+use Rattle.opening_cores.specs.Laws.{HasRanges, TellsThreads}
 use Rattle.thread_automaton.specs.declared.Bounds.{Bounds}
 use Rattle.row_soundness.specs.Runs.{IsThread, MayStandFor, ObjectFits, fixed_of}
 use Rattle.row_soundness.specs.ClassesFollow.{ClassesFollow, IsFixed}

@@ -21,7 +21,7 @@ use Rattle.row_soundness.specs.Texts.{char_array}
 use Rattle.program_soundness.specs.SoundPrograms.{IsSound}
 use Rattle.program_soundness.specs.Soundness.{StateFits}
 use Rattle.program_soundness.specs.Starts.{RunsFit}
-use Rattle.sound_texts.specs.Texts.{TextsStay, IsArrayOfOne}
+use Rattle.accepted_runs.specs.Texts.{TextsStay, IsArrayOfOne}
 use Rattle.core_law.specs.Arrays.{IsArrayAt}
 use Rattle.accepted_runs.specs.Printed.{PrintedLinesNameArrays}
 use Rattle.accepted_runs.proofs.CharArrays.{chars_have_a_word_each, no_thread}

@@ -18,7 +18,7 @@ use Rattle.row_soundness.specs.Runs.{IsThread}
 use Rattle.program_soundness.specs.SoundPrograms.{IsSound}
 use Rattle.program_soundness.specs.Programs.{IsMainMethod}
 use Rattle.program_accept.specs.Accepted.{Accepted, IsProgram}
-use Rattle.accepted_programs.proofs.MainMethods.{is_sound}
+use Rattle.accepted_runs.proofs.accepted_programs.MainMethods.{is_sound}
 use Rattle.opening_cores.specs.Openings.{opening_core}
 use Rattle.word_runs.specs.Laws.{AreActs}
 use Rattle.word_runs.proofs.TurnLemmas.{turns_are_acts}
@@ -26,7 +26,7 @@ use Rattle.ready_runs.specs.Ready.{HasWordsFor, IsRunInRoom}
 use Rattle.ready_runs.proofs.ReadyLemmas.{steps_are_allowed, tables_are_ready, writes_are_apart}
 use Rattle.section_laws.proofs.NumberLemmas.{number_at, number_made, split_above}
 use Rattle.section_laws.proofs.RunLemmas.{facts_at}
-use Rattle.run_threads.proofs.NumberLemmas.{numbers_at}
+use Rattle.section_laws.proofs.run_threads.NumberLemmas.{numbers_at}
 use Rattle.core_law.proofs.LeftEndLemmas.{over_threads_want_their_end}
 use Rattle.step_port.specs.declared.step.Step.TheVariants.{Split}
 use Rattle.thread_automaton.specs.declared.Move.TheVariants.{Make}

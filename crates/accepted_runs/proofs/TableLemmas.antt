@@ -24,8 +24,8 @@ use Rattle.program_soundness.proofs.Programs.{main_begins}
 use Rattle.program_soundness.proofs.SoundnessLaws as java
 use Rattle.program_soundness.proofs.Starts.{starts_fit}
 use Rattle.program_accept.specs.Accepted.{Accepted, IsProgram}
-use Rattle.accepted_programs.proofs.MainMethods.{is_sound}
-use Rattle.java_cores.proofs.Whole.{accepts, has_room, follow, fitting}
+use Rattle.accepted_runs.proofs.accepted_programs.MainMethods.{is_sound}
+use Rattle.accepted_runs.proofs.java_cores.Whole.{accepts, has_room, follow, fitting}
 use Rattle.accepted_runs.proofs.OpeningLemmas.{can_begin}
 use Rattle.table_words.specs.declared.setup.Setup.{Setup}
 use Rattle.table_words.specs.Setups.{setup_bounds}

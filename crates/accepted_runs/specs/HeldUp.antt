@@ -17,7 +17,7 @@ use Rattle.word_runs.specs.Laws.{begun_with}
 use Rattle.core_law.specs.Erasure.{is_left_out}
 use Rattle.core_law.specs.Idle.{NoneIsEnabled}
 use Rattle.opening_cores.specs.Openings.{opening_core}
-use Rattle.waiting_runs.specs.Waiting.{EndsWaiting}
+use Rattle.accepted_runs.specs.Waiting.{EndsWaiting}
 use Rattle.accepted_runs.specs.Runs.{IsErasedRun, AreErasedTurns}
 
 -- What is left of a run of the program that ends where no thread is enabled is an execution of the program after which some thread

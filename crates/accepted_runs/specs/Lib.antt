@@ -4,3 +4,9 @@ pub mod HeldUp
 pub mod Printed
 pub mod Left
 pub mod Tables
+pub mod Programs
+pub mod JavaCores
+pub mod KnownTexts
+pub mod KeptTexts
+pub mod Texts
+pub mod Waiting

@@ -25,7 +25,7 @@ use Rattle.section_laws.specs.Runs.{IsRunFrom}
 use Rattle.section_laws.specs.InRuns.{with_entries, BeginAsHandedOut}
 use Rattle.row_soundness.specs.Runs.{IsThread, MayStand, ObjectFits, RunsLocal}
 use Rattle.program_soundness.specs.Seen.{IsPriority}
-use Rattle.kept_cores.specs.KeptCores.{CoresAreKept}
+use Rattle.opening_cores.specs.KeptCores.{CoresAreKept}
 use Rattle.written_words.specs.Tags.{IsWrittenRun}
 use Rattle.core_law.specs.Erasure.{is_left_out, Erasure}
 use Rattle.opening_cores.specs.Openings.{opening_core}

@@ -3,7 +3,7 @@
 ghost use Rattle.std.specs.Prelude.{ℕ, List};
 ghost use Rattle.java_rows.specs.Start.{start_of_program};
 ghost use Rattle.program_accept.specs.Accepted.{IsProgram};
-ghost use Rattle.sound_texts.specs.Texts.{TextsStay};
+ghost use Rattle.accepted_runs.specs.Texts.{TextsStay};
 
 use program_accept::Program;
 

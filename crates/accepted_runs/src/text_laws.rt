@@ -8,8 +8,8 @@ ghost use Rattle.java_rows.specs.Start.{start_of_program};
 ghost use Rattle.link_types.specs.declared.operands.MethodId.{MethodId};
 ghost use Rattle.program_accept.specs.Accepted.{IsProgram};
 
+use crate::accepted_programs::accepted_programs_go_in_order;
 use crate::string_laws::accepted_texts_never_change;
-use accepted_programs::accepted_programs_go_in_order;
 use program_accept::Program;
 
 /// In each execution of a program that `accept` gives, a line that was printed of a text which the program made names an array that

@@ -4,8 +4,8 @@ ghost use Rattle.std.specs.Prelude.{ℕ, List};
 ghost use Rattle.program_accept.specs.Accepted.{IsProgram};
 ghost use Rattle.accepted_runs.specs.HeldUp.{IdleRunsEndWaiting, HeldUpTurnsEndWaiting};
 
+use crate::accepted_programs::accepted_programs_go_in_order;
 use crate::erasure_laws::accepted_runs_are_erased;
-use accepted_programs::accepted_programs_go_in_order;
 use program_accept::Program;
 
 /// A run of a program that `accept` gives ends where no thread is enabled, and some thread hasn't ended. Leave out of it what its

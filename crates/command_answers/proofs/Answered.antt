@@ -7,7 +7,7 @@ use Rattle.jr_ports.specs.Stream.{Gains}
 use Rattle.program_input.specs.Folder.{AreRead}
 use Rattle.program_answers.specs.declared.answer.Answer.{Answer}
 use Rattle.std.proofs.lemmas.List.{take-map}
-use Rattle.accepted_programs.specs.Programs.{IsOfFiles}
+use Rattle.accepted_runs.specs.Programs.{IsOfFiles}
 use Rattle.program_answers.specs.declared.status.Status.{Status}
 use Rattle.program_answers.specs.declared.status.Status.TheVariants as statuses
 use Rattle.command_answers.specs.Answers.{AreProgram, ComeTo, IsJudged, RefuseOnly, Runs, RunsHosted, RunsTwice, first_answer, second_answer, seeded, stress_limits}

@@ -3,7 +3,7 @@
 ghost use Rattle.std.specs.Prelude.{◌≡◌, ◌<◌, ◌^◌, List, ℕ, IfOk, OnOk, IfSome, None, take};
 ghost use Rattle.jr_ports.specs.Stream.{Gains};
 ghost use Rattle.encoded_texts.specs.Encoded.{encoded_text};
-ghost use Rattle.accepted_programs.specs.Programs.{IsOfFiles};
+ghost use Rattle.accepted_runs.specs.Programs.{IsOfFiles};
 ghost use Rattle.java_run.specs.Run.{IsHostedRunOf};
 ghost use Rattle.command_answers.specs.Answers.{IsDecided, RunsHosted};
 ghost use Rattle.command_answers.specs.Folder.{AreListed, ReadsInOrder};

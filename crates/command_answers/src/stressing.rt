@@ -1,7 +1,7 @@
 //! `stress`.
 
 ghost use Rattle.std.specs.Prelude.{◌≡◌, ◌∷◌, ◌++◌, [], ℕ, IfOk, OnOk, false};
-ghost use Rattle.accepted_programs.specs.Programs.{IsOfFiles};
+ghost use Rattle.accepted_runs.specs.Programs.{IsOfFiles};
 ghost use Rattle.java_run.specs.Run.{IsHostedRunOf, IsRunOf, shown};
 ghost use Rattle.command_answers.specs.Answers as answers;
 ghost use Rattle.command_answers.specs.Ends.{is_done};

@@ -14,7 +14,7 @@ use std::alloc::Global;
 /// What is answered to a program that is accepted.
 pub trait Verdict {
     ghost use Rattle.std.specs.Prelude.{ℕ, IfOk};
-    ghost use Rattle.accepted_programs.specs.Programs.{IsOfFiles};
+    ghost use Rattle.accepted_runs.specs.Programs.{IsOfFiles};
     ghost use Rattle.program_accept.specs.Accepted.{Accepted};
     ghost use Rattle.program_answers.specs.declared.answer.Answer.{Answer};
 

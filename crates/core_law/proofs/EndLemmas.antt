@@ -14,15 +14,15 @@ use Rattle.thread_automaton.specs.ThreadState.{ThreadState}
 use Rattle.automaton_rows.specs.Fits.{AttemptFits}
 use Rattle.core_runs.specs.Entries.{ShowFrom}
 use Rattle.core_runs.specs.Reading.{end_wanted, place_in, thread_in, ordinary}
-use Rattle.settled_lists.specs.Settled.{to_undo}
-use Rattle.settled_lists.specs.SettledMonitors.{depth_back}
-use Rattle.settled_lists.specs.SettledMonitors as settled
+use Rattle.section_laws.specs.Settled.{to_undo}
+use Rattle.section_laws.specs.SettledMonitors.{depth_back}
+use Rattle.section_laws.specs.SettledMonitors as settled
 use Rattle.section_laws.proofs.RunLemmas.{facts_at}
-use Rattle.run_layout.specs.Layout.{IsLaidRun}
-use Rattle.run_monitors.specs.Monitors.{IsMonitorRun}
-use Rattle.settled_monitors.specs.SettledRuns.{held_in, back_in}
-use Rattle.settled_monitors.proofs.SettleLemmas.{same_is_held}
-use Rattle.grounded_monitors.proofs.RunLemmas.{free_runs_fit_objects, free_runs_hold_monitors, free_runs_are_in_place}
+use Rattle.section_laws.specs.Layout.{IsLaidRun}
+use Rattle.first_law.specs.RunMonitors.{IsMonitorRun}
+use Rattle.first_law.specs.SettledRuns.{held_in, back_in}
+use Rattle.first_law.proofs.settled_monitors.SettleLemmas.{same_is_held}
+use Rattle.first_law.proofs.grounded_monitors.RunLemmas.{free_runs_fit_objects, free_runs_hold_monitors, free_runs_are_in_place}
 use Rattle.core_law.specs.RevokedLevels.{is_level_revoked}
 use Rattle.core_law.proofs.RevokedLemmas.{revoked_levels_are_told}
 use Rattle.word_runs.specs.Enabled.{is_enabled}

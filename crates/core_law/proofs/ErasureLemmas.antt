@@ -13,16 +13,16 @@ use Rattle.ordinary_words.specs.Reading.{word_in}
 use Rattle.core_runs.specs.Cores.{Core}
 use Rattle.core_runs.specs.Entries.{ShowFrom}
 use Rattle.core_runs.specs.Reading.{ordinary}
-use Rattle.section_levels.specs.Levels.{IsLevelledRun}
-use Rattle.settled_monitors.specs.SettledRuns.{IsDoomedTest}
-use Rattle.settled_words.specs.SettledWords.{WordsAreSettled}
-use Rattle.grounded_monitors.proofs.RunLemmas.{free_runs_are_in_place, free_runs_hold_monitors}
-use Rattle.doomed_cuts.specs.Cuts.{is_cut_by}
-use Rattle.third_law.specs.CleanCuts.{IsShownRun}
-use Rattle.third_law.specs.CutLaw.{IsCutRun, MonitorsAreSettled}
-use Rattle.third_law.proofs.LevelLemmas.{rested_threads_have_gone_back}
-use Rattle.third_law.proofs.AllowedLemmas.{cut_is_allowed}
-use Rattle.third_law.proofs.CleanLemmas.{cuts_are_clean, events_left_settle}
+use Rattle.section_laws.specs.Levels.{IsLevelledRun}
+use Rattle.first_law.specs.SettledRuns.{IsDoomedTest}
+use Rattle.written_words.specs.SettledWords.{WordsAreSettled}
+use Rattle.first_law.proofs.grounded_monitors.RunLemmas.{free_runs_are_in_place, free_runs_hold_monitors}
+use Rattle.first_law.specs.Cuts.{is_cut_by}
+use Rattle.core_law.specs.CleanCuts.{IsShownRun}
+use Rattle.core_law.specs.CutLaw.{IsCutRun, MonitorsAreSettled}
+use Rattle.core_law.proofs.third_law.LevelLemmas.{rested_threads_have_gone_back}
+use Rattle.core_law.proofs.third_law.AllowedLemmas.{cut_is_allowed}
+use Rattle.core_law.proofs.third_law.CleanLemmas.{cuts_are_clean, events_left_settle}
 use Rattle.core_law.specs.RevokedLevels.{is_level_revoked}
 use Rattle.core_law.specs.Erasure.{ErasedRunsAreExecutions, is_left_out, RunsAreErased}
 use Rattle.core_law.proofs.RevokedLemmas.{revoked_levels_are_told}

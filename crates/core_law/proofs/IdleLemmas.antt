@@ -27,11 +27,11 @@ use Rattle.section_laws.specs.Runs.{IsRun}
 use Rattle.section_laws.proofs.WordLemmas.{state_of_zero}
 use Rattle.section_laws.proofs.RunLemmas.{facts_at}
 use Rattle.section_laws.proofs.SectionLemmas.{zero_no_section}
-use Rattle.own_sections.proofs.MoveLemmas.{own_words_are_known}
-use Rattle.start_words.specs.Starts.{BeginsWithStarts}
-use Rattle.open_sections.specs.OpenSections.{IsOpenBy}
-use Rattle.open_sections.proofs.RunLemmas.{open_sections_have_threads}
-use Rattle.run_monitors.specs.Monitors.{IsMonitorRun}
+use Rattle.section_laws.proofs.own_sections.MoveLemmas.{own_words_are_known}
+use Rattle.section_laws.specs.Starts.{BeginsWithStarts}
+use Rattle.section_laws.specs.OpenSections.{IsOpenBy}
+use Rattle.section_laws.proofs.open_sections.RunLemmas.{open_sections_have_threads}
+use Rattle.first_law.specs.RunMonitors.{IsMonitorRun}
 use Rattle.word_runs.specs.Enabled.{has_to_wait_for, has_to_undo}
 use Rattle.core_law.specs.Idle.{NoneIsEnabled}
 use Rattle.core_law.proofs.ThreadLemmas.{HandsOut, past_at, started_at}

@@ -13,11 +13,11 @@ use Rattle.core_runs.specs.Cores.{Core}
 use Rattle.core_runs.specs.Acts.{Act, ActAt}
 use Rattle.core_runs.specs.Reading.{end_wanted, place_in, thread_in, ordinary}
 use Rattle.section_laws.proofs.RunLemmas.{along, facts_at}
-use Rattle.run_layout.specs.Layout.{IsLaidRun}
-use Rattle.run_layout.proofs.RunLemmas.{objects_stay}
+use Rattle.section_laws.specs.Layout.{IsLaidRun}
+use Rattle.section_laws.proofs.run_layout.RunLemmas.{objects_stay}
 use Rattle.first_law.proofs.RestLemmas.{Rests, rests_first, act_rests}
-use Rattle.grounded_monitors.specs.Free.{IsFreeRun}
-use Rattle.grounded_monitors.proofs.RunLemmas.{free_runs_fit_objects}
+use Rattle.first_law.specs.Free.{IsFreeRun}
+use Rattle.first_law.proofs.grounded_monitors.RunLemmas.{free_runs_fit_objects}
 use Rattle.core_law.specs.Erasure.{Erasure}
 use Rattle.word_runs.specs.WordTurns.{EndedBy}
 use Rattle.core_law.specs.Ends.{OverThreadsWantTheirEnd, EndsAreThoseLeft}

@@ -12,13 +12,13 @@ use Rattle.thread_automaton.specs.ThreadState.{ThreadState, is_open}
 use Rattle.core_runs.specs.Cores.{Core}
 use Rattle.core_runs.specs.Acts.{Act}
 use Rattle.core_runs.specs.Revoked.{RevokesAt}
-use Rattle.level_runs.specs.LevelRun.{In, IsDoomedAt}
-use Rattle.level_runs.proofs.LevelLemmas.{keeps_on, is_gone, Since, since}
-use Rattle.settled_lists.specs.Settled.{to_undo}
-use Rattle.section_levels.specs.Levels.{IsLevelledRun, word_in, revoked_by, levels_in, revoked_in, RunsInLevels}
-use Rattle.section_levels.proofs.LevelLemmas.{at_place, level_in, runs_in_levels, doomed_at}
-use Rattle.settled_monitors.specs.SettledRuns.{IsDoomedTest}
-use Rattle.settled_monitors.proofs.DoomedLemmas.{outermost_of, doomed_open}
+use Rattle.section_laws.specs.LevelRun.{In, IsDoomedAt}
+use Rattle.section_laws.proofs.level_runs.LevelLemmas.{keeps_on, is_gone, Since, since}
+use Rattle.section_laws.specs.Settled.{to_undo}
+use Rattle.section_laws.specs.Levels.{IsLevelledRun, word_in, revoked_by, levels_in, revoked_in, RunsInLevels}
+use Rattle.section_laws.proofs.section_levels.LevelLemmas.{at_place, level_in, runs_in_levels, doomed_at}
+use Rattle.first_law.specs.SettledRuns.{IsDoomedTest}
+use Rattle.first_law.proofs.settled_monitors.DoomedLemmas.{outermost_of, doomed_open}
 use Rattle.word_runs.specs.Enabled.{has_to_undo, has_to_wait_for, is_enabled}
 use Rattle.core_law.specs.Idle.{NoneIsEnabled}
 use Rattle.core_law.specs.Rest.{IdleRunsHaveNothingToUndo}

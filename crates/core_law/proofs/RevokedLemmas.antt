@@ -13,13 +13,13 @@ use Rattle.thread_automaton.specs.ThreadState.{ThreadState}
 use Rattle.core_runs.specs.Cores.{Core}
 use Rattle.core_runs.specs.Acts.{Act, did, beside}
 use Rattle.core_runs.specs.Revoked.{RevokesAt, levels_from, IsDoomed}
-use Rattle.level_runs.specs.LevelRun.{In}
+use Rattle.section_laws.specs.LevelRun.{In}
 use Rattle.section_laws.proofs.CoreRunLemmas.{equal}
-use Rattle.own_sections.proofs.MoveLemmas.{own_words_are_known}
-use Rattle.run_threads.proofs.NumberLemmas.{threads_are_numbered}
-use Rattle.section_levels.specs.Levels.{IsLevelledRun}
-use Rattle.section_levels.proofs.LevelLemmas.{has_section}
-use Rattle.doomed_cuts.proofs.CutLemmas.{in_of, contains_of}
+use Rattle.section_laws.proofs.own_sections.MoveLemmas.{own_words_are_known}
+use Rattle.section_laws.proofs.run_threads.NumberLemmas.{threads_are_numbered}
+use Rattle.section_laws.specs.Levels.{IsLevelledRun}
+use Rattle.section_laws.proofs.section_levels.LevelLemmas.{has_section}
+use Rattle.first_law.proofs.doomed_cuts.CutLemmas.{in_of, contains_of}
 use Rattle.core_law.specs.RevokedLevels.{has_open, is_among, opened_inside, is_revoked_with, is_revoked_from, is_level_revoked, RevokedLevelsAreTold}
 
 in_take : (n p : ℕ) (levels : List ℕ) → In p (take n levels) → In p levels

@@ -34,18 +34,18 @@ use Rattle.core_runs.specs.Cores.{Core}
 use Rattle.core_runs.specs.Acts.{Act}
 use Rattle.core_runs.specs.Reading.{waiting_in, end_wanted, place_in, thread_in, ordinary}
 use Rattle.section_laws.specs.Runs.{IsRun}
-use Rattle.run_threads.specs.Ends.{HasNoEnds, end_word}
-use Rattle.run_threads.proofs.NumberLemmas.{threads_are_numbered}
-use Rattle.run_threads.proofs.EndLemmas.{ends_are_known}
-use Rattle.run_layout.specs.Layout.{IsLaidRun}
-use Rattle.start_words.specs.Starts.{BeginsWithStarts}
-use Rattle.start_words.proofs.RunLemmas.{starts_are_known}
-use Rattle.held_levels.proofs.StandLemmas.{threads_stand_in_order}
-use Rattle.run_monitors.specs.Monitors.{IsObject, IsMonitorRun}
-use Rattle.run_monitors.specs.Held.{Holds}
-use Rattle.run_monitors.proofs.ListLemmas.{depth_fits, level_fits}
-use Rattle.run_monitors.proofs.MarkLemmas.{section_is}
-use Rattle.run_monitors.proofs.RunLemmas.{threads_hold, monitors_are_held}
+use Rattle.section_laws.specs.Ends.{HasNoEnds, end_word}
+use Rattle.section_laws.proofs.run_threads.NumberLemmas.{threads_are_numbered}
+use Rattle.section_laws.proofs.run_threads.EndLemmas.{ends_are_known}
+use Rattle.section_laws.specs.Layout.{IsLaidRun}
+use Rattle.section_laws.specs.Starts.{BeginsWithStarts}
+use Rattle.section_laws.proofs.start_words.RunLemmas.{starts_are_known}
+use Rattle.section_laws.proofs.held_levels.StandLemmas.{threads_stand_in_order}
+use Rattle.first_law.specs.RunMonitors.{IsObject, IsMonitorRun}
+use Rattle.first_law.specs.Held.{Holds}
+use Rattle.first_law.proofs.run_monitors.ListLemmas.{depth_fits, level_fits}
+use Rattle.first_law.proofs.run_monitors.MarkLemmas.{section_is}
+use Rattle.first_law.proofs.run_monitors.RunLemmas.{threads_hold, monitors_are_held}
 use Rattle.word_runs.specs.Enabled.{is_busy, is_monitor_busy, is_waiting, is_alive, is_of_another, has_to_wait_for, has_to_undo}
 use Rattle.core_law.specs.Idle.{NoneIsEnabled, JoinsNameThreads, IsLeftAt, IdleCoresAreStuck}
 use Rattle.core_law.proofs.IdleLemmas.{from_both, some_above, waits_at, none_revoked, fit, now_live, alive_at}

@@ -16,13 +16,13 @@ use Rattle.thread_automaton.specs.declared.Bounds.{Bounds}
 use Rattle.thread_automaton.specs.NextMove.{word_place}
 use Rattle.core_runs.specs.Cores.{Core}
 use Rattle.core_runs.specs.Acts.{Act}
-use Rattle.settled_lists.specs.Settled.{notes, replay}
-use Rattle.run_layout.specs.Layout.{IsWordPlace, ObjectsLieApart, free_place}
-use Rattle.run_layout.proofs.RunLemmas.{runs_keep_layout}
-use Rattle.section_levels.specs.Levels.{IsLevelledRun}
-use Rattle.settled_words.specs.SettledWords.{back_words}
-use Rattle.grounded_monitors.specs.Free.{IsFreeRun}
-use Rattle.grounded_monitors.proofs.RunLemmas.{free_runs_fit_objects, free_runs_hold_monitors}
+use Rattle.section_laws.specs.Settled.{notes, replay}
+use Rattle.section_laws.specs.Layout.{IsWordPlace, ObjectsLieApart, free_place}
+use Rattle.section_laws.proofs.run_layout.RunLemmas.{runs_keep_layout}
+use Rattle.section_laws.specs.Levels.{IsLevelledRun}
+use Rattle.written_words.specs.SettledWords.{back_words}
+use Rattle.first_law.specs.Free.{IsFreeRun}
+use Rattle.first_law.proofs.grounded_monitors.RunLemmas.{free_runs_fit_objects, free_runs_hold_monitors}
 use Rattle.core_law.specs.RevokedLevels.{is_level_revoked}
 use Rattle.core_law.specs.Erasure.{Erasure}
 use Rattle.core_law.proofs.RevokedLemmas.{revoked_levels_are_told}

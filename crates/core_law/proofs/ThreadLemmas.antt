@@ -35,10 +35,10 @@ use Rattle.section_laws.specs.Runs.{IsRun}
 use Rattle.section_laws.proofs.DeedLemmas.{makes_it}
 use Rattle.section_laws.proofs.FactLemmas.{each}
 use Rattle.section_laws.proofs.RunLemmas.{along, facts_at}
-use Rattle.run_threads.specs.Numbers.{AreNumbered}
-use Rattle.run_threads.proofs.SeenLemmas.{stays, prints_line, ends_thread, seen_steps}
-use Rattle.run_threads.proofs.NumberLemmas.{threads_are_new}
-use Rattle.level_saves.proofs.SaveLemmas.{is_live}
+use Rattle.section_laws.specs.Numbers.{AreNumbered}
+use Rattle.section_laws.proofs.run_threads.SeenLemmas.{stays, prints_line, ends_thread, seen_steps}
+use Rattle.section_laws.proofs.run_threads.NumberLemmas.{threads_are_new}
+use Rattle.section_laws.proofs.level_saves.SaveLemmas.{is_live}
 
 -- a thread that is over has seen all its levels pinned, and nothing of an attempt is made
 pub record IsPast {S : Type 0} (th : ThreadState S) : Type 0 where

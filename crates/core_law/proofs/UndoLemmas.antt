@@ -14,16 +14,16 @@ use Rattle.thread_automaton.specs.ThreadState.{ThreadState}
 use Rattle.core_runs.specs.Cores.{Core}
 use Rattle.core_runs.specs.Acts.{Act}
 use Rattle.core_runs.specs.Revoked.{RevokesAt, IsDoomed, levels_from}
-use Rattle.level_runs.specs.LevelRun.{In, IsLevel, IsDoomedAt}
-use Rattle.level_runs.proofs.LevelLemmas.{Falls, below, falls, RevokedBefore, revoked_before, keeps_on, is_gone, Since, since}
-use Rattle.settled_lists.specs.Settled.{to_undo, words_back}
-use Rattle.section_levels.specs.Levels.{IsLevelledRun, word_in, revoked_by, core_at, levels_in, revoked_in, RunsInLevels}
-use Rattle.section_levels.proofs.RunLemmas.{counted_at}
-use Rattle.section_levels.proofs.LevelLemmas.{at_place, level_in, runs_in_levels, doomed_at}
-use Rattle.settled_monitors.specs.SettledRuns.{IsDoomedTest}
-use Rattle.settled_monitors.proofs.DoomedLemmas.{Outermost, outermost_of, counts_from}
-use Rattle.settled_words.specs.SettledWords.{back_words}
-use Rattle.doomed_cuts.proofs.CutLemmas.{contains_of}
+use Rattle.section_laws.specs.LevelRun.{In, IsLevel, IsDoomedAt}
+use Rattle.section_laws.proofs.level_runs.LevelLemmas.{Falls, below, falls, RevokedBefore, revoked_before, keeps_on, is_gone, Since, since}
+use Rattle.section_laws.specs.Settled.{to_undo, words_back}
+use Rattle.section_laws.specs.Levels.{IsLevelledRun, word_in, revoked_by, core_at, levels_in, revoked_in, RunsInLevels}
+use Rattle.section_laws.proofs.section_levels.RunLemmas.{counted_at}
+use Rattle.section_laws.proofs.section_levels.LevelLemmas.{at_place, level_in, runs_in_levels, doomed_at}
+use Rattle.first_law.specs.SettledRuns.{IsDoomedTest}
+use Rattle.first_law.proofs.settled_monitors.DoomedLemmas.{Outermost, outermost_of, counts_from}
+use Rattle.written_words.specs.SettledWords.{back_words}
+use Rattle.first_law.proofs.doomed_cuts.CutLemmas.{contains_of}
 use Rattle.word_runs.specs.Enabled.{has_to_undo}
 use Rattle.word_texts.specs.PutBack.{levels_back, back_in}
 use Rattle.core_law.specs.ToUndo.{LevelsToUndoAreTold, WordsToPutBackAreTold}

@@ -9,8 +9,8 @@ use Rattle.op_core.specs.MadeTexts.{AreMadeTexts}
 use Rattle.thread_automaton.specs.declared.Bounds.{Bounds}
 use Rattle.core_runs.specs.Cores.{Core}
 use Rattle.core_runs.specs.Acts.{Act}
-use Rattle.run_layout.specs.Layout.{IsWordPlace}
-use Rattle.grounded_monitors.specs.Free.{IsFreeRun}
+use Rattle.section_laws.specs.Layout.{IsWordPlace}
+use Rattle.first_law.specs.Free.{IsFreeRun}
 use Rattle.core_law.specs.Erasure.{Erasure}
 use Rattle.word_texts.specs.PutBack.{WillBe}
 use Rattle.word_texts.specs.Texts.{AreTextsOf}

@@ -8,8 +8,8 @@ use Rattle.thread_automaton.specs.declared.Bounds.{Bounds}
 use Rattle.thread_automaton.specs.ThreadState.{ThreadState}
 use Rattle.core_runs.specs.Cores.{Core}
 use Rattle.core_runs.specs.Acts.{Act}
-use Rattle.run_layout.specs.Layout.{IsLaidRun}
-use Rattle.grounded_monitors.specs.Free.{IsFreeRun}
+use Rattle.section_laws.specs.Layout.{IsLaidRun}
+use Rattle.first_law.specs.Free.{IsFreeRun}
 use Rattle.core_law.specs.Erasure.{Erasure}
 use Rattle.word_runs.specs.WordTurns.{EndedBy}
 

@@ -13,11 +13,11 @@ use Rattle.core_runs.specs.Cores.{Core}
 use Rattle.core_runs.specs.Acts.{Act}
 use Rattle.core_runs.specs.Entries.{ShowFrom}
 use Rattle.core_runs.specs.Reading.{ordinary}
-use Rattle.settled_lists.specs.Settled.{to_undo}
-use Rattle.settled_words.specs.SettledWords.{WordsAreSettled}
-use Rattle.grounded_monitors.specs.Free.{IsFreeRun}
-use Rattle.doomed_cuts.specs.Cuts.{is_cut_by}
-use Rattle.third_law.specs.CutLaw.{IsCutRun, MonitorsAreSettled}
+use Rattle.section_laws.specs.Settled.{to_undo}
+use Rattle.written_words.specs.SettledWords.{WordsAreSettled}
+use Rattle.first_law.specs.Free.{IsFreeRun}
+use Rattle.first_law.specs.Cuts.{is_cut_by}
+use Rattle.core_law.specs.CutLaw.{IsCutRun, MonitorsAreSettled}
 use Rattle.core_law.specs.RevokedLevels.{is_level_revoked}
 
 -- the events that are left are an execution from the ordinary state in which the run begins

@@ -13,10 +13,10 @@ use Rattle.automaton_rows.specs.Undoing.{is_held}
 use Rattle.core_runs.specs.Cores.{Core}
 use Rattle.core_runs.specs.Acts.{Act}
 use Rattle.core_runs.specs.Reading.{ordinary}
-use Rattle.run_threads.specs.Ends.{HasNoEnds}
-use Rattle.run_layout.specs.Layout.{IsLaidRun}
-use Rattle.start_words.specs.Starts.{BeginsWithStarts}
-use Rattle.run_monitors.specs.Monitors.{IsMonitorRun}
+use Rattle.section_laws.specs.Ends.{HasNoEnds}
+use Rattle.section_laws.specs.Layout.{IsLaidRun}
+use Rattle.section_laws.specs.Starts.{BeginsWithStarts}
+use Rattle.first_law.specs.RunMonitors.{IsMonitorRun}
 use Rattle.word_runs.specs.Enabled.{is_enabled}
 
 -- some thread hasn't ended, and none is enabled

@@ -6,3 +6,10 @@ pub mod Stuck
 pub mod ToUndo
 pub mod Arrays
 pub mod Ends
+pub mod CleanCuts
+pub mod CutLaw
+pub mod Journal
+pub mod RunCalls
+pub mod JournalLaws
+pub mod Calls
+pub mod ToldLaws

@@ -5,9 +5,9 @@ use Rattle.thread_automaton.specs.declared.Bounds.{Bounds}
 use Rattle.thread_automaton.specs.ThreadState.{ThreadState}
 use Rattle.core_runs.specs.Cores.{Core}
 use Rattle.core_runs.specs.Acts.{Act}
-use Rattle.settled_lists.specs.Settled.{to_undo}
-use Rattle.section_levels.specs.Levels.{IsLevelledRun}
-use Rattle.settled_monitors.specs.SettledRuns.{IsDoomedTest}
+use Rattle.section_laws.specs.Settled.{to_undo}
+use Rattle.section_laws.specs.Levels.{IsLevelledRun}
+use Rattle.first_law.specs.SettledRuns.{IsDoomedTest}
 use Rattle.core_law.specs.Idle.{NoneIsEnabled}
 
 -- no thread has a level open that is to be undone

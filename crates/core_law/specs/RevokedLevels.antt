@@ -10,8 +10,8 @@ use Rattle.thread_automaton.specs.ThreadState.{ThreadState}
 use Rattle.core_runs.specs.Cores.{Core}
 use Rattle.core_runs.specs.Acts.{Act, did, beside}
 use Rattle.core_runs.specs.Revoked.{levels_from}
-use Rattle.section_levels.specs.Levels.{IsLevelledRun}
-use Rattle.settled_monitors.specs.SettledRuns.{IsDoomedTest}
+use Rattle.section_laws.specs.Levels.{IsLevelledRun}
+use Rattle.first_law.specs.SettledRuns.{IsDoomedTest}
 
 -- the thread has this section open
 abbrev pub has_open : {S : Type 0} → ℕ → Option (ThreadState S) → Bool

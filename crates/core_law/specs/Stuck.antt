@@ -6,7 +6,7 @@ use Rattle.schedules.specs.Run.{Run, IsHeldUp}
 use Rattle.thread_automaton.specs.declared.Bounds.{Bounds}
 use Rattle.core_runs.specs.Cores.{Core}
 use Rattle.core_runs.specs.Acts.{Act}
-use Rattle.grounded_monitors.specs.Free.{IsFreeRun}
+use Rattle.first_law.specs.Free.{IsFreeRun}
 use Rattle.core_law.specs.Erasure.{Erasure}
 use Rattle.word_runs.specs.WordTurns.{Progress, word_turns}
 use Rattle.core_law.specs.Idle.{NoneIsEnabled}

@@ -5,10 +5,10 @@ use Rattle.thread_automaton.specs.declared.Bounds.{Bounds}
 use Rattle.thread_automaton.specs.ThreadState.{ThreadState}
 use Rattle.core_runs.specs.Cores.{Core}
 use Rattle.core_runs.specs.Acts.{Act}
-use Rattle.settled_lists.specs.Settled.{to_undo}
-use Rattle.section_levels.specs.Levels.{IsLevelledRun}
-use Rattle.settled_monitors.specs.SettledRuns.{IsDoomedTest}
-use Rattle.settled_words.specs.SettledWords.{back_words}
+use Rattle.section_laws.specs.Settled.{to_undo}
+use Rattle.section_laws.specs.Levels.{IsLevelledRun}
+use Rattle.first_law.specs.SettledRuns.{IsDoomedTest}
+use Rattle.written_words.specs.SettledWords.{back_words}
 use Rattle.word_texts.specs.PutBack.{levels_back, back_of}
 
 -- Where a run ends, the levels that a thread has to undo are those from the level on to which the word of its section says that it

@@ -4,8 +4,11 @@
 #![tactic(auto)]
 
 mod end_laws;
+pub mod run_journals;
 mod stuck_laws;
 mod text_laws;
+pub mod third_law;
+pub mod told_journals;
 
 ghost use Rattle.core_law.specs.Erasure.{ErasedRunsAreExecutions, RunsAreErased, ErasuresAreOne};
 ghost use Rattle.core_law.specs.RevokedLevels.{RevokedLevelsAreTold};

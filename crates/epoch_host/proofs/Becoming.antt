@@ -6,7 +6,7 @@ use Rattle.std.proofs.lemmas.List.Elements.{All-nil, All-cons, All-append, All-h
 use Rattle.op_core.specs.ThreadCode.{Code}
 use Rattle.step_port.specs.declared.answer.StepAnswer.{StepAnswer}
 use Rattle.step_port.specs.declared.step.Step.{Step}
-use Rattle.run_parts.specs.NextSteps.{step_made}
+use Rattle.section_laws.specs.NextSteps.{step_made}
 use Rattle.section_laws.proofs.CoreRunLemmas.{in_front, none_there}
 use Rattle.table_words.specs.declared.setup.ThreadPart.{ThreadPart}
 use Rattle.table_words.specs.declared.table.TableWords.{TableWords}

@@ -23,13 +23,13 @@ use Rattle.core_runs.specs.Cores.{Core}
 use Rattle.core_runs.specs.Reading.{ordinary}
 use Rattle.core_runs.specs.Revoked.{RevokesAt}
 use Rattle.kept_states.specs.Kept.{Objects, Keeps, IsKeptState}
-use Rattle.grounded_monitors.specs.Free.{IsFreeRun}
-use Rattle.kept_cores.specs.KeptCores.{IsBegunRun, KeepsFitting}
-use Rattle.kept_cores.proofs.CoreLemmas.{cores_keep}
+use Rattle.first_law.specs.Free.{IsFreeRun}
+use Rattle.opening_cores.specs.KeptCores.{IsBegunRun, KeepsFitting}
+use Rattle.opening_cores.proofs.kept_cores.CoreLemmas.{cores_keep}
 use Rattle.core_law.specs.Erasure.{is_left_out, Erasure}
 use Rattle.core_law.proofs.ErasureLemmas.{runs_are_erased}
 use Rattle.opening_cores.specs.Openings.{opening_core}
-use Rattle.opening_law.proofs.OpeningLemmas.{own_threads, is_inside}
+use Rattle.opening_cores.proofs.opening_law.OpeningLemmas.{own_threads, is_inside}
 use Rattle.opening_cores.proofs.PlaceLemmas.{fixed_of, ends}
 use Rattle.opening_cores.proofs.OpeningLemmas.{openings_begin_runs, openings_are_ordinary}
 use Rattle.erasure_examples.specs.Example.{steps, first, is_thread, opening, bounds, order, acts, cores, MarksUndone, WritesInside, ARunIsErased}

@@ -17,7 +17,7 @@ use Rattle.thread_automaton.specs.declared.Bounds.{Bounds}
 use Rattle.core_runs.specs.Cores.{Core}
 use Rattle.core_runs.specs.Acts.{Act, did}
 use Rattle.core_runs.specs.Revoked.{RevokesAt}
-use Rattle.grounded_monitors.specs.Free.{IsFreeRun}
+use Rattle.first_law.specs.Free.{IsFreeRun}
 use Rattle.core_law.specs.Erasure.{is_left_out, Erasure}
 use Rattle.opening_cores.specs.Openings.{opening_core}
 use Rattle.word_runs.specs.Moves.{acts_in, core_in}

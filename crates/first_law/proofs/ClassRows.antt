@@ -29,7 +29,7 @@ use Rattle.core_runs.specs.Acts.{Act}
 use Rattle.core_runs.specs.Reading.{ordinary}
 use Rattle.section_laws.proofs.WordLemmas.{Exchanged, exchanged, stays_at}
 use Rattle.section_laws.proofs.ClaimLemmas.{found_is}
-use Rattle.run_threads.proofs.NumberLemmas.{threads_are_numbered}
+use Rattle.section_laws.proofs.run_threads.NumberLemmas.{threads_are_numbered}
 use Rattle.first_law.specs.InPlace.{IsSeenRun}
 use Rattle.first_law.proofs.TurnLemmas.{keeps_load, words_part, starts_part, monitors_part, waiting_part, threads_part}
 use Rattle.first_law.proofs.EntryLemmas.{HasEntry, Done, did_at, live_from, then_live, depth_is, event_entry}

@@ -37,8 +37,8 @@ use Rattle.core_runs.specs.Reading.{place_in, waiting_in, ordinary}
 use Rattle.section_laws.proofs.WordLemmas.{exchanged, stays_at}
 use Rattle.section_laws.proofs.DeedLemmas.{above}
 use Rattle.section_laws.proofs.ClaimLemmas.{found_is}
-use Rattle.run_layout.proofs.LaidLemmas.{is_there}
-use Rattle.run_layout.proofs.PlaceLemmas.{put_object}
+use Rattle.section_laws.proofs.run_layout.LaidLemmas.{is_there}
+use Rattle.section_laws.proofs.run_layout.PlaceLemmas.{put_object}
 use Rattle.first_law.specs.Monitors.{FitsMonitorWord, FixedHolds, FixedWaits, WaitsHold}
 use Rattle.first_law.specs.InPlace.{IsSeenRun}
 use Rattle.first_law.proofs.TurnLemmas.{keeps_load, known}

@@ -33,7 +33,7 @@ use Rattle.core_runs.specs.Cores.{Core, core_after, threads_by, starting_by, obj
 use Rattle.core_runs.specs.Acts.{Act, did, DidAt}
 use Rattle.core_runs.specs.Entries.{event_told, monitor_shows, StepShows, Shows}
 use Rattle.core_runs.specs.Reading.{waiting_in, end_wanted, place_in, thread_in, ordinary}
-use Rattle.level_saves.proofs.SaveLemmas.{HandsNone, stands_so, is_live}
+use Rattle.section_laws.proofs.level_saves.SaveLemmas.{HandsNone, stands_so, is_live}
 use Rattle.first_law.specs.InPlace.{IsSeenRun}
 use Rattle.first_law.proofs.TurnLemmas.{Keeps, words_part, starts_part, monitors_part, waiting_part, classes_part, stays_part}
 

@@ -22,9 +22,9 @@ use Rattle.core_runs.specs.Acts.{Act, ActFrom}
 use Rattle.core_runs.specs.Reading.{end_wanted, place_in, thread_in, ordinary}
 use Rattle.section_laws.specs.Runs.{IsRun}
 use Rattle.section_laws.proofs.RunLemmas.{get_some, act_at, facts_at}
-use Rattle.run_layout.specs.Layout.{FitsObjects, IsLaidRun}
-use Rattle.run_layout.proofs.RunLemmas as layouts
-use Rattle.run_bits.proofs.BitLemmas.{runs_are_in_bits}
+use Rattle.section_laws.specs.Layout.{FitsObjects, IsLaidRun}
+use Rattle.section_laws.proofs.run_layout.RunLemmas as layouts
+use Rattle.section_laws.proofs.run_bits.BitLemmas.{runs_are_in_bits}
 use Rattle.first_law.specs.InPlace.{IsSeenRun}
 use Rattle.first_law.specs.Grounded.{IsGroundedRun, MonitorsFitAlong, GroundedRunsAreSeen, GroundedRunsAreInPlace}
 use Rattle.first_law.proofs.ListLemmas.{runs_are_in_place}

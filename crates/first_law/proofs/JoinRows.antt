@@ -30,10 +30,10 @@ use Rattle.core_runs.specs.Acts.{Act}
 use Rattle.core_runs.specs.Reading.{end_wanted, place_in, waiting_in, thread_in, ordinary}
 use Rattle.section_laws.proofs.ClaimLemmas.{none_some, found_is}
 use Rattle.section_laws.proofs.NumberLemmas.{number_at}
-use Rattle.run_threads.specs.Ends.{end_word}
-use Rattle.run_threads.proofs.EndLemmas.{ends_are_known}
-use Rattle.start_words.specs.Starts.{start_word_of}
-use Rattle.level_saves.proofs.SaveLemmas.{is_live}
+use Rattle.section_laws.specs.Ends.{end_word}
+use Rattle.section_laws.proofs.run_threads.EndLemmas.{ends_are_known}
+use Rattle.section_laws.specs.Starts.{start_word_of}
+use Rattle.section_laws.proofs.level_saves.SaveLemmas.{is_live}
 use Rattle.first_law.specs.InPlace.{IsSeenRun}
 use Rattle.first_law.proofs.TurnLemmas.{keeps_load, known, words_part, starts_part, monitors_part, waiting_part, threads_part, stays_part}
 use Rattle.first_law.proofs.EntryLemmas.{NoReply, HasEntry, Done, did_at, after, live_from, then_live, over_is, local_is, depth_is, event_entry, leads, usual_shows, no_event}

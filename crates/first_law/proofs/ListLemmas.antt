@@ -35,8 +35,8 @@ use Rattle.core_runs.specs.Entries.{Shows, ShowFrom}
 use Rattle.core_runs.specs.Reading.{end_wanted, place_in, waiting_in, thread_in, ordinary}
 use Rattle.section_laws.proofs.WordLemmas.{stays_at}
 use Rattle.section_laws.proofs.RunLemmas.{facts_at}
-use Rattle.own_sections.proofs.MoveLemmas.{moves_at}
-use Rattle.run_layout.proofs.RunLemmas.{beside_object}
+use Rattle.section_laws.proofs.own_sections.MoveLemmas.{moves_at}
+use Rattle.section_laws.proofs.run_layout.RunLemmas.{beside_object}
 use Rattle.first_law.specs.InPlace.{IsSeenRun, RunsAreInPlace}
 use Rattle.first_law.proofs.StateLemmas.{word_kept, start_kept, monitor_kept}
 use Rattle.first_law.proofs.OwnerLemmas.{owner_kept, held_section}

@@ -25,7 +25,7 @@ use Rattle.automaton_rows.specs.Undoing.{is_held}
 use Rattle.core_runs.specs.Cores.{Core}
 use Rattle.core_runs.specs.Acts.{Act}
 use Rattle.core_runs.specs.Reading.{ordinary}
-use Rattle.run_layout.proofs.PlaceLemmas.{one_place}
+use Rattle.section_laws.proofs.run_layout.PlaceLemmas.{one_place}
 use Rattle.first_law.specs.Monitors.{FitsMonitorWord, MonitorsFit}
 use Rattle.first_law.specs.InPlace.{IsSeenRun}
 use Rattle.first_law.proofs.StateLemmas.{differs, word_kept, start_kept, monitor_kept}

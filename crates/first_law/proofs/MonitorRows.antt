@@ -24,8 +24,8 @@ use Rattle.core_runs.specs.Cores.{Core, threads_by, starting_by, objects_by, lin
 use Rattle.core_runs.specs.Acts.{Act}
 use Rattle.core_runs.specs.Reading.{place_in, waiting_in, thread_in, ordinary}
 use Rattle.section_laws.proofs.WordLemmas.{stays_at}
-use Rattle.run_layout.proofs.PlaceLemmas.{object_other}
-use Rattle.level_saves.proofs.SaveLemmas.{HandsNone}
+use Rattle.section_laws.proofs.run_layout.PlaceLemmas.{object_other}
+use Rattle.section_laws.proofs.level_saves.SaveLemmas.{HandsNone}
 use Rattle.first_law.specs.InPlace.{IsSeenRun}
 use Rattle.first_law.proofs.TurnLemmas.{waiting_part, threads_part}
 use Rattle.first_law.proofs.EntryLemmas.{IsUsual, HasEntry, Done, did_at, after, live_from, then_live, depth_is, event_entry}

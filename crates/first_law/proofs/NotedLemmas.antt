@@ -18,11 +18,11 @@ use Rattle.core_runs.specs.Acts.{Act, quiet, did, beside, DidAt, ActAt}
 use Rattle.section_laws.proofs.WordLemmas.{exchanged}
 use Rattle.section_laws.proofs.FactLemmas.{each}
 use Rattle.section_laws.proofs.RunLemmas.{along}
-use Rattle.run_layout.specs.Layout.{IsWordPlace, IsLaidRun}
-use Rattle.run_layout.proofs.ListLemmas.{In}
-use Rattle.run_layout.proofs.OwnedLemmas.{owned_by, OwnedStep, owned_steps}
-use Rattle.run_layout.proofs.LaidLemmas.{write_there}
-use Rattle.run_layout.proofs.RunLemmas.{fits_at, known_at}
+use Rattle.section_laws.specs.Layout.{IsWordPlace, IsLaidRun}
+use Rattle.section_laws.proofs.run_layout.ListLemmas.{In}
+use Rattle.section_laws.proofs.run_layout.OwnedLemmas.{owned_by, OwnedStep, owned_steps}
+use Rattle.section_laws.proofs.run_layout.LaidLemmas.{write_there}
+use Rattle.section_laws.proofs.run_layout.RunLemmas.{fits_at, known_at}
 
 module _ {S : Type 0} (code : Code S) (b : Bounds) (is_thread : ℕ → Bool) (c : ℕ → Core S) (acts : List Act) (run : IsLaidRun code b is_thread c acts) where
   -- a logged word was there before

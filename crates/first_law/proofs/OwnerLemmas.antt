@@ -12,9 +12,9 @@ use Rattle.automaton_rows.specs.Undoing.{is_held}
 use Rattle.core_runs.specs.Cores.{Core}
 use Rattle.core_runs.specs.Acts.{Act}
 use Rattle.section_laws.proofs.WordLemmas.{state_of_zero}
-use Rattle.own_sections.specs.Moves.{Move}
-use Rattle.own_sections.proofs.MoveLemmas.{own_words_are_known}
-use Rattle.run_threads.proofs.NumberLemmas.{threads_are_numbered}
+use Rattle.section_laws.specs.Moves.{Move}
+use Rattle.section_laws.proofs.own_sections.MoveLemmas.{own_words_are_known}
+use Rattle.section_laws.proofs.run_threads.NumberLemmas.{threads_are_numbered}
 use Rattle.first_law.specs.Monitors.{MonitorsFit}
 use Rattle.first_law.specs.InPlace.{IsSeenRun}
 

@@ -22,7 +22,7 @@ use Rattle.thread_automaton.specs.Told.{advanced, shown, told_of, after_answer}
 use Rattle.core_runs.specs.Cores.{Core, threads_by, starting_by, objects_by, lines_by}
 use Rattle.core_runs.specs.Acts.{Act}
 use Rattle.core_runs.specs.Reading.{place_in, waiting_in, thread_in, ordinary}
-use Rattle.level_saves.proofs.SaveLemmas.{HandsNone}
+use Rattle.section_laws.proofs.level_saves.SaveLemmas.{HandsNone}
 use Rattle.first_law.specs.InPlace.{IsSeenRun}
 use Rattle.first_law.proofs.TurnLemmas.{Keeps, words_part, starts_part, monitors_part, classes_part, threads_part}
 use Rattle.first_law.proofs.EntryLemmas.{IsUsual, HasEntry, Done, did_at, after, live_from, then_live, event_entry, waits_still}

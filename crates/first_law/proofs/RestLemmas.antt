@@ -29,11 +29,11 @@ use Rattle.automaton_rows.proofs.RowLemmas.{answers_are_rows, words_can_answer}
 use Rattle.core_runs.specs.Cores.{Core, threads_by}
 use Rattle.core_runs.specs.Acts.{Act, quiet, did, beside, QuietAt, DidAt, ActAt}
 use Rattle.section_laws.proofs.FactLemmas.{each}
-use Rattle.run_threads.proofs.SeenLemmas.{stays, prints_line, ends_thread, seen_steps}
-use Rattle.run_layout.specs.Layout.{Objects, FitsObjects}
-use Rattle.run_layout.proofs.LaidLemmas.{is_there, is_such}
-use Rattle.start_words.proofs.AttemptLemmas.{IsStarting, starts_none, draws_number, starts_thread, finds_start, start_steps}
-use Rattle.level_saves.proofs.SaveLemmas.{is_live}
+use Rattle.section_laws.proofs.run_threads.SeenLemmas.{stays, prints_line, ends_thread, seen_steps}
+use Rattle.section_laws.specs.Layout.{Objects, FitsObjects}
+use Rattle.section_laws.proofs.run_layout.LaidLemmas.{is_there, is_such}
+use Rattle.section_laws.proofs.start_words.AttemptLemmas.{IsStarting, starts_none, draws_number, starts_thread, finds_start, start_steps}
+use Rattle.section_laws.proofs.level_saves.SaveLemmas.{is_live}
 
 -- a thread ends where that is wanted
 abbrev EndsFor : Next → Step → Change → Type 0

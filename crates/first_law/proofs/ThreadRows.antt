@@ -34,13 +34,13 @@ use Rattle.core_runs.specs.Reading.{thread_in, ordinary}
 use Rattle.section_laws.proofs.WordLemmas.{exchanged, stays_at}
 use Rattle.section_laws.proofs.ClaimLemmas.{found_is}
 use Rattle.section_laws.proofs.NumberLemmas.{number_at}
-use Rattle.run_threads.proofs.NumberLemmas.{Numbers, numbers_at}
-use Rattle.run_layout.proofs.LaidLemmas.{is_such}
-use Rattle.run_layout.proofs.NameLemmas.{Names, step_names}
-use Rattle.run_layout.proofs.PlaceLemmas.{object_other, put_object, one_place}
-use Rattle.start_words.specs.Starts.{IsThreadObject, start_word_of, StartsAreKnown}
-use Rattle.start_words.proofs.WordLemmas.{packed, value_low, above_zero}
-use Rattle.start_words.proofs.RunLemmas.{starts_at}
+use Rattle.section_laws.proofs.run_threads.NumberLemmas.{Numbers, numbers_at}
+use Rattle.section_laws.proofs.run_layout.LaidLemmas.{is_such}
+use Rattle.section_laws.proofs.run_layout.NameLemmas.{Names, step_names}
+use Rattle.section_laws.proofs.run_layout.PlaceLemmas.{object_other, put_object, one_place}
+use Rattle.section_laws.specs.Starts.{IsThreadObject, start_word_of, StartsAreKnown}
+use Rattle.section_laws.proofs.start_words.WordLemmas.{packed, value_low, above_zero}
+use Rattle.section_laws.proofs.start_words.RunLemmas.{starts_at}
 use Rattle.first_law.specs.InPlace.{IsSeenRun}
 use Rattle.first_law.proofs.StateLemmas.{word_kept, start_kept, start_is}
 use Rattle.first_law.proofs.TurnLemmas.{keeps_load, laid, up, known, words_part, starts_part, monitors_part, waiting_part, classes_part, threads_part}

@@ -24,8 +24,8 @@ use Rattle.core_runs.specs.Reading.{waiting_in, thread_in, ordinary}
 use Rattle.ordinary_words.specs.Reading.{word_in, start_in, monitor_in, class_of}
 use Rattle.section_laws.proofs.WordLemmas.{lost, stays_at}
 use Rattle.section_laws.proofs.RunLemmas.{Known, facts_at}
-use Rattle.own_sections.proofs.MoveLemmas.{moves_at}
-use Rattle.run_layout.specs.Layout.{IsLaidRun}
+use Rattle.section_laws.proofs.own_sections.MoveLemmas.{moves_at}
+use Rattle.section_laws.specs.Layout.{IsLaidRun}
 use Rattle.first_law.specs.Monitors.{MonitorsFit}
 use Rattle.first_law.specs.InPlace.{IsSeenRun}
 use Rattle.first_law.proofs.StateLemmas.{equal, word_kept, start_kept, monitor_kept}

@@ -33,15 +33,15 @@ use Rattle.core_runs.specs.Acts.{Act, did}
 use Rattle.core_runs.specs.Entries.{event_told, monitor_shows, go_back_to, back_to, Shows}
 use Rattle.core_runs.specs.Reading.{place_in, waiting_in, thread_in, ordinary}
 use Rattle.section_laws.proofs.DeedLemmas.{above}
-use Rattle.run_threads.proofs.NumberLemmas.{threads_are_numbered}
-use Rattle.run_layout.proofs.ListLemmas.{In, in_filter, in_reverse}
-use Rattle.run_layout.proofs.LaidLemmas.{There, monitor_there}
-use Rattle.run_layout.proofs.NameLemmas.{Names, step_names}
-use Rattle.run_layout.proofs.PlaceLemmas.{put_object}
-use Rattle.level_marks.proofs.RunLemmas.{undone_levels_have_marks}
-use Rattle.section_levels.proofs.RunLemmas.{levels_are_counted}
-use Rattle.level_saves.specs.Saves.{StoodAt, SavesStand}
-use Rattle.level_saves.proofs.SaveLemmas.{HandsNone, stands_so, saves_at}
+use Rattle.section_laws.proofs.run_threads.NumberLemmas.{threads_are_numbered}
+use Rattle.section_laws.proofs.run_layout.ListLemmas.{In, in_filter, in_reverse}
+use Rattle.section_laws.proofs.run_layout.LaidLemmas.{There, monitor_there}
+use Rattle.section_laws.proofs.run_layout.NameLemmas.{Names, step_names}
+use Rattle.section_laws.proofs.run_layout.PlaceLemmas.{put_object}
+use Rattle.section_laws.proofs.level_marks.RunLemmas.{undone_levels_have_marks}
+use Rattle.section_laws.proofs.section_levels.RunLemmas.{levels_are_counted}
+use Rattle.section_laws.specs.LevelSaves.{StoodAt, SavesStand}
+use Rattle.section_laws.proofs.level_saves.SaveLemmas.{HandsNone, stands_so, saves_at}
 use Rattle.first_law.specs.Monitors.{FitsMonitorWord}
 use Rattle.first_law.specs.InPlace.{IsSeenRun}
 use Rattle.first_law.proofs.StateLemmas.{differs}

@@ -27,7 +27,7 @@ use Rattle.thread_automaton.specs.Told.{shown, told_of, after_answer}
 use Rattle.automaton_rows.proofs.RowLemmas.{by_if}
 use Rattle.core_runs.specs.Cores.{Core, threads_by, starting_by, objects_by, lines_by}
 use Rattle.core_runs.specs.Reading.{place_in, waiting_in}
-use Rattle.level_saves.proofs.SaveLemmas.{HandsNone}
+use Rattle.section_laws.proofs.level_saves.SaveLemmas.{HandsNone}
 use Rattle.first_law.specs.InPlace.{IsSeenRun}
 use Rattle.first_law.proofs.TurnLemmas.{Keeps, keeps_load, keeps_lost}
 use Rattle.first_law.proofs.EntryLemmas.{NoReply, IsUsual, Stance, stance, HasEntry, Done, Unseen, unseen_entry, waits_still}

@@ -34,9 +34,9 @@ use Rattle.core_runs.specs.Cores.{Core}
 use Rattle.core_runs.specs.Acts.{Act}
 use Rattle.core_runs.specs.Reading.{waiting_in, ordinary}
 use Rattle.section_laws.proofs.WordLemmas.{Exchanged, exchanged, stays_at}
-use Rattle.run_threads.proofs.NumberLemmas.{threads_are_numbered}
+use Rattle.section_laws.proofs.run_threads.NumberLemmas.{threads_are_numbered}
 use Rattle.section_laws.proofs.ClaimLemmas.{found_is}
-use Rattle.run_layout.proofs.PlaceLemmas.{put_object}
+use Rattle.section_laws.proofs.run_layout.PlaceLemmas.{put_object}
 use Rattle.first_law.specs.Monitors.{FixedHolds, FixedWaits, WaitsHold, WaitWordSays}
 use Rattle.first_law.specs.InPlace.{IsSeenRun}
 use Rattle.first_law.proofs.TurnLemmas.{keeps_load, up, words_part, starts_part, monitors_part, classes_part, threads_part, waiting_so}

@@ -7,8 +7,8 @@ use Rattle.heap_words.specs.declared.areas.Area.{Area}
 use Rattle.heap_words.specs.Words.{value_of}
 use Rattle.step_port.specs.Words.{Words}
 use Rattle.ordinary_words.specs.Reading.{word_in, start_in}
-use Rattle.run_layout.specs.Layout.{Objects, object_end}
-use Rattle.run_layout.proofs.PlaceLemmas.{one_place}
+use Rattle.section_laws.specs.Layout.{Objects, object_end}
+use Rattle.section_laws.proofs.run_layout.PlaceLemmas.{one_place}
 use Rattle.first_law.proofs.StateLemmas.{word_is, word_kept, start_kept}
 
 -- where in an object's words a place lies that isn't that of word i of the object at r

@@ -32,16 +32,16 @@ use Rattle.thread_automaton.specs.Checks.{written_word, noted}
 use Rattle.core_runs.specs.Cores.{Core, objects_by}
 use Rattle.core_runs.specs.Acts.{Act}
 use Rattle.core_runs.specs.Reading.{place_in, ordinary}
-use Rattle.level_saves.proofs.SaveLemmas.{stands_so}
+use Rattle.section_laws.proofs.level_saves.SaveLemmas.{stands_so}
 use Rattle.section_laws.proofs.WordLemmas.{exchanged, stays_at}
 use Rattle.section_laws.proofs.ClaimLemmas.{none_some, found_is}
-use Rattle.run_layout.specs.Layout.{object_end, IsWordPlace, IsNewObject}
-use Rattle.run_layout.proofs.ListLemmas.{In}
-use Rattle.run_layout.proofs.LaidLemmas.{is_there, is_such, placed, NextFits, Laid}
-use Rattle.run_layout.proofs.NameLemmas.{step_names}
-use Rattle.run_layout.proofs.PlaceLemmas.{object_other, put_object, one_place}
-use Rattle.run_layout.proofs.FillLemmas.{Filled}
-use Rattle.run_layout.proofs.RunLemmas.{laid_at, stays, is_new}
+use Rattle.section_laws.specs.Layout.{object_end, IsWordPlace, IsNewObject}
+use Rattle.section_laws.proofs.run_layout.ListLemmas.{In}
+use Rattle.section_laws.proofs.run_layout.LaidLemmas.{is_there, is_such, placed, NextFits, Laid}
+use Rattle.section_laws.proofs.run_layout.NameLemmas.{step_names}
+use Rattle.section_laws.proofs.run_layout.PlaceLemmas.{object_other, put_object, one_place}
+use Rattle.section_laws.proofs.run_layout.FillLemmas.{Filled}
+use Rattle.section_laws.proofs.run_layout.RunLemmas.{laid_at, stays, is_new}
 use Rattle.first_law.specs.InPlace.{IsSeenRun}
 use Rattle.first_law.proofs.StateLemmas.{word_is, word_kept, start_kept}
 use Rattle.first_law.proofs.TurnLemmas.{keeps_load, laid, within, up, known, monitors_part, waiting_part, classes_part, threads_part, stays_part}

@@ -13,10 +13,10 @@ use Rattle.core_runs.specs.Acts.{Act}
 use Rattle.core_runs.specs.Entries.{ShowFrom}
 use Rattle.core_runs.specs.Reading.{ordinary}
 use Rattle.section_laws.specs.Runs.{IsRun}
-use Rattle.run_threads.specs.Ends.{HasNoEnds}
-use Rattle.run_layout.specs.Layout.{free_place, ObjectsLieApart}
-use Rattle.run_bits.specs.Bits.{BeginsInBits}
-use Rattle.start_words.specs.Starts.{BeginsWithStarts}
+use Rattle.section_laws.specs.Ends.{HasNoEnds}
+use Rattle.section_laws.specs.Layout.{free_place, ObjectsLieApart}
+use Rattle.section_laws.specs.Bits.{BeginsInBits}
+use Rattle.section_laws.specs.Starts.{BeginsWithStarts}
 use Rattle.first_law.specs.Monitors.{MonitorsFit}
 use Rattle.first_law.specs.InPlace.{IsSeenRun}
 

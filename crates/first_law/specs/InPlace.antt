@@ -10,10 +10,10 @@ use Rattle.core_runs.specs.Cores.{Core}
 use Rattle.core_runs.specs.Acts.{Act}
 use Rattle.core_runs.specs.Reading.{ordinary}
 use Rattle.core_runs.specs.Entries.{ShowFrom}
-use Rattle.run_threads.specs.Ends.{HasNoEnds}
-use Rattle.run_layout.specs.Layout.{free_place, ObjectsLieApart, WantsFitObjects}
-use Rattle.start_words.specs.Starts.{BeginsWithStarts}
-use Rattle.section_levels.specs.Levels.{IsLevelledRun}
+use Rattle.section_laws.specs.Ends.{HasNoEnds}
+use Rattle.section_laws.specs.Layout.{free_place, ObjectsLieApart, WantsFitObjects}
+use Rattle.section_laws.specs.Starts.{BeginsWithStarts}
+use Rattle.section_laws.specs.Levels.{IsLevelledRun}
 use Rattle.first_law.specs.Monitors.{MonitorsFit}
 
 -- A run that begins as it has to, whose threads want what fits the objects, and whose monitors are held as they have to be.

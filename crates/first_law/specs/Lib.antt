@@ -1,3 +1,11 @@
 pub mod Monitors
 pub mod InPlace
 pub mod Grounded
+pub mod RunMonitors
+pub mod Held
+pub mod Laws
+pub mod SettledRuns
+pub mod Agreed
+pub mod Waits
+pub mod Free
+pub mod Cuts

@@ -3,6 +3,12 @@
 //! Each function does nothing: its contract is the law.
 #![tactic(auto)]
 
+pub mod agreed_monitors;
+pub mod doomed_cuts;
+pub mod grounded_monitors;
+pub mod run_monitors;
+pub mod settled_monitors;
+
 ghost use Rattle.first_law.specs.InPlace.{RunsAreInPlace};
 ghost use Rattle.first_law.specs.Grounded.{GroundedRunsAreSeen, GroundedRunsAreInPlace};
 

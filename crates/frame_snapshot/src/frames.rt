@@ -72,6 +72,10 @@ impl From<AllocError> for PushRefusal {
 /// How many frames can lie below the top one.
 const MOST_BELOW: usize = 1023;
 
+/// For how many words a thread has room from the beginning: 256 bytes. So the words of two threads share no line of a processor's
+/// memory, on which two host threads would have to wait for each other.
+const FIRST_ROOM: usize = 64;
+
 impl Frames {
     /// The lowest frame of a thread, which executes no code: the method that it launches, and how many words its stack
     /// may have.
@@ -83,7 +87,7 @@ impl Frames {
     ) -> Result<Frames, AllocError>
         ensures { IfOk result (λ frames. frames ≡ launch_frame method stage room) }
     {
-        let mut words = Vec::new(alloc);
+        let mut words = Vec::with_capacity(alloc, FIRST_ROOM)?;
         words.resize(usize::from(room), 0)?;
         let here = Activation {
             method,

@@ -23,8 +23,8 @@ use Rattle.section_laws.specs.Runs.{IsRun, IsBeginning}
 use Rattle.section_laws.specs.InRuns.{StandsBehind, with_entries, IsPlaceIn, ActsTo, BeginsSo, BeginAsHandedOut}
 use Rattle.section_laws.proofs.ActLemmas.{take_whole, runs_reach_states}
 use Rattle.section_laws.proofs.CoreRunLemmas.{begin_with_runs}
-use Rattle.run_threads.specs.Numbers.{AreNumbered}
-use Rattle.run_threads.proofs.NumberLemmas.{threads_are_numbered}
+use Rattle.section_laws.specs.Numbers.{AreNumbered}
+use Rattle.section_laws.proofs.run_threads.NumberLemmas.{threads_are_numbered}
 use Rattle.thread_moves.specs.Thread.{thread_of}
 use Rattle.thread_moves.specs.declared.thread.JThread.{JThread}
 use Rattle.opening_cores.specs.Openings.{opening_core}

@@ -1,7 +1,7 @@
 //! A program's threads run.
 
 ghost use Rattle.std.specs.Prelude.{◌≡◌, ◌<◌, ◌^◌, IfOk};
-ghost use Rattle.accepted_programs.specs.Programs.{IsOfFiles};
+ghost use Rattle.accepted_runs.specs.Programs.{IsOfFiles};
 ghost use Rattle.java_run.specs.Check.{state_in};
 ghost use Rattle.java_run.specs.Run.{IsHostedRunOf, IsRunOf, IsTraceOf, shown};
 ghost use Rattle.java_words.specs.WordRun.{machine_at_start};

@@ -24,8 +24,8 @@ use Rattle.word_runs.specs.Laws.{begun_with}
 use Rattle.core_law.specs.Erasure.{is_left_out}
 use Rattle.core_law.specs.Idle.{NoneIsEnabled}
 use Rattle.core_law.specs.Stuck.{HeldUpTurnsAreIdle}
-use Rattle.run_journals.specs.Laws.{JournalsHaveEvents}
-use Rattle.waiting_runs.specs.Waiting.{EndsWaiting}
+use Rattle.core_law.specs.JournalLaws.{JournalsHaveEvents}
+use Rattle.accepted_runs.specs.Waiting.{EndsWaiting}
 use Rattle.accepted_runs.specs.HeldUp.{IdleRunsEndWaiting}
 use Rattle.accepted_runs.specs.Runs.{ProgramRunsAreErased, AreErasedTurns, ProgramTurnsAreErased}
 use Rattle.accepted_runs.specs.Left.{TurnsTellTexts, TurnsTellEnds}

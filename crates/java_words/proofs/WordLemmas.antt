@@ -21,7 +21,7 @@ use Rattle.plain_words.specs.Opening.{HasPlace, areas_of}
 use Rattle.thread_automaton.specs.declared.Bounds.{Bounds}
 use Rattle.core_runs.specs.Cores.{Core}
 use Rattle.core_runs.specs.Acts.{Act, ActFrom}
-use Rattle.run_threads.proofs.LineLemmas.{tickets_are_lines}
+use Rattle.section_laws.proofs.run_threads.LineLemmas.{tickets_are_lines}
 use Rattle.opening_cores.specs.Openings.{opening_core}
 use Rattle.word_runs.specs.WordTurns.{Progress, word_turns}
 use Rattle.word_runs.specs.Laws.{AreActs}

@@ -19,9 +19,9 @@ use Rattle.trace_journal.specs.Text.{undos_in}
 use Rattle.word_runs.specs.WordTurns.{Progress, word_turns}
 use Rattle.word_runs.specs.Laws.{begun_with}
 use Rattle.core_law.specs.Erasure.{is_left_out}
-use Rattle.run_journals.specs.Journal.{run_journal}
+use Rattle.core_law.specs.Journal.{run_journal}
 use Rattle.opening_cores.specs.Openings.{opening_core}
-use Rattle.waiting_runs.specs.Waiting.{EndsWaiting}
+use Rattle.accepted_runs.specs.Waiting.{EndsWaiting}
 use Rattle.accepted_runs.specs.Runs.{AreErasedTurns}
 use Rattle.sched_core.specs.Outcome.{rest_of, TellsPlace}
 use Rattle.java_words.specs.WordRun.{program_bounds, machine_at_start, of_words}

@@ -18,7 +18,7 @@ use Rattle.thread_automaton.specs.declared.Bounds.{Bounds}
 use Rattle.core_law.specs.Erasure.{is_left_out}
 use Rattle.word_runs.specs.WordTurns.{Progress}
 use Rattle.opening_cores.specs.Openings.{opening_core}
-use Rattle.waiting_runs.specs.Waiting.{EndsWaiting}
+use Rattle.accepted_runs.specs.Waiting.{EndsWaiting}
 use Rattle.accepted_runs.specs.Runs.{AreErasedTurns}
 use Rattle.sched_core.specs.declared.word_outcome.WordOutcome.{WordOutcome}
 use Rattle.sched_core.specs.Outcome.{bounds_of, IsOutcome}

@@ -1,7 +1,7 @@
 //! The run of a program on host threads.
 
 ghost use Rattle.std.specs.Prelude.{◌≡◌, ◌<◌, ◌^◌, IfOk};
-ghost use Rattle.accepted_programs.specs.Programs.{IsOfFiles};
+ghost use Rattle.accepted_runs.specs.Programs.{IsOfFiles};
 ghost use Rattle.java_words.specs.HostedRun.{IsHostedRun};
 
 use crate::run::outcome_of;

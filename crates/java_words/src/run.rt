@@ -1,7 +1,7 @@
 //! The run of a program on shared words.
 
 ghost use Rattle.std.specs.Prelude.{◌≡◌, ◌<◌, ◌^◌, None, IfOk};
-ghost use Rattle.accepted_programs.specs.Programs.{IsOfFiles};
+ghost use Rattle.accepted_runs.specs.Programs.{IsOfFiles};
 ghost use Rattle.java_words.specs.WordRun.{of_words, IsWordRun};
 
 use accepted_runs::{

@@ -1,7 +1,7 @@
 //! The run of a program on shared words that keeps a journal.
 
 ghost use Rattle.std.specs.Prelude.{◌≡◌, ◌<◌, ◌^◌, Some, IfOk};
-ghost use Rattle.accepted_programs.specs.Programs.{IsOfFiles};
+ghost use Rattle.accepted_runs.specs.Programs.{IsOfFiles};
 ghost use Rattle.java_words.specs.TracedRun.{IsTracedRun};
 ghost use Rattle.java_words.specs.WordRun.{of_words};
 
@@ -10,12 +10,12 @@ use accepted_runs::{
     held_up_programs_wait, turns_tell_ends,
 };
 use core_law::held_up_turns_are_idle;
+use core_law::run_journals::journals_have_events;
 use interp_calls::{JavaCode, JavaProgram};
 use java_machine::opening;
 use op_core::{Limits, NoMemory, Outcome};
 use plain_words::has_place;
 use program_accept::Program;
-use run_journals::journals_have_events;
 use schedules::Schedule;
 use std::alloc::Global;
 use traced_runs::laws::{kept_journals_fit, rows_left_are_journals};

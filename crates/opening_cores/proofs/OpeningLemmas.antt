@@ -13,19 +13,19 @@ use Rattle.fixed_objects.specs.Opening.{opening_state}
 use Rattle.heap_words.specs.declared.areas.Area.{Area}
 use Rattle.heap_words.specs.Words.{tag_of, pack_header, class_word, class_state}
 use Rattle.plain_words.specs.Opening.{opening_words}
-use Rattle.opening_law.specs.Laws.{StandFor}
-use Rattle.opening_law.proofs.OpeningLemmas.{own_range, own_threads, is_inside, stand_for}
+use Rattle.opening_cores.specs.Laws.{StandFor}
+use Rattle.opening_cores.proofs.opening_law.OpeningLemmas.{own_range, own_threads, is_inside, stand_for}
 use Rattle.thread_automaton.specs.declared.Bounds.{Bounds}
 use Rattle.thread_automaton.specs.ThreadState.{ThreadState, first_state}
 use Rattle.core_runs.specs.Cores.{Core}
 use Rattle.core_runs.specs.Acts.{Act, ActFrom}
 use Rattle.core_runs.specs.Reading.{thread_in, waiting_in, ordinary}
 use Rattle.section_laws.specs.Runs.{BeginsAt, IsBeginning}
-use Rattle.run_threads.specs.Numbers.{AreNumbered}
-use Rattle.run_layout.specs.Layout.{ObjectsLieApart, free_place, object_end}
-use Rattle.run_bits.specs.Bits.{BeginsInBits}
-use Rattle.start_words.specs.Starts.{IsThreadObject, start_word_of, IsStarted, StartWordsSay, BeginsWithStarts}
-use Rattle.kept_cores.specs.KeptCores.{IsBegunRun}
+use Rattle.section_laws.specs.Numbers.{AreNumbered}
+use Rattle.section_laws.specs.Layout.{ObjectsLieApart, free_place, object_end}
+use Rattle.section_laws.specs.Bits.{BeginsInBits}
+use Rattle.section_laws.specs.Starts.{IsThreadObject, start_word_of, IsStarted, StartWordsSay, BeginsWithStarts}
+use Rattle.opening_cores.specs.KeptCores.{IsBegunRun}
 use Rattle.opening_cores.specs.Openings.{opening_core, CanBegin, OpeningsBeginRuns, OpeningsAreOrdinary, OpeningsHaveNoTags}
 use Rattle.opening_cores.proofs.PlaceLemmas.{Fixed, fixed_of, ends, header_word, monitor_word, start_word, lie_apart, empty_from, word_low, untagged, started_is, started_main}
 

@@ -16,9 +16,9 @@ use Rattle.fixed_objects.specs.Opening.{StartsMain}
 use Rattle.heap_words.specs.declared.areas.Area.{Area}
 use Rattle.heap_words.specs.Words.{pack, pack_header, tag_of}
 use Rattle.plain_words.specs.Opening.{EndsBelow, HasPlace, lies_over, object_over, word_behind, word_over, first_value, opening_words}
-use Rattle.opening_law.specs.Laws.{HasRanges, TellsThreads}
-use Rattle.opening_law.proofs.PlaceLemmas.{all_found, passes, is_over}
-use Rattle.opening_law.proofs.OpeningLemmas.{behind_word, own_range, own_reference, word_at}
+use Rattle.opening_cores.specs.Laws.{HasRanges, TellsThreads}
+use Rattle.opening_cores.proofs.opening_law.PlaceLemmas.{all_found, passes, is_over}
+use Rattle.opening_cores.proofs.opening_law.OpeningLemmas.{behind_word, own_range, own_reference, word_at}
 
 -- ---- sizes
 

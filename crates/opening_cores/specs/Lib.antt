@@ -1,1 +1,3 @@
 pub mod Openings
+pub mod Laws
+pub mod KeptCores

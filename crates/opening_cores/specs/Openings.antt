@@ -13,9 +13,9 @@ use Rattle.thread_automaton.specs.ThreadState.{first_state}
 use Rattle.core_runs.specs.Cores.{Core}
 use Rattle.core_runs.specs.Acts.{Act, ActFrom}
 use Rattle.core_runs.specs.Reading.{ordinary}
-use Rattle.run_layout.specs.Layout.{IsWordPlace}
-use Rattle.opening_law.specs.Laws.{HasRanges, TellsThreads}
-use Rattle.kept_cores.specs.KeptCores.{IsBegunRun}
+use Rattle.section_laws.specs.Layout.{IsWordPlace}
+use Rattle.opening_cores.specs.Laws.{HasRanges, TellsThreads}
+use Rattle.opening_cores.specs.KeptCores.{IsBegunRun}
 
 -- The words and the objects of an opening, and main's thread, whose number is 1 and whose priority is 5, at its first local
 -- state: no thread is started, no level is open, and nothing is printed.

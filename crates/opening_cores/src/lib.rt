@@ -3,6 +3,9 @@
 //! Each function does nothing: its contract is the law.
 #![tactic(auto)]
 
+pub mod kept_cores;
+pub mod opening_law;
+
 ghost use Rattle.opening_cores.specs.Openings.{OpeningsBeginRuns, OpeningsAreOrdinary, OpeningsHaveNoTags};
 
 use op_core::ThreadCode;

@@ -157,8 +157,8 @@ module _ {C S : Type 0} (code : Code S) (state : C → S) (machine : Ordinary C)
 
   lacking_decided : (l : S) (op : Op) → m.now.threads t ≡ live l → code.next l ≡ Want op → (CanStep m.now t op → ⊥) → Decided (MayAdvance code m t)
   lacking_decided l op begun wanted cannot = elim (lacks_decided m op) [
-    | inl lacks ↦ inl ((lacking_enabled code m t l op true (λ r. owner_there (object_at machine.objects r) t) begun wanted cannot ((λ _. lacks), (λ _. refl))).0 refl)
-    | inr never ↦ inr (λ may. let is : false ≡ true = (lacking_enabled code m t l op false (λ r. owner_there (object_at machine.objects r) t) begun wanted cannot ((λ is. cc), (λ lacks. absurd (never lacks)))).1 may in cc)
+    | inl lacks ↦ inl ((lacking_enabled code m t l op true (λ r. owner_there (object_at machine.state.objects r) t) begun wanted cannot ((λ _. lacks), (λ _. refl))).0 refl)
+    | inr never ↦ inr (λ may. let is : false ≡ true = (lacking_enabled code m t l op false (λ r. owner_there (object_at machine.state.objects r) t) begun wanted cannot ((λ is. cc), (λ lacks. absurd (never lacks)))).1 may in cc)
   ]
 
   next_decided : (l : S) (goes : Next) → m.now.threads t ≡ live l → code.next l ≡ goes → Decided (MayAdvance code m t)
@@ -184,7 +184,7 @@ past_none state seat false begun = begun
 
 pub begun_below : {C S : Type 0} (state : C → S) (machine : Ordinary C) (t : ℕ) → HasBegun ((machine_of state machine).now.threads t) → t < 256
 begun_below {C} state machine t begun =
-    let seat : Option (Seat C) = unwrap_or (slice_get machine.threads.seats.items t) None in
+    let seat : Option (Seat C) = unwrap_or (slice_get machine.state.threads.seats.items t) None in
     elim (leb_tells (suc t) 256) [
       | inl below ↦ let is = below.1 in omega (arith, is)
       | inr past ↦ absurd (past_none state seat (ltb 0 t) (subst (λ b. HasBegun (thread_in state (cond (ltb 0 t && b) seat None))) past.0 begun))

@@ -1,9 +1,5 @@
-pub mod UnitLemmas
-pub mod ChangeLemmas
-pub mod MachineLemmas
 pub mod OperationLemmas
 pub mod ReplayLemmas
-pub mod StartLemmas
 pub mod RunLemmas
 pub mod OutcomeLemmas
 pub mod EnabledLemmas

@@ -1,6 +1,5 @@
 -- Steps that are made from where their thread is.
-use Rattle.std.proofs.Common.{◌≡◌, ℕ, Option, Some, None, IfSome, refl, sym, ◌∙◌, ap, subst}
-use Rattle.std.specs.Option.{option_map}
+use Rattle.std.proofs.Common.{◌≡◌, ℕ, Option, refl, sym, ◌∙◌, ap, subst}
 use Rattle.op_core.specs.declared.Op.{Op}
 use Rattle.op_core.specs.declared.Op.TheVariants.{Start, End}
 use Rattle.op_core.specs.declared.Reply.{Reply}
@@ -13,15 +12,8 @@ use Rattle.op_core.specs.OrdinaryStep.{CanStep, MayAnswer}
 use Rattle.op_core.proofs.ExecutionLemmas.{answers_fit}
 use Rattle.op_core.proofs.GroundedLemmas.{CanStep-with, MayAnswer-with, after-with}
 use Rattle.op_core.proofs.PointwiseLemmas.{set_at-hit, set_at-other, set_at-twice, set_at-back}
-use Rattle.machine_tables.specs.declared.threads.Standing.{Standing}
-use Rattle.machine_tables.specs.declared.threads.Seat.{Seat}
-use Rattle.machine_tables.specs.declared.threads.Threads.{Threads}
-use Rattle.machine_tables.specs.Tables.{seat_at, standing_of, silents_in}
-use Rattle.ordinary_machine.specs.declared.ordinary.Ordinary.{Ordinary}
-use Rattle.ordinary_machine.specs.Machine.{Machine, machine_of, silents_after, taken_after, shared_after, moved, with_thread_at, with_started_at, HasBegun, Wants, Awaits}
+use Rattle.ordinary_machine.specs.Machine.{Machine, silents_after, taken_after, shared_after, moved, with_thread_at, with_started_at, HasBegun, Wants, Awaits}
 use Rattle.ordinary_machine.specs.Step.{IsLive}
-use Rattle.ordinary_machine.proofs.ChangeLemmas.{standing_changed}
-use Rattle.ordinary_machine.proofs.MachineLemmas.{with_threads}
 
 -- a thread awaits the reply to what it wants
 awaits : {S : Type 0} (code : Code S) (m new : Machine S) (t : ℕ) (op : Op) (reply : Reply) (wants : Wants code m t op) → MayAnswer m.now t op reply
@@ -75,18 +67,6 @@ begun_moved {S} code m new last t r p n k answered child is replies l stands =
     ∙ ap (λ j. with_thread_at (with_started_at (with_thread_at m n (live j) 0) r n) t (live (code.reply l (Number n))) 0) (child l stands)
 
 -- A thread that was put where its silent steps lead.
-pub swapped : {C S : Type 0} (state : C → S) (m : Ordinary C) (threads : Threads C) (t : ℕ) (standing : Standing C) (result : Option (Standing C))
-    → result ≡ option_map (λ (x : Seat C). x.standing) (seat_at m.threads t)
-    → ((x : Seat C) → seat_at m.threads t ≡ Some x → seat_at threads ≡ set_at (seat_at m.threads) t (Some (record x { standing = standing })))
-    → IfSome result (λ _. machine_of state (record m { threads = threads }) ≡ with_thread_at (machine_of state m) t (standing_of state standing) (silents_in (seat_at m.threads) t))
-swapped {C} {S} state m threads t standing result is changes = of (seat_at m.threads t) refl result is
-  where
-    of : (o : Option (Seat C)) → seat_at m.threads t ≡ o → (r : Option (Standing C)) → r ≡ option_map (λ (x : Seat C). x.standing) (seat_at m.threads t)
-        → IfSome r (λ _. machine_of state (record m { threads = threads }) ≡ with_thread_at (machine_of state m) t (standing_of state standing) (silents_in (seat_at m.threads) t))
-    of o here None gives = tt
-    of None here (Some s) gives = let none : Some s ≡ None = gives ∙ ap (option_map (λ (x : Seat C). x.standing)) here in cc
-    of (Some x) here (Some s) gives = with_threads state m threads (standing_changed state (seat_at m.threads) (seat_at threads) t standing x here (changes x here))
-
 pub there_wants : {S : Type 0} (code : Code S) (m new : Machine S) (t : ℕ) (l : S) (op : Op) → new ≡ with_thread_at m t (live l) (m.silents t) → code.next l ≡ Want op → Wants code new t op
 there_wants {S} code m new t l op is wanted = record { place = l; begun = ap (λ (x : Machine S). x.now.threads t) is ∙ set_at-hit m.now.threads t (live l); wanted = wanted }
 

@@ -1,5 +1,5 @@
 -- What `advance` answers for one thread, and what it leaves.
-use Rattle.std.specs.Prelude.{◌≡◌, ℕ, suc, ◌+◌, ◌<◌, ◌≤◌, ◌⊎◌, Some}
+use Rattle.std.specs.Prelude.{◌≡◌, ℕ, ◌+◌, ◌<◌, ◌≤◌, ◌⊎◌}
 use Rattle.op_core.specs.declared.Op.{Op}
 use Rattle.op_core.specs.declared.Op.TheVariants.{New, Enter, Start}
 use Rattle.op_core.specs.declared.Reply.{Reply}
@@ -10,9 +10,10 @@ use Rattle.op_core.specs.declared.Event.{Event}
 use Rattle.op_core.specs.declared.Limits.{Limits}
 use Rattle.op_core.specs.declared.Limit.{Limit}
 use Rattle.op_core.specs.declared.Limit.TheVariants.{Heap, Threads, Frames, Depth}
-use Rattle.op_core.specs.ThreadCode.{Code, quiet_step}
+use Rattle.op_core.specs.ThreadCode.{Code}
 use Rattle.op_core.specs.OrdinaryState.{IsThere, IsOwner, count_of, live, HasEnded, OrdinaryState}
 use Rattle.op_core.specs.OrdinaryStep.{CanStep, MayAnswer, IsFreeNumber, IsFreeReference, IsStep}
+pub use Rattle.machine_state.specs.Machine.{IsSilentTo, IsOutOfFrames}
 use Rattle.ordinary_machine.specs.declared.advance.Advance.{Advance}
 use Rattle.ordinary_machine.specs.declared.advance.Advance.TheVariants.{Silent, Step, Waits, Halts, Ended, Spent}
 use Rattle.ordinary_machine.specs.declared.advance.OpOutcome.{OpOutcome}
@@ -21,7 +22,7 @@ use Rattle.ordinary_machine.specs.declared.advance.OpOutcome.TheVariants as outc
 use Rattle.ordinary_machine.specs.declared.advance.Headway.{Headway}
 use Rattle.ordinary_machine.specs.declared.advance.Headway.TheVariants.{Blocked}
 use Rattle.ordinary_machine.specs.declared.advance.Headway.TheVariants as headway
-use Rattle.ordinary_machine.specs.Machine.{Machine, moved, with_thread_at, HasBegun}
+use Rattle.ordinary_machine.specs.Machine.{Machine, moved, HasBegun}
 
 -- the object is there and has started no thread, and all thread numbers have been drawn
 abbrev pub IsOutOfNumbers : {S : Type 0} → Machine S → ℕ → Type 0
@@ -45,14 +46,6 @@ IsChosen _ _ _ = Unit {0}
 abbrev pub LacksReference : {S : Type 0} → Machine S → Op → Type 0
 LacksReference m (New c n) = IsFreeReference m.now.objects (m.first + m.taken) → ⊥
 LacksReference _ _ = ⊥
-
--- the thread makes a silent step
-pub record IsSilentTo {S : Type 0} (code : Code S) (m : Machine S) (t : ℕ) (new : Machine S) : Type 0 where
-  pub from : S
-  pub behind : S
-  pub begun : m.now.threads t ≡ live from
-  pub quiet : quiet_step code from ≡ Some behind
-  pub leads : new ≡ with_thread_at m t (live behind) (suc (m.silents t))
 
 -- the wanted operation has a step, which is made
 pub record IsAnswered {S : Type 0} (code : Code S) (m : Machine S) (t : ℕ) (limits : Limits) (e : Event) (new : Machine S) : Type 0 where
@@ -82,13 +75,6 @@ pub record HasHalted {S : Type 0} (code : Code S) (m : Machine S) (t : ℕ) : Ty
 
 abbrev pub IsOver : {S : Type 0} → Code S → Machine S → ℕ → Type 0
 IsOver code m t = HasEnded (m.now.threads t) ⊎ HasHalted code m t
-
--- the silent step that comes next would make a 1,025th frame
-pub record IsOutOfFrames {S : Type 0} (code : Code S) (m : Machine S) (t : ℕ) : Type 0 where
-  pub place : S
-  pub begun : m.now.threads t ≡ live place
-  pub silent : code.next place ≡ next.Silent
-  pub many : 1024 < code.frames (code.silent place)
 
 -- the wanted operation meets the limit
 pub record IsAtLimit {S : Type 0} (code : Code S) (m : Machine S) (t : ℕ) (limits : Limits) (limit : Limit) : Type 0 where

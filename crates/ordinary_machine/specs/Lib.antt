@@ -1,5 +1,5 @@
 pub mod Machine
 pub mod Step
-pub mod Start
+pub use Rattle.machine_state.specs.Start
 pub mod Advance
 pub mod Laws

@@ -11,16 +11,13 @@ use Rattle.op_core.specs.OrdinaryStep.{CanStep, MayAnswer}
 use Rattle.op_core.specs.Execution.{Leads, printed}
 use Rattle.ordinary_machine.specs.declared.step.StepRefusal.{StepRefusal}
 use Rattle.ordinary_machine.specs.declared.step.StepRefusal.TheVariants.{NoThread, NotNext, NotEnabled, WrongReply, NoMemory}
+pub use Rattle.machine_state.specs.Machine.{IsLive}
 use Rattle.ordinary_machine.specs.Machine.{Machine, moved}
 
 -- the operation with no text in its line, if it prints one: an event needn't name the text
 abbrev pub without_line : Op → Op
 without_line (Print line) = Print Empty
 without_line op = op
-
--- the thread has begun and hasn't ended
-abbrev pub IsLive : {S : Type 0} → OrdinaryState S → ℕ → Type 0
-IsLive {S} s t = (l : S) × (s.threads t ≡ live l)
 
 -- after exactly the event's number of silent steps, none of which makes a 1,025th frame, its thread
 -- is at l and wants the operation, which is that of the event except for a printed line

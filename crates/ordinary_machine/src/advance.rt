@@ -3,7 +3,7 @@
 ghost use Rattle.std.specs.Prelude.{ℕ, ◌≡◌, ◌↔◌, ◌<◌, ◌≤◌, ◌+◌, IsTrue, IfOk, IfSome, IfNone, MatchOption, OnErr, OnOk, suc};
 ghost use Rattle.op_core.specs.OrdinaryState.{live, IsOwner, count_of};
 ghost use Rattle.op_core.specs.OrdinaryStep.{CanStep, MayAnswer, IsFreeNumber};
-ghost use Rattle.ordinary_machine.specs.Machine.{machine_of, moved, with_thread_at, HasBegun, Wants, Awaits};
+ghost use Rattle.ordinary_machine.specs.Machine.{machine_of, moved, with_thread_at, HasBegun, Wants};
 ghost use Rattle.op_core.specs.declared.Limit.{Limit};
 ghost use Rattle.op_core.specs.declared.Limits.{Limits};
 ghost use Rattle.op_core.specs.declared.Op.{Op};
@@ -94,35 +94,26 @@ fn headway_of(answer: Advance) -> Headway
 }
 
 impl<C: ThreadCode + Drop> Ordinary<C> {
-    #[inline(always)]
-    pub(crate) fn silent_steps(&self, thread: u8) -> u64
-        ensures { result ≡ (machine_of C.state self.now).silents thread }
-    {
-        match self.threads.get(thread) {
-            Some(seat) => seat.silent,
-            None => 0,
-        }
-    }
-
     fn is_deep(&self, thread: u8, reference: u32) -> bool
         ensures { IsTrue result ↔ (IsOwner thread ((machine_of C.state self.now).now.monitors reference) × (65535 ≤ count_of ((machine_of C.state self.now).now.monitors reference))) }
     {
-        self.objects.is_owner(thread, reference) && self.objects.monitor(reference).count() >= 65535
+        self.state.objects.is_owner(thread, reference)
+            && self.state.objects.monitor(reference).count() >= 65535
     }
 
     fn is_out_of_heap(&self, words: u64, limits: &Limits) -> bool
         ensures { IsTrue result ↔ (limits.now.heap < (machine_of C.state self.now).taken + (2 + words)) }
     {
-        let room = (limits.heap as u64).saturating_sub(self.taken);
+        let room = (limits.heap as u64).saturating_sub(self.state.taken);
         room < 2 || room - 2 < words
     }
 
     fn is_out_of_numbers(&self, reference: u32) -> bool
         ensures { IsTrue result ↔ IsOutOfNumbers (machine_of C.state self.now) reference }
     {
-        self.objects.has(reference)
-            && self.objects.started(reference) == 0
-            && !self.has_free_number()
+        self.state.objects.has(reference)
+            && self.state.objects.started(reference) == 0
+            && !self.state.has_free_number()
     }
 
     fn lacks_number(&self, op: Op) -> bool
@@ -138,7 +129,7 @@ impl<C: ThreadCode + Drop> Ordinary<C> {
     pub fn is_enabled(&self, thread: u8) -> bool
         ensures { IsTrue result ↔ MayAdvance C.code (machine_of C.state self.now) thread }
     {
-        let Some(code) = self.live(thread) else {
+        let Some(code) = self.state.live(thread) else {
             return false;
         };
         match code.next() {
@@ -156,7 +147,7 @@ impl<C: ThreadCode + Drop> Ordinary<C> {
     {
         match op {
             Op::New(class, length)
-                if self.is_out_of_heap(self.words_of(thread, class, length), limits) => Some(
+                if self.is_out_of_heap(self.state.words_of(thread, class, length), limits) => Some(
                 Limit::Heap,
             ),
             Op::Start(reference, _) if self.is_out_of_numbers(reference) => Some(Limit::Threads),
@@ -170,14 +161,14 @@ impl<C: ThreadCode + Drop> Ordinary<C> {
         ensures free { IsFreeNumber (machine_of C.state self.now).now.threads result }
         ensures lowest { (k : ℕ) → IsFreeNumber (machine_of C.state self.now).now.threads k → result ≤ k }
     {
-        self.threads.free_number().unwrap_or(0)
+        self.state.threads.free_number().unwrap_or(0)
     }
 
     fn choose_class(&self, thread: u8, reference: u32) -> Reply
         requires { CanStep (machine_of C.state self.now).now thread (Op.ClassOf reference) }
         ensures { MayAnswer (machine_of C.state self.now).now thread (Op.ClassOf reference) result }
     {
-        match self.objects.get(reference) {
+        match self.state.objects.get(reference) {
             Some(object) => Reply::Class(object.class, object.length),
             None => Reply::Class(0, 0),
         }
@@ -189,12 +180,12 @@ impl<C: ThreadCode + Drop> Ordinary<C> {
         ensures may { IfSome result (MayAnswer (machine_of C.state self.now).now thread (Op.New class length)) }
         ensures chosen { IfSome result (IsChosen (machine_of C.state self.now) (Op.New class length)) }
     {
-        let reference = (self.first as u64).checked_add(self.taken)?;
+        let reference = (self.state.first as u64).checked_add(self.state.taken)?;
         if reference == 0 || reference >= 0x1_0000_0000 {
             return None;
         }
         let reference = reference as u32;
-        if self.objects.has(reference) {
+        if self.state.objects.has(reference) {
             return None;
         }
         Some(Reply::Made(reference))
@@ -205,7 +196,7 @@ impl<C: ThreadCode + Drop> Ordinary<C> {
         ensures may { MayAnswer (machine_of C.state self.now).now thread (Op.Start reference priority) result }
         ensures chosen { IsChosen (machine_of C.state self.now) (Op.Start reference priority) result }
     {
-        if self.objects.started(reference) > 0 {
+        if self.state.objects.started(reference) > 0 {
             Reply::Already
         } else {
             Reply::Number(self.lowest_number())
@@ -216,7 +207,7 @@ impl<C: ThreadCode + Drop> Ordinary<C> {
         requires { CanStep (machine_of C.state self.now).now thread (Op.Init class) }
         ensures { MayAnswer (machine_of C.state self.now).now thread (Op.Init class) result }
     {
-        match self.classes.get(class) {
+        match self.state.classes.get(class) {
             ClassProgress::Unready => Reply::Claimed,
             ClassProgress::Claimed(_) | ClassProgress::Ready => Reply::Ready,
             ClassProgress::Bad => Reply::Bad,
@@ -226,8 +217,8 @@ impl<C: ThreadCode + Drop> Ordinary<C> {
     fn choose_notified(&self, thread: u8, reference: u32) -> Reply
         ensures { MayAnswer (machine_of C.state self.now).now thread (Op.Notify reference) result }
     {
-        if self.objects.is_owner(thread, reference) {
-            Reply::Woken(self.threads.first_waiting(reference))
+        if self.state.objects.is_owner(thread, reference) {
+            Reply::Woken(self.state.threads.first_waiting(reference))
         } else {
             Reply::NotOwner
         }
@@ -237,7 +228,7 @@ impl<C: ThreadCode + Drop> Ordinary<C> {
         ensures exit { MayAnswer (machine_of C.state self.now).now thread (Op.Exit reference) result }
         ensures wait { MayAnswer (machine_of C.state self.now).now thread (Op.Wait reference) result }
     {
-        if self.objects.is_owner(thread, reference) {
+        if self.state.objects.is_owner(thread, reference) {
             Reply::Done
         } else {
             Reply::NotOwner
@@ -253,7 +244,9 @@ impl<C: ThreadCode + Drop> Ordinary<C> {
     {
         match op {
             Op::ClassOf(reference) => Some(self.choose_class(thread, reference)),
-            Op::Read(reference, place) => Some(Reply::Value(self.objects.word(reference, place))),
+            Op::Read(reference, place) => Some(Reply::Value(
+                self.state.objects.word(reference, place),
+            )),
             Op::New(class, length) => self.choose_object(thread, class, length),
             Op::Exit(reference) | Op::Wait(reference) => Some(self.done_by_owner(
                 thread, reference,
@@ -277,8 +270,12 @@ impl<C: ThreadCode + Drop> Ordinary<C> {
         ensures ok { OnOk result (machine_of C.state self.new ≡ with_thread_at (machine_of C.state self.old) thread (live (C.state code)) (suc ((machine_of C.state self.old).silents thread))) }
         ensures err { OnErr result (machine_of C.state self.new ≡ machine_of C.state self.old) }
     {
-        let silent = self.silent_steps(thread).checked_add(1).ok_or(NoMemory)?;
-        self.put_thread(thread, Standing::Live(code), silent);
+        let silent = self
+            .state
+            .silent_steps(thread)
+            .checked_add(1)
+            .ok_or(NoMemory)?;
+        self.state.put_thread(thread, Standing::Live(code), silent);
         Ok(())
     }
 
@@ -290,7 +287,7 @@ impl<C: ThreadCode + Drop> Ordinary<C> {
         ensures ok { IfOk result (λ advance. Advances C.code (machine_of C.state self.old) thread limits.now advance (machine_of C.state self.new)) }
         ensures err { OnErr result (machine_of C.state self.new ≡ machine_of C.state self.old) }
     {
-        let Some(code) = self.live(thread) else {
+        let Some(code) = self.state.live(thread) else {
             return Ok(Advance::Ended);
         };
         match after_silent_steps(code, 1)? {
@@ -309,7 +306,7 @@ impl<C: ThreadCode + Drop> Ordinary<C> {
         ensures ok { IfOk result (λ advance. Advances C.code (machine_of C.state self.old) thread limits.now advance (machine_of C.state self.new)) }
         ensures err { OnErr result (machine_of C.state self.new ≡ machine_of C.state self.old) }
     {
-        match self.make_silent(thread) {
+        match self.state.make_silent(thread) {
             Ok(true) => Ok(Advance::Silent),
             Ok(false) => self.leave_silently(thread, limits),
             Err(CodeStop::Frames) => Ok(Advance::Spent(Limit::Frames)),
@@ -340,7 +337,7 @@ impl<C: ThreadCode + Drop> Ordinary<C> {
         ensures { MatchOption result (CanStep (machine_of C.state self.now).now thread (Op.Read reference place) → ⊥)
             (λ reply. IsGiven (machine_of C.state self.now).now thread (Op.Read reference place) reply) }
     {
-        let word = self.objects.get(reference)?.words.get(place)?;
+        let word = self.state.objects.get(reference)?.words.get(place)?;
         Some(Reply::Value(word))
     }
 
@@ -350,7 +347,7 @@ impl<C: ThreadCode + Drop> Ordinary<C> {
         ensures { MatchOption result (CanStep (machine_of C.state self.now).now thread (Op.ClassOf reference) → ⊥)
             (λ reply. IsGiven (machine_of C.state self.now).now thread (Op.ClassOf reference) reply) }
     {
-        let object = self.objects.get(reference)?;
+        let object = self.state.objects.get(reference)?;
         Some(Reply::Class(object.class, object.length))
     }
 
@@ -362,7 +359,7 @@ impl<C: ThreadCode + Drop> Ordinary<C> {
     {
         match self.find_word(thread, reference, place) {
             Some(reply) => {
-                self.reply_to(thread, reply);
+                self.state.reply_to(thread, reply);
                 OpOutcome::Replied(reply)
             }
             None => OpOutcome::Waits,
@@ -377,7 +374,7 @@ impl<C: ThreadCode + Drop> Ordinary<C> {
     {
         match self.find_class(thread, reference) {
             Some(reply) => {
-                self.reply_to(thread, reply);
+                self.state.reply_to(thread, reply);
                 OpOutcome::Replied(reply)
             }
             None => OpOutcome::Waits,
@@ -390,8 +387,8 @@ impl<C: ThreadCode + Drop> Ordinary<C> {
         requires { Wants C.code (machine_of C.state self.old) thread (Op.Write reference place value) }
         ensures { MakesWanted C.code (machine_of C.state self.old) thread (Op.Write reference place value) result (machine_of C.state self.new) }
     {
-        if self.write_word(reference, place, value) {
-            self.reply_to(thread, Reply::Done);
+        if self.state.write_word(reference, place, value) {
+            self.state.reply_to(thread, Reply::Done);
             OpOutcome::Replied(Reply::Done)
         } else {
             OpOutcome::Waits
@@ -441,13 +438,13 @@ impl<C: ThreadCode + Drop> Ordinary<C> {
         ensures ok { IfOk result (λ advance. Advances C.code (machine_of C.state self.old) thread limits.now advance (machine_of C.state self.new)) }
         ensures err { OnErr result (machine_of C.state self.new ≡ machine_of C.state self.old) }
     {
-        let Some(code) = self.live(thread) else {
+        let Some(code) = self.state.live(thread) else {
             return Ok(Advance::Ended);
         };
         match code.next() {
             Next::Silent => self.try_silent(thread, limits),
             Next::Want(op) => {
-                let silent = self.silent_steps(thread);
+                let silent = self.state.silent_steps(thread);
                 let outcome = self.make_wanted(thread, op, limits)?;
                 Ok(answer_of(thread, silent, op, outcome))
             }
@@ -484,7 +481,7 @@ impl<C: ThreadCode + Drop> Ordinary<C> {
         ensures ok { IfOk result (λ headway. MakesHeadway C.code (machine_of C.state self.old) thread limits.now headway (machine_of C.state self.new)) }
         ensures err { OnErr result (machine_of C.state self.new ≡ machine_of C.state self.old) }
     {
-        let Some(code) = self.live(thread) else {
+        let Some(code) = self.state.live(thread) else {
             return Ok(Headway::Blocked);
         };
         match code.next() {

@@ -1,6 +1,6 @@
 //! The step of each operation, made with a reply that it may have.
 
-ghost use Rattle.std.specs.Prelude.{◌≡◌, ℕ, Option, IfOk, OnOk, OnErr};
+ghost use Rattle.std.specs.Prelude.{◌≡◌, ℕ, Option, OnOk, OnErr};
 ghost use Rattle.op_core.specs.OrdinaryState.{live};
 ghost use Rattle.op_core.specs.OrdinaryStep.{CanStep, MayAnswer};
 ghost use Rattle.ordinary_machine.specs.Machine.{machine_of, shared_after, moved, woken_of, HasBegun, Wants};
@@ -21,16 +21,6 @@ fn woken_in(reply: Reply) -> u8
 }
 
 impl<C: ThreadCode + Drop> Ordinary<C> {
-    // How many words a new object has that a thread makes.
-    pub(crate) fn words_of(&self, thread: u8, class: u32, length: u32) -> u64
-        ensures { (l : C.State) → (machine_of C.state self.now).now.threads thread ≡ live l → result ≡ C.code.words l class length }
-    {
-        match self.live(thread) {
-            Some(code) => code.words(class, length),
-            None => 0,
-        }
-    }
-
     fn make_object(
         &mut self,
         thread: u8,
@@ -45,8 +35,8 @@ impl<C: ThreadCode + Drop> Ordinary<C> {
     {
         match reply {
             Reply::Made(reference) => {
-                let count = self.words_of(thread, class, length);
-                self.put_object(reference, class, length, count)
+                let count = self.state.words_of(thread, class, length);
+                self.state.put_object(reference, class, length, count)
             }
             _ => Ok(()),
         }
@@ -58,9 +48,9 @@ impl<C: ThreadCode + Drop> Ordinary<C> {
         ensures ok { OnOk result ((l : C.State) → machine_of C.state self.new ≡ shared_after C.code (machine_of C.state self.old) thread l (Op.Enter reference) reply) }
         ensures err { OnErr result (machine_of C.state self.new ≡ machine_of C.state self.old) }
     {
-        match self.objects.monitor(reference).entered(thread) {
+        match self.state.objects.monitor(reference).entered(thread) {
             Some(monitor) => {
-                self.put_monitor(reference, monitor);
+                self.state.put_monitor(reference, monitor);
                 Ok(())
             }
             None => Err(NoMemory),
@@ -72,9 +62,9 @@ impl<C: ThreadCode + Drop> Ordinary<C> {
         requires answered { MayAnswer (machine_of C.state self.old).now thread (Op.Exit reference) reply }
         ensures { (l : C.State) → machine_of C.state self.new ≡ shared_after C.code (machine_of C.state self.old) thread l (Op.Exit reference) reply }
     {
-        if self.objects.is_owner(thread, reference) {
-            let monitor = self.objects.monitor(reference).exited();
-            self.put_monitor(reference, monitor);
+        if self.state.objects.is_owner(thread, reference) {
+            let monitor = self.state.objects.monitor(reference).exited();
+            self.state.put_monitor(reference, monitor);
         }
     }
 
@@ -84,10 +74,11 @@ impl<C: ThreadCode + Drop> Ordinary<C> {
         requires answered { MayAnswer (machine_of C.state self.old).now thread (Op.Wait reference) reply }
         ensures { (l : C.State) → machine_of C.state self.new ≡ shared_after C.code (machine_of C.state self.old) thread l (Op.Wait reference) reply }
     {
-        if self.objects.is_owner(thread, reference) {
-            let count = self.objects.monitor(reference).count();
-            self.put_waiting(thread, WaitState::Waits(reference, count));
-            self.put_monitor(reference, MonitorState::Free);
+        if self.state.objects.is_owner(thread, reference) {
+            let count = self.state.objects.monitor(reference).count();
+            self.state
+                .put_waiting(thread, WaitState::Waits(reference, count));
+            self.state.put_monitor(reference, MonitorState::Free);
         }
     }
 
@@ -97,9 +88,10 @@ impl<C: ThreadCode + Drop> Ordinary<C> {
         requires answered { MayAnswer (machine_of C.state self.old).now thread (Op.Rewake reference) reply }
         ensures { (l : C.State) → machine_of C.state self.new ≡ shared_after C.code (machine_of C.state self.old) thread l (Op.Rewake reference) reply }
     {
-        let count = self.threads.waiting(thread).saved_count();
-        self.put_waiting(thread, WaitState::Awake);
-        self.put_monitor(reference, MonitorState::Held(thread, count));
+        let count = self.state.threads.waiting(thread).saved_count();
+        self.state.put_waiting(thread, WaitState::Awake);
+        self.state
+            .put_monitor(reference, MonitorState::Held(thread, count));
     }
 
     fn notify(&mut self, thread: u8, reference: u32, reply: Reply)
@@ -108,8 +100,8 @@ impl<C: ThreadCode + Drop> Ordinary<C> {
     {
         let woken = woken_in(reply);
         if woken > 0 {
-            let waiting = self.threads.waiting(woken).notified();
-            self.put_waiting(woken, waiting);
+            let waiting = self.state.threads.waiting(woken).notified();
+            self.state.put_waiting(woken, waiting);
         }
     }
 
@@ -118,8 +110,8 @@ impl<C: ThreadCode + Drop> Ordinary<C> {
         ensures ok { OnOk result ((l : C.State) → machine_of C.state self.new ≡ shared_after C.code (machine_of C.state self.old) thread l (Op.Init class) reply) }
         ensures err { OnErr result (machine_of C.state self.new ≡ machine_of C.state self.old) }
     {
-        if self.classes.is_unready(class) {
-            self.put_class(class, ClassProgress::Claimed(thread))
+        if self.state.classes.is_unready(class) {
+            self.state.put_class(class, ClassProgress::Claimed(thread))
         } else {
             Ok(())
         }
@@ -137,9 +129,9 @@ impl<C: ThreadCode + Drop> Ordinary<C> {
         ensures err { OnErr result (machine_of C.state self.new ≡ machine_of C.state self.old) }
     {
         if well {
-            self.put_class(class, ClassProgress::Ready)
+            self.state.put_class(class, ClassProgress::Ready)
         } else {
-            self.put_class(class, ClassProgress::Bad)
+            self.state.put_class(class, ClassProgress::Bad)
         }
     }
 
@@ -154,29 +146,19 @@ impl<C: ThreadCode + Drop> Ordinary<C> {
         ensures err { OnErr result (machine_of C.state self.new ≡ machine_of C.state self.old) }
     {
         match op {
-            Op::Write(reference, place, value) => self.put_word(reference, place, value),
+            Op::Write(reference, place, value) => self.state.put_word(reference, place, value),
             Op::New(class, length) => self.make_object(thread, class, length, reply)?,
             Op::Enter(reference) => self.enter(thread, reference, reply)?,
             Op::Exit(reference) => self.exit(thread, reference, reply),
             Op::Wait(reference) => self.wait(thread, reference, reply),
             Op::Rewake(reference) => self.rewake(thread, reference, reply),
             Op::Notify(reference) => self.notify(thread, reference, reply),
-            Op::Print(line) => self.put_line(line)?,
+            Op::Print(line) => self.state.put_line(line)?,
             Op::Init(class) => self.init(thread, class, reply)?,
             Op::InitDone(class, well) => self.init_done(thread, class, well, reply)?,
             Op::ClassOf(_) | Op::Read(_, _) | Op::Start(_, _) | Op::Join(_) | Op::End(_) => {}
         }
         Ok(())
-    }
-
-    // The first state of the thread that an object starts.
-    fn child_of(&self, thread: u8, reference: u32) -> Result<C, NoMemory>
-        ensures { IfOk result (λ child. (l : C.State) → (machine_of C.state self.now).now.threads thread ≡ live l → C.state child ≡ C.code.child l reference) }
-    {
-        match self.live(thread) {
-            Some(code) => code.child(reference),
-            None => Err(NoMemory),
-        }
     }
 
     fn begin(
@@ -193,10 +175,10 @@ impl<C: ThreadCode + Drop> Ordinary<C> {
             → machine_of C.state self.new ≡ moved C.code (machine_of C.state self.old) thread l (Op.Start reference priority) (Reply.Number number)) }
         ensures err { OnErr result (machine_of C.state self.new ≡ machine_of C.state self.old) }
     {
-        let child = self.child_of(thread, reference)?;
-        self.put_new_thread(number, child)?;
-        self.put_started(reference, number);
-        self.reply_to(thread, Reply::Number(number));
+        let child = self.state.child_of(thread, reference)?;
+        self.state.put_new_thread(number, child)?;
+        self.state.put_started(reference, number);
+        self.state.reply_to(thread, Reply::Number(number));
         Ok(())
     }
 
@@ -211,7 +193,7 @@ impl<C: ThreadCode + Drop> Ordinary<C> {
         ensures err { OnErr result (machine_of C.state self.new ≡ machine_of C.state self.old) }
     {
         self.share(thread, op, reply)?;
-        self.reply_to(thread, reply);
+        self.state.reply_to(thread, reply);
         Ok(())
     }
 
@@ -227,7 +209,7 @@ impl<C: ThreadCode + Drop> Ordinary<C> {
     {
         match op {
             Op::End(class) => {
-                self.put_thread(thread, Standing::Ended(class), 0);
+                self.state.put_thread(thread, Standing::Ended(class), 0);
                 Ok(())
             }
             Op::Start(reference, priority) => match reply {
@@ -253,14 +235,14 @@ impl<C: ThreadCode + Drop> Ordinary<C> {
         ensures ok { OnOk result (machine_of C.state self.new ≡ moved C.code (machine_of C.state self.old) thread (C.state code) op reply) }
         ensures err { OnErr result (machine_of C.state self.new ≡ machine_of C.state self.old) }
     {
-        let silent = self.silent_steps(thread);
-        let Some(before) = self.swap_standing(thread, Standing::Live(code)) else {
+        let silent = self.state.silent_steps(thread);
+        let Some(before) = self.state.swap_standing(thread, Standing::Live(code)) else {
             return Err(NoMemory);
         };
         match self.make(thread, op, reply) {
             Ok(()) => Ok(()),
             Err(error) => {
-                self.put_thread(thread, before, silent);
+                self.state.put_thread(thread, before, silent);
                 Err(error)
             }
         }

@@ -1,14 +1,13 @@
 //! The step of one event, and why an event is refused.
 
-ghost use Rattle.std.specs.Prelude.{◌≡◌, ◌↔◌, ◌≤◌, ℕ, IfOk, IfErr, OnOk, OnErr, MatchOption, IsTrue};
+ghost use Rattle.std.specs.Prelude.{◌≡◌, ◌↔◌, ◌≤◌, ℕ, IfOk, IfErr, OnOk, OnErr, IsTrue};
 ghost use Rattle.op_core.specs.declared.Op.{Op};
 ghost use Rattle.op_core.specs.OrdinaryState.{live};
 ghost use Rattle.op_core.specs.OrdinaryStep.{CanStep, MayAnswer};
 ghost use Rattle.ordinary_machine.specs.Machine.{machine_of, RunsSilently};
-ghost use Rattle.ordinary_machine.specs.Step.{without_line, IsLive, IsNext, IsStepTo, Refuses};
+ghost use Rattle.ordinary_machine.specs.Step.{without_line, IsNext, IsStepTo, Refuses};
 
 use crate::Ordinary;
-use machine_tables::Standing;
 use op_core::{Event, Line, Next, NoMemory, Op, ThreadCode, after_silent_steps};
 
 /// Why an event isn't the next step of an execution, the first cause in this order.
@@ -55,21 +54,12 @@ fn is_same(wanted: Op, named: Op) -> bool
 }
 
 impl<C: ThreadCode + Drop> Ordinary<C> {
-    pub(crate) fn live(&self, thread: u8) -> Option<&C>
-        ensures { MatchOption result (IsLive (machine_of C.state self.now).now thread → ⊥) (λ code. (machine_of C.state self.now).now.threads thread ≡ live (C.state code.now)) }
-    {
-        match &self.threads.get(thread)?.standing {
-            Standing::Live(code) => Some(code),
-            Standing::Ended(_) => None,
-        }
-    }
-
     // The code at the place where its thread wants the event's operation, and that operation.
     fn find(&self, event: &Event) -> Result<(C, Op), StepRefusal>
         ensures ok { IfOk result (λ found. IsNext C.code (machine_of C.state self.now).now event.now (C.state found.0) found.1) }
         ensures refused { IfErr result (Refuses C.code (machine_of C.state self.now).now event.now) }
     {
-        let Some(from) = self.live(event.thread) else {
+        let Some(from) = self.state.live(event.thread) else {
             return Err(StepRefusal::NoThread);
         };
         let Some(code) = after_silent_steps(from, event.silent)? else {
@@ -87,7 +77,7 @@ impl<C: ThreadCode + Drop> Ordinary<C> {
         ensures ok { IfOk result (λ op. (l : C.State) × IsNext C.code (machine_of C.state self.now).now event.now l op) }
         ensures refused { IfErr result (Refuses C.code (machine_of C.state self.now).now event.now) }
     {
-        let Some(code) = self.live(event.thread) else {
+        let Some(code) = self.state.live(event.thread) else {
             return Err(StepRefusal::NoThread);
         };
         match code.next() {

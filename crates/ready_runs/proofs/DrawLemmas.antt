@@ -24,8 +24,8 @@ use Rattle.section_laws.proofs.WordLemmas.{stays_at}
 use Rattle.section_laws.proofs.ClaimLemmas.{none_some}
 use Rattle.section_laws.proofs.FactLemmas.{each}
 use Rattle.section_laws.proofs.RunLemmas.{along}
-use Rattle.run_threads.specs.Numbers.{AreNumbered}
-use Rattle.run_threads.proofs.NumberLemmas.{threads_are_numbered, threads_are_new}
+use Rattle.section_laws.specs.Numbers.{AreNumbered}
+use Rattle.section_laws.proofs.run_threads.NumberLemmas.{threads_are_numbered, threads_are_new}
 use Rattle.ready_runs.proofs.SumLemmas.{sum_below, sum_rises, sum_rises_by, sum_is_low, of_thread, sum_up, sum_up_by}
 use Rattle.ready_runs.proofs.CountLemmas.{draws, draws_count, counts_most, turns_left}
 

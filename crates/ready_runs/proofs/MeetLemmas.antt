@@ -42,15 +42,15 @@ use Rattle.core_runs.specs.Acts.{Act, quiet, did, beside, DidAt, ActAt}
 use Rattle.section_laws.proofs.ClaimLemmas.{found_is}
 use Rattle.section_laws.proofs.FactLemmas.{each}
 use Rattle.section_laws.proofs.RunLemmas.{act_at, along, Known, facts_at}
-use Rattle.run_layout.specs.Layout.{IsLaidRun, IsWordPlace}
-use Rattle.run_layout.proofs.LaidLemmas.{NextFits, is_there, placed}
-use Rattle.run_monitors.specs.Held.{OpensWithin}
-use Rattle.run_monitors.specs.Monitors.{IsMonitorRun, IsObject}
-use Rattle.run_monitors.proofs.RunLemmas.{threads_hold, monitors_are_held}
+use Rattle.section_laws.specs.Layout.{IsLaidRun, IsWordPlace}
+use Rattle.section_laws.proofs.run_layout.LaidLemmas.{NextFits, is_there, placed}
+use Rattle.first_law.specs.Held.{OpensWithin}
+use Rattle.first_law.specs.RunMonitors.{IsMonitorRun, IsObject}
+use Rattle.first_law.proofs.run_monitors.RunLemmas.{threads_hold, monitors_are_held}
 use Rattle.written_words.specs.Writers.{writers}
 use Rattle.written_words.specs.Tags.{IsWrittenRun, TagSays}
 use Rattle.written_words.proofs.RunLemmas.{tags_say_writers}
-use Rattle.noted_words.specs.Noted.{heap_of}
+use Rattle.written_words.specs.Noted.{heap_of}
 use Rattle.ready_runs.proofs.MoveLemmas.{of_step}
 
 -- ---- numbers

@@ -21,8 +21,8 @@ use Rattle.thread_automaton.specs.ThreadState.{ThreadState, is_open}
 use Rattle.thread_automaton.specs.NextMove.{own_pin, first_step, next_move}
 use Rattle.automaton_rows.specs.Fits.{FixedFits, AttemptFits}
 use Rattle.core_runs.specs.Cores.{Core}
-use Rattle.start_words.specs.Starts.{start_word_of, StartsFit}
-use Rattle.run_monitors.specs.Held.{OpensWithin}
+use Rattle.section_laws.specs.Starts.{start_word_of, StartsFit}
+use Rattle.first_law.specs.Held.{OpensWithin}
 use Rattle.ready_runs.specs.Ready.{HasWordsFor}
 use Rattle.ready_runs.proofs.MoveLemmas.{of_step}
 use Rattle.ready_runs.proofs.MeetLemmas.{met_by}

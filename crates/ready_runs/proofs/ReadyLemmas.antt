@@ -37,19 +37,19 @@ use Rattle.core_runs.specs.Acts.{Act}
 use Rattle.core_runs.specs.Reading.{end_wanted, place_in, thread_in, ordinary}
 use Rattle.section_laws.proofs.DeedLemmas.{makes_it}
 use Rattle.section_laws.proofs.RunLemmas.{Known, facts_at}
-use Rattle.run_threads.specs.Numbers.{AreNumbered}
-use Rattle.run_threads.proofs.NumberLemmas.{threads_are_numbered}
-use Rattle.run_layout.specs.Layout.{FitsObjects, IsLaidRun, IsWordPlace, object_end}
-use Rattle.run_layout.specs.Places.{IsInObject}
-use Rattle.run_layout.proofs.LaidLemmas.{NextFits, is_there, is_such, write_there}
-use Rattle.run_layout.proofs.NameLemmas.{step_names}
-use Rattle.run_layout.proofs.PlaceLemmas.{Place, in_object, in_block, step_place}
-use Rattle.run_layout.proofs.RunLemmas.{laid_at, runs_keep_layout}
-use Rattle.start_words.specs.Starts.{IsThreadObject, start_word_of, StartsAreKnown}
-use Rattle.start_words.proofs.RunLemmas.{starts_are_known}
-use Rattle.held_levels.proofs.StandLemmas.{threads_stand_in_order}
-use Rattle.grounded_monitors.specs.Free.{IsFreeRun}
-use Rattle.grounded_monitors.proofs.RunLemmas.{free_runs_are_in_place}
+use Rattle.section_laws.specs.Numbers.{AreNumbered}
+use Rattle.section_laws.proofs.run_threads.NumberLemmas.{threads_are_numbered}
+use Rattle.section_laws.specs.Layout.{FitsObjects, IsLaidRun, IsWordPlace, object_end}
+use Rattle.section_laws.specs.Places.{IsInObject}
+use Rattle.section_laws.proofs.run_layout.LaidLemmas.{NextFits, is_there, is_such, write_there}
+use Rattle.section_laws.proofs.run_layout.NameLemmas.{step_names}
+use Rattle.section_laws.proofs.run_layout.PlaceLemmas.{Place, in_object, in_block, step_place}
+use Rattle.section_laws.proofs.run_layout.RunLemmas.{laid_at, runs_keep_layout}
+use Rattle.section_laws.specs.Starts.{IsThreadObject, start_word_of, StartsAreKnown}
+use Rattle.section_laws.proofs.start_words.RunLemmas.{starts_are_known}
+use Rattle.section_laws.proofs.held_levels.StandLemmas.{threads_stand_in_order}
+use Rattle.first_law.specs.Free.{IsFreeRun}
+use Rattle.first_law.proofs.grounded_monitors.RunLemmas.{free_runs_are_in_place}
 use Rattle.quick_turn_laws.specs.Laws.{IsNotWaitedFor}
 use Rattle.thread_moves.specs.Change.{NamesThread}
 use Rattle.ready_runs.specs.Ready.{HasWordsFor, IsRunInRoom, IsAllowed, CanStep, StepsAreAllowed, WritesAreApart, TablesAreReady}

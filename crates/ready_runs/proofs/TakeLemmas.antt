@@ -36,9 +36,9 @@ use Rattle.core_runs.specs.Cores.{Core, threads_by}
 use Rattle.core_runs.specs.Acts.{Act, quiet, did, beside, DidAt, ActAt}
 use Rattle.section_laws.proofs.WordLemmas.{stays_at}
 use Rattle.section_laws.proofs.RunLemmas.{along, facts_at}
-use Rattle.run_threads.specs.Numbers.{AreNumbered}
-use Rattle.run_layout.specs.Layout.{Objects, IsLaidRun}
-use Rattle.run_layout.proofs.LaidLemmas.{NextFits}
+use Rattle.section_laws.specs.Numbers.{AreNumbered}
+use Rattle.section_laws.specs.Layout.{Objects, IsLaidRun}
+use Rattle.section_laws.proofs.run_layout.LaidLemmas.{NextFits}
 use Rattle.ready_runs.proofs.MoveLemmas.{of_step}
 use Rattle.ready_runs.proofs.SumLemmas.{sum_below, sum_rises, sum_rises_by, sum_is_low, of_thread, sum_up, sum_up_by}
 use Rattle.ready_runs.proofs.CountLemmas.{overdrawn, none_overdrawn}

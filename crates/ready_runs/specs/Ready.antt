@@ -18,7 +18,7 @@ use Rattle.thread_automaton.specs.ThreadState.{ThreadState}
 use Rattle.thread_automaton.specs.NextMove.{next_move}
 use Rattle.core_runs.specs.Cores.{Core}
 use Rattle.core_runs.specs.Acts.{Act}
-use Rattle.grounded_monitors.specs.Free.{IsFreeRun}
+use Rattle.first_law.specs.Free.{IsFreeRun}
 use Rattle.written_words.specs.Tags.{IsWrittenRun}
 use Rattle.quick_turn_laws.specs.Laws.{IsNotWaitedFor}
 use Rattle.thread_moves.specs.Change.{NamesThread}

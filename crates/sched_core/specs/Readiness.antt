@@ -16,7 +16,7 @@ use Rattle.thread_automaton.specs.ThreadState.{ThreadState}
 use Rattle.thread_automaton.specs.NextMove.{next_move}
 use Rattle.core_runs.specs.Cores.{Core}
 use Rattle.core_runs.specs.Acts.{Act, ActFrom}
-use Rattle.run_threads.specs.Lines.{LinesHaveTickets}
+use Rattle.section_laws.specs.Lines.{LinesHaveTickets}
 pub use Rattle.quick_turn_laws.specs.Laws.{IsNotWaitedFor}
 use Rattle.thread_moves.specs.Thread.{CanBeAsked}
 use Rattle.thread_moves.specs.Change.{NamesThread}

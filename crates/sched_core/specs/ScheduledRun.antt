@@ -25,7 +25,7 @@ use Rattle.word_machine.specs.Machine.{threads_in, IsCoreOf, is_enabled_in}
 use Rattle.turn_runs.specs.Turns.{TurnMove, Turns, StaysReady}
 use Rattle.sched_core.specs.declared.word_run.WordRun.{WordRun}
 use Rattle.core_runs.specs.Cores.{Core}
-use Rattle.run_threads.specs.Lines.{LinesHaveTickets}
+use Rattle.section_laws.specs.Lines.{LinesHaveTickets}
 use Rattle.word_texts.specs.Texts.{AreTextsOf}
 use Rattle.sched_core.specs.declared.word_outcome.WordOutcome.{WordOutcome}
 use Rattle.sched_core.specs.Outcome.{AreEnds}

@@ -17,7 +17,7 @@ use Rattle.op_core.proofs.PointwiseLemmas.{set_at-hit, set_at-other, same_or_oth
 use Rattle.fixed_objects.specs.declared.FixedObject.{FixedObject}
 use Rattle.fixed_objects.specs.Opening.{opening_state}
 use Rattle.plain_words.specs.Opening.{EndsBelow, LiesBehind, KeepsStartWord as KeepsItsStartWord}
-use Rattle.opening_law.specs.Laws.{HasRanges, TellsThreads}
+use Rattle.opening_cores.specs.Laws.{HasRanges, TellsThreads}
 use Rattle.opening_cores.specs.Openings.{CanBegin}
 use Rattle.table_cases.specs.Program.{program_steps, waiting_steps, is_thread, program_objects as objects, program_opening as opening, limits_with}
 

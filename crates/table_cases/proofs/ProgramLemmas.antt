@@ -20,8 +20,8 @@ use Rattle.fixed_objects.specs.declared.Opening.{Opening}
 use Rattle.fixed_objects.specs.Opening.{opening_state}
 use Rattle.fixed_objects.proofs.OpeningLemmas.{no_words}
 use Rattle.kept_states.specs.Kept.{Objects, Keeps, IsKeptState}
-use Rattle.kept_cores.specs.KeptCores.{KeepsFitting}
-use Rattle.opening_law.proofs.OpeningLemmas.{own_threads, is_inside}
+use Rattle.opening_cores.specs.KeptCores.{KeepsFitting}
+use Rattle.opening_cores.proofs.opening_law.OpeningLemmas.{own_threads, is_inside}
 use Rattle.opening_cores.specs.Openings.{CanBegin}
 use Rattle.opening_cores.proofs.PlaceLemmas.{fixed_of, ends}
 use Rattle.table_words.specs.declared.setup.Setup.{Setup}

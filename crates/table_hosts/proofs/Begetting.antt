@@ -18,7 +18,7 @@ use Rattle.rollback_core.specs.Turn.{Says, Turned}
 use Rattle.thread_moves.specs.declared.thread.JThread.{JThread}
 use Rattle.rollback_core.specs.declared.turned.Turn.{Turn}
 use Rattle.section_laws.proofs.CoreRunLemmas.{in_front, none_there}
-use Rattle.run_parts.specs.NextSteps.{step_made}
+use Rattle.section_laws.specs.NextSteps.{step_made}
 use Rattle.table_words.specs.declared.setup.Setup.{Setup}
 use Rattle.table_words.specs.declared.setup.ThreadPart.{ThreadPart}
 use Rattle.table_words.specs.declared.seat.TableSeat.{TableSeat}

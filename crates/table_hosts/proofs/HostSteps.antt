@@ -6,7 +6,7 @@ use Rattle.step_port.specs.declared.step.Step.{Step}
 use Rattle.core_runs.specs.OwnParts.{MakesOwn, is_beside}
 use Rattle.thread_moves.specs.Thread.{thread_of}
 use Rattle.thread_moves.specs.declared.thread.JThread.{JThread}
-use Rattle.run_parts.specs.NextSteps.{step_made}
+use Rattle.section_laws.specs.NextSteps.{step_made}
 use Rattle.table_words.specs.declared.setup.Setup.{Setup}
 use Rattle.table_words.specs.declared.setup.ThreadPart.{ThreadPart}
 use Rattle.table_words.specs.Setups.{setup_bounds}

@@ -12,7 +12,7 @@ use Rattle.thread_automaton.specs.Told.{Told, probed, advanced, born, lost, bloc
 use Rattle.thread_moves.specs.Thread.{thread_of}
 use Rattle.rollback_core.specs.Turn.{Says, Turned}
 use Rattle.rollback_core.specs.declared.turned.Turn.{Turn}
-use Rattle.run_parts.specs.NextSteps.{step_made}
+use Rattle.section_laws.specs.NextSteps.{step_made}
 use Rattle.table_words.specs.declared.setup.Setup.{Setup}
 use Rattle.table_words.specs.declared.setup.ThreadPart.{ThreadPart}
 use Rattle.table_words.specs.declared.seat.TableSeat.{TableSeat}

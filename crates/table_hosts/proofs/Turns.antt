@@ -18,7 +18,7 @@ use Rattle.core_runs.specs.OwnParts.{MakesOwn, OwnTo, births}
 use Rattle.section_laws.specs.InRuns.{StandsBehind}
 use Rattle.section_laws.proofs.CoreRunLemmas.{begun_later, begin_with_runs, equal, run_facts}
 use Rattle.thread_moves.specs.Change.{NamesThread}
-use Rattle.run_parts.specs.NextSteps.{step_made}
+use Rattle.section_laws.specs.NextSteps.{step_made}
 use Rattle.table_words.specs.declared.setup.Setup.{Setup}
 use Rattle.table_words.specs.declared.setup.ThreadPart.{ThreadPart}
 use Rattle.table_words.specs.Setups.{setup_bounds, setup_words, first_birth}

@@ -3,7 +3,7 @@ use Rattle.std.specs.Prelude.{◌≡◌, List}
 use Rattle.op_core.specs.ThreadCode.{Code}
 use Rattle.step_port.specs.declared.answer.StepAnswer.{StepAnswer}
 use Rattle.step_port.specs.declared.step.Step.{Step}
-use Rattle.run_parts.specs.NextSteps.{step_made}
+use Rattle.section_laws.specs.NextSteps.{step_made}
 use Rattle.table_words.specs.declared.table.TableWords.{TableWords}
 use Rattle.table_words.specs.Tables.{parts_of_seat}
 use Rattle.table_words.specs.Views.{first_after}

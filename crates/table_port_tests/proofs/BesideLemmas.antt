@@ -13,7 +13,7 @@ use Rattle.step_port.specs.declared.step.Step.{Step}
 use Rattle.section_state.specs.SectionWord.{state_of, pinned_of, depth_of}
 use Rattle.section_laws.proofs.CoreRunLemmas.{in_front, none_there}
 use Rattle.core_runs.specs.OwnParts.{can_break}
-use Rattle.run_parts.specs.NextSteps.{step_made}
+use Rattle.section_laws.specs.NextSteps.{step_made}
 use Rattle.table_words.specs.declared.port.TablePort.{TablePort}
 use Rattle.table_words.specs.declared.setup.Setup.{Setup}
 use Rattle.table_words.specs.declared.setup.ThreadPart.{ThreadPart}

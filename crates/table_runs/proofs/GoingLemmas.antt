@@ -25,8 +25,8 @@ use Rattle.core_runs.specs.Cores.{Core}
 use Rattle.section_laws.specs.InRuns.{StandsBehind, IsMaker, with_entries, IsPlaceIn, ActsOf, BeginsSo, BeginAsHandedOut}
 use Rattle.section_laws.proofs.ActLemmas.{take_whole, runs_have_acts}
 use Rattle.section_laws.proofs.CoreRunLemmas.{begun_later, begin_with_runs}
-use Rattle.run_parts.specs.NextSteps.{after_move, next_quiet, state_after_part, step_made}
-use Rattle.run_parts.proofs.NextStepLemmas.{quiet_join, quiet_front, part_says}
+use Rattle.section_laws.specs.NextSteps.{after_move, next_quiet, state_after_part, step_made}
+use Rattle.section_laws.proofs.run_parts.NextStepLemmas.{quiet_join, quiet_front, part_says}
 use Rattle.thread_moves.specs.Thread.{CanBeAsked}
 use Rattle.thread_moves.specs.Change.{NamesThread}
 use Rattle.kept_states.specs.Kept.{Objects}

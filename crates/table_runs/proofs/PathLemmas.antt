@@ -16,8 +16,8 @@ use Rattle.thread_automaton.specs.Told.{after_quiet}
 use Rattle.core_runs.specs.OwnParts.{Quietly}
 use Rattle.core_runs.specs.Cores.{Core, core_after}
 use Rattle.core_runs.specs.Acts.{Act, quiet, did, beside, ActAt, ActFrom}
-use Rattle.run_parts.specs.NextSteps.{next_quiet}
-use Rattle.run_parts.proofs.NextStepLemmas.{quiet_front}
+use Rattle.section_laws.specs.NextSteps.{next_quiet}
+use Rattle.section_laws.proofs.run_parts.NextStepLemmas.{quiet_front}
 
 module _ {S : Type 0} (code : Code S) (b : Bounds) where
   -- of two ways along silent moves from the same state one goes on from where the other ends

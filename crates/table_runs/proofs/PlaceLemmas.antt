@@ -12,13 +12,13 @@ use Rattle.thread_automaton.specs.ThreadState.{ThreadState}
 use Rattle.core_runs.specs.Cores.{Core}
 use Rattle.core_runs.specs.Acts.{Act, ActFrom}
 use Rattle.core_runs.specs.Reading.{ordinary}
-use Rattle.run_layout.specs.Layout.{IsWordPlace}
-use Rattle.grounded_monitors.proofs.RunLemmas.{free_runs_fit_objects, free_runs_hold_monitors}
-use Rattle.held_levels.proofs.StandLemmas.{threads_stand_in_order}
+use Rattle.section_laws.specs.Layout.{IsWordPlace}
+use Rattle.first_law.proofs.grounded_monitors.RunLemmas.{free_runs_fit_objects, free_runs_hold_monitors}
+use Rattle.section_laws.proofs.held_levels.StandLemmas.{threads_stand_in_order}
 use Rattle.written_words.specs.Tags.{IsWrittenRun}
 use Rattle.kept_states.specs.Kept.{Objects, IsKeptState}
-use Rattle.kept_cores.specs.KeptCores.{CoresAreKept}
-use Rattle.kept_cores.proofs.CoreLemmas.{cores_keep}
+use Rattle.opening_cores.specs.KeptCores.{CoresAreKept}
+use Rattle.opening_cores.proofs.kept_cores.CoreLemmas.{cores_keep}
 use Rattle.opening_cores.specs.Openings.{opening_core}
 use Rattle.opening_cores.proofs.OpeningLemmas.{openings_begin_runs, openings_are_ordinary, openings_have_no_tags}
 use Rattle.thread_moves.specs.Thread.{CanBeAsked}

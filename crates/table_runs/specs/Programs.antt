@@ -6,7 +6,7 @@ use Rattle.op_core.specs.InPlaceList.{IsGrounded}
 use Rattle.op_core.specs.Orderly.{IsOrderly, StartWordsAreKept}
 use Rattle.fixed_objects.specs.Opening.{opening_state}
 use Rattle.kept_states.specs.Kept.{Objects, IsKeptState}
-use Rattle.kept_cores.specs.KeptCores.{KeepsFitting}
+use Rattle.opening_cores.specs.KeptCores.{KeepsFitting}
 use Rattle.opening_cores.specs.Openings.{CanBegin}
 use Rattle.table_words.specs.declared.setup.Setup.{Setup}
 use Rattle.table_words.specs.Setups.{setup_bounds}

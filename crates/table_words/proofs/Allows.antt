@@ -10,7 +10,7 @@ use Rattle.step_port.specs.declared.step.Step.{Step}
 use Rattle.step_port.specs.Steps.{place_of, effect_of, IsOwnStep}
 use Rattle.step_port.specs.Words.{answer_to}
 use Rattle.core_runs.specs.OwnParts.{is_beside}
-use Rattle.run_parts.specs.NextSteps.{step_made}
+use Rattle.section_laws.specs.NextSteps.{step_made}
 use Rattle.table_words.specs.declared.setup.Setup.{Setup}
 use Rattle.table_words.specs.declared.setup.ThreadPart.{ThreadPart}
 use Rattle.table_words.specs.Setups.{setup_areas}

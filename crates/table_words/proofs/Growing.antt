@@ -17,8 +17,8 @@ use Rattle.core_runs.specs.OwnParts.{is_beside, births, MakesOwn}
 use Rattle.section_laws.specs.Runs.{IsRunFrom}
 use Rattle.section_laws.proofs.WordLemmas.{stays_at}
 use Rattle.section_laws.proofs.CoreRunLemmas.{begun_later}
-use Rattle.run_parts.specs.NextSteps.{step_made}
-use Rattle.run_parts.proofs.NumberLemmas.{numbers_are_single, handed_out_is_new}
+use Rattle.section_laws.specs.NextSteps.{step_made}
+use Rattle.section_laws.proofs.run_parts.NumberLemmas.{numbers_are_single, handed_out_is_new}
 use Rattle.table_words.specs.declared.setup.Setup.{Setup}
 use Rattle.table_words.specs.declared.setup.ThreadPart.{ThreadPart}
 use Rattle.table_words.specs.Setups.{setup_bounds, setup_words, first_birth}

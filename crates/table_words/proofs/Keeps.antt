@@ -21,7 +21,7 @@ use Rattle.core_runs.specs.declared.Birth.{Birth}
 use Rattle.core_runs.specs.WordRuns.{RunEntry, words_by, part_of}
 use Rattle.core_runs.specs.OwnParts.{births_after, births}
 use Rattle.section_laws.proofs.CoreRunLemmas.{begun_later}
-use Rattle.run_parts.specs.NextSteps.{step_made}
+use Rattle.section_laws.specs.NextSteps.{step_made}
 use Rattle.table_words.specs.declared.setup.Setup.{Setup}
 use Rattle.table_words.specs.declared.setup.ThreadPart.{ThreadPart}
 use Rattle.table_words.specs.Setups.{setup_areas, setup_words, first_birth}

@@ -14,7 +14,7 @@ use Rattle.core_runs.specs.declared.StepMade.{StepMade}
 use Rattle.core_runs.specs.declared.Birth.{Birth}
 use Rattle.core_runs.specs.WordRuns.{RunEntry, part_of}
 use Rattle.core_runs.specs.OwnParts.{births}
-use Rattle.run_parts.specs.NextSteps.{step_made}
+use Rattle.section_laws.specs.NextSteps.{step_made}
 use Rattle.table_words.specs.declared.setup.Setup.{Setup}
 use Rattle.table_words.specs.declared.setup.ThreadPart.{ThreadPart}
 use Rattle.table_words.specs.declared.seat.TableSeat.{TableSeat}

@@ -13,8 +13,8 @@ use Rattle.step_port.specs.Steps.{effect_of, IsOwnStep}
 use Rattle.step_port.specs.Words.{answer_to}
 use Rattle.section_state.specs.SectionWord.{revoke_of}
 use Rattle.core_runs.specs.OwnParts.{is_beside}
-use Rattle.run_parts.specs.NextSteps.{step_made, next_step}
-use Rattle.run_parts.proofs.NextStepLemmas.{parts_decide}
+use Rattle.section_laws.specs.NextSteps.{step_made, next_step}
+use Rattle.section_laws.proofs.run_parts.NextStepLemmas.{parts_decide}
 use Rattle.table_words.specs.declared.setup.Setup.{Setup}
 use Rattle.table_words.specs.declared.setup.ThreadPart.{ThreadPart}
 use Rattle.table_words.specs.Setups.{setup_bounds, setup_areas}

@@ -11,7 +11,7 @@ use Rattle.core_runs.specs.declared.StepMade.{StepMade}
 use Rattle.core_runs.specs.declared.Birth.{Birth}
 use Rattle.core_runs.specs.WordRuns.{RunEntry, words_by, part_of}
 use Rattle.core_runs.specs.OwnParts.{IsOwnPart, births, IsCoreRun}
-use Rattle.run_parts.specs.NextSteps.{step_made, next_step}
+use Rattle.section_laws.specs.NextSteps.{step_made, next_step}
 use Rattle.table_words.specs.declared.setup.Setup.{Setup}
 use Rattle.table_words.specs.declared.setup.ThreadPart.{ThreadPart}
 use Rattle.table_words.specs.Setups.{setup_bounds, setup_areas, setup_words, first_birth}

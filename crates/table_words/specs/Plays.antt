@@ -9,7 +9,7 @@ use Rattle.step_port.specs.declared.step.Step.TheVariants.{LoadStop, SetStop, Lo
 use Rattle.step_port.specs.Steps.{place_of, effect_of}
 use Rattle.step_port.specs.Words.{answer_to}
 use Rattle.core_runs.specs.OwnParts.{can_break, is_beside}
-use Rattle.run_parts.specs.NextSteps.{step_made}
+use Rattle.section_laws.specs.NextSteps.{step_made}
 use Rattle.table_words.specs.declared.setup.Setup.{Setup}
 use Rattle.table_words.specs.declared.setup.ThreadPart.{ThreadPart}
 use Rattle.table_words.specs.Setups.{setup_areas}

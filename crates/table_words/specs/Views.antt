@@ -6,7 +6,7 @@ use Rattle.step_port.specs.declared.step.Step.{Step}
 use Rattle.step_port.specs.declared.step.Step.TheVariants.{LoadStop, Split}
 use Rattle.core_runs.specs.declared.StepMade.{StepMade}
 use Rattle.core_runs.specs.declared.Birth.{Birth}
-use Rattle.run_parts.specs.NextSteps.{step_made}
+use Rattle.section_laws.specs.NextSteps.{step_made}
 use Rattle.table_words.specs.declared.setup.Setup.{Setup}
 use Rattle.table_words.specs.declared.setup.ThreadPart.{ThreadPart}
 use Rattle.table_words.specs.Parts.{fresh_part, part_after, next_of_part, IsPartInRun, MayMakeNext}

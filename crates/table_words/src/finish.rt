@@ -86,7 +86,11 @@ impl<C: ThreadCode> TableWords<C> {
             });
         };
         let seat = self.join_all(first, rest);
-        let TableWords { table, areas } = self;
+        let TableWords {
+            table,
+            areas,
+            objects_from: _,
+        } = self;
         let TableSeat { seat } = seat;
         let closed = table.close_with(seat);
         copy_words(&closed, count, &mut words);

@@ -24,7 +24,7 @@ impl<C: ThreadCode> TableWords<C> {
     ghost use Rattle.step_port.specs.Words.{answer_to};
     ghost use Rattle.section_state.specs.SectionWord.{revoked_of};
     ghost use Rattle.core_runs.specs.OwnParts.{can_break};
-    ghost use Rattle.run_parts.specs.NextSteps.{step_made};
+    ghost use Rattle.section_laws.specs.NextSteps.{step_made};
     ghost use Rattle.table_words.specs.Parts.{fresh_part, IsPartInRun};
     ghost use Rattle.table_words.specs.Views.{first_after, born_by, IsSeated, FirstMayMake, FirstIsInRun};
     ghost use Rattle.table_words.specs.Tables.{setup_in, parts_of_seat, IsSeatOf};
@@ -37,7 +37,7 @@ impl<C: ThreadCode> TableWords<C> {
         ensures grown { parts_of_seat seat.new ≡ first_after (parts_of_seat seat.old) (step_made step (StepAnswer.Found result)) }
         ensures in_run { FirstIsInRun C.state C.code (setup_in self.now) (parts_of_seat seat.new) }
     {
-        let place = self.areas.place(area) as usize;
+        let place = self.areas.place_from(self.objects_from, area) as usize;
         let _step = step;
         self.table.shared.load::<MakesOwn<C>>(&mut seat.seat, place)
     }
@@ -50,7 +50,7 @@ impl<C: ThreadCode> TableWords<C> {
         ensures grown { parts_of_seat seat.new ≡ first_after (parts_of_seat seat.old) (step_made step StepAnswer.Done) }
         ensures in_run { FirstIsInRun C.state C.code (setup_in self.now) (parts_of_seat seat.new) }
     {
-        let place = self.areas.place(area) as usize;
+        let place = self.areas.place_from(self.objects_from, area) as usize;
         let _step = step;
         self.table
             .shared
@@ -73,7 +73,7 @@ impl<C: ThreadCode> TableWords<C> {
         ensures grown { parts_of_seat seat.new ≡ first_after (parts_of_seat seat.old) (step_made step (answer_to (Effect.Exchange old new) result)) }
         ensures in_run { FirstIsInRun C.state C.code (setup_in self.now) (parts_of_seat seat.new) }
     {
-        let place = self.areas.place(area) as usize;
+        let place = self.areas.place_from(self.objects_from, area) as usize;
         let _step = step;
         self.table
             .shared
@@ -88,7 +88,7 @@ impl<C: ThreadCode> TableWords<C> {
         ensures grown { parts_of_seat seat.new ≡ first_after (parts_of_seat seat.old) (step_made step (StepAnswer.Found result)) }
         ensures in_run { FirstIsInRun C.state C.code (setup_in self.now) (parts_of_seat seat.new) }
     {
-        let place = self.areas.place(area) as usize;
+        let place = self.areas.place_from(self.objects_from, area) as usize;
         let _step = step;
         self.table
             .shared
@@ -127,7 +127,7 @@ impl<C: ThreadCode> TableWords<C> {
         ensures grown { parts_of_seat seat.new ≡ first_after (parts_of_seat seat.old) (step_made (Step.LookMonitor object) (StepAnswer.Found result)) }
         ensures in_run { FirstIsInRun C.state C.code (setup_in self.now) (parts_of_seat seat.new) }
     {
-        let place = self.areas.place(area) as usize;
+        let place = self.areas.place_from(self.objects_from, area) as usize;
         self.table
             .shared
             .load::<LooksMonitor<C>>(&mut seat.seat, place)
@@ -141,7 +141,7 @@ impl<C: ThreadCode> TableWords<C> {
         ensures grown { parts_of_seat seat.new ≡ first_after (parts_of_seat seat.old) (step_made (Step.LookSection section) (StepAnswer.Found result)) }
         ensures in_run { FirstIsInRun C.state C.code (setup_in self.now) (parts_of_seat seat.new) }
     {
-        let place = self.areas.place(area) as usize;
+        let place = self.areas.place_from(self.objects_from, area) as usize;
         self.table
             .shared
             .load::<LooksSection<C>>(&mut seat.seat, place)
@@ -166,7 +166,7 @@ impl<C: ThreadCode> TableWords<C> {
         ensures in_run { FirstIsInRun C.state C.code (setup_in self.now) (parts_of_seat seat.new) }
     {
         levels_are_revoked();
-        let place = self.areas.place(area) as usize;
+        let place = self.areas.place_from(self.objects_from, area) as usize;
         let word = revoked_to(old, level);
         self.table
             .shared

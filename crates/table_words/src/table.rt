@@ -1,7 +1,8 @@
 //! The table and its first seat.
 
 ghost use Rattle.std.specs.Prelude.{◌≡◌, [], ◌∷◌, IfOk};
-ghost use Rattle.heap_words.specs.Areas.{size_of};
+ghost use Rattle.heap_words.specs.declared.areas.Area.{Area};
+ghost use Rattle.heap_words.specs.Areas.{begin_of, size_of};
 ghost use Rattle.table_words.specs.Setups.{setup_of, setup_areas};
 
 use crate::port::TablePort;
@@ -22,7 +23,10 @@ use std::snapshot::Snapshot;
 pub struct TableWords<C: ThreadCode> {
     pub(crate) table: SharedTable<C>,
     pub(crate) areas: Areas,
+    // Where the objects begin: it is kept, since most steps are made on words of objects.
+    pub(crate) objects_from: u64,
     ghost areas_are: { areas ≡ setup_areas (setup_of table.shared.key) },
+    ghost begins: { objects_from ≡ begin_of areas (Area.Object 0) },
     ghost words: { table.shared.table_id.words ≡ size_of areas },
     ghost slots: { table.shared.table_id.slots ≡ 0 },
 }
@@ -71,7 +75,13 @@ impl<C: ThreadCode> TableWords<C> {
         let Ok((table, seat)) = Table::of_words(alloc, words.block(), &key) else {
             return Err(NoMemory);
         };
-        Ok((TableWords { table, areas }, TableSeat { seat }))
+        let objects_from = areas.objects_from();
+        let made = TableWords {
+            table,
+            areas,
+            objects_from,
+        };
+        Ok((made, TableSeat { seat }))
     }
 
     /// The port through which the thread of a seat of this table makes its steps. It takes no memory.

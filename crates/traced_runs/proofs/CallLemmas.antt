@@ -14,8 +14,8 @@ use Rattle.thread_automaton.specs.declared.Bounds.{Bounds}
 use Rattle.thread_automaton.specs.ThreadState.{ThreadState}
 use Rattle.thread_automaton.specs.Told.{Told, probed, advanced, born, lost, blocked, told, after_answer}
 use Rattle.journal_rows.specs.Told.{RowCall, RowsTold, opens_a_level, closes_levels, puts_word_back, undoes_levels_to, after_row_call, after_row_calls}
-use Rattle.run_journals.specs.RunCalls.{open_or_close_calls}
-use Rattle.told_journals.specs.Calls.{reply_calls, shown_calls, depth_calls, step_calls}
+use Rattle.core_law.specs.RunCalls.{open_or_close_calls}
+use Rattle.core_law.specs.Calls.{reply_calls, shown_calls, depth_calls, step_calls}
 use Rattle.word_machine.specs.declared.told_turn.ToldTurn.{ToldTurn}
 use Rattle.word_machine.specs.ToldTurn.{event_seen, ShowsStep, ShowsNoStep}
 use Rattle.traced_runs.specs.Calls.{calls_of_event, calls_of_shown, calls_of_levels, calls_of_turn}

@@ -7,8 +7,8 @@ use Rattle.word_texts.specs.PutBack.{levels_back}
 use Rattle.journal_rows.specs.Told.{RowsTold, leaves_levels_out, after_row_calls}
 use Rattle.journal_rows.specs.Rows.{AreRowsTold}
 use Rattle.journal_rows.specs.declared.journal_rows.JournalRows.{JournalRows}
-use Rattle.run_journals.specs.RunCalls.{end_call}
-use Rattle.told_journals.specs.Calls.{end_call_told, end_calls_told}
+use Rattle.core_law.specs.RunCalls.{end_call}
+use Rattle.core_law.specs.Calls.{end_call_told, end_calls_told}
 use Rattle.traced_runs.proofs.CallLemmas.{calls_append}
 
 some_left : (t n u : ℕ) → 0 < u → end_call t n u ≡ leaves_levels_out t (n - u) ∷ []

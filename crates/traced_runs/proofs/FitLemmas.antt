@@ -24,8 +24,8 @@ use Rattle.trace_journal.specs.declared.item.JournalItem.{JournalItem}
 use Rattle.trace_journal.specs.declared.item.JournalItem.TheVariants.{Event as event_item, Undone}
 use Rattle.trace_journal.specs.Text.{events_in, undos_in}
 use Rattle.journal_rows.specs.Told.{RowsTold, after_row_calls, kept_items}
-use Rattle.run_journals.specs.RunCalls.{end_call}
-use Rattle.told_journals.specs.Calls.{end_call_told, end_calls_told}
+use Rattle.core_law.specs.RunCalls.{end_call}
+use Rattle.core_law.specs.Calls.{end_call_told, end_calls_told}
 use Rattle.sched_core.specs.Outcome.{rest_of}
 use Rattle.sched_core.proofs.CountLemmas.{turns_count}
 use Rattle.traced_runs.specs.Laws.{KeptJournalsFit}

@@ -26,12 +26,12 @@ use Rattle.core_runs.specs.Cores.{Core}
 use Rattle.first_law.proofs.EntryLemmas.{NoReply}
 use Rattle.word_runs.specs.WordTurns.{counts_for}
 use Rattle.journal_rows.specs.Told.{RowCall, RowsTold, opens_a_level, closes_levels, after_row_calls}
-use Rattle.run_journals.specs.RunCalls.{open_or_close_calls}
-use Rattle.run_journals.proofs.TurnLemmas.{IsWanted, restores_none, marks_none, reply_wanted}
-use Rattle.run_journals.proofs.SilentLemmas.{reply_or}
-use Rattle.told_journals.specs.Calls.{reply_calls, shown_calls, depth_calls, step_calls}
-use Rattle.told_journals.proofs.StepLemmas.{IsMark, IsRestore, mark_or, restore_or, none_said, plain_depth, plain_shown}
-use Rattle.told_journals.proofs.SizeLemmas.{counts_none, counts_one}
+use Rattle.core_law.specs.RunCalls.{open_or_close_calls}
+use Rattle.core_law.proofs.run_journals.TurnLemmas.{IsWanted, restores_none, marks_none, reply_wanted}
+use Rattle.core_law.proofs.run_journals.SilentLemmas.{reply_or}
+use Rattle.core_law.specs.Calls.{reply_calls, shown_calls, depth_calls, step_calls}
+use Rattle.core_law.proofs.told_journals.StepLemmas.{IsMark, IsRestore, mark_or, restore_or, none_said, plain_depth, plain_shown}
+use Rattle.core_law.proofs.told_journals.SizeLemmas.{counts_none, counts_one}
 use Rattle.traced_runs.proofs.CallLemmas.{calls_append}
 
 abbrev items_after : List RowCall → RowsTold → ℕ

@@ -10,16 +10,16 @@ use Rattle.core_runs.specs.Cores.{Core}
 use Rattle.core_runs.specs.Acts.{Act, quiet, did, beside, ActAt}
 use Rattle.core_runs.specs.Entries.{Shows}
 use Rattle.section_laws.proofs.RunLemmas.{act_at}
-use Rattle.section_levels.specs.Levels.{IsLevelledRun}
-use Rattle.third_law.specs.CleanCuts.{IsShownRun}
-use Rattle.third_law.proofs.EntryLemmas.{entry_at}
-use Rattle.grounded_monitors.proofs.RunLemmas.{free_runs_hold_monitors}
+use Rattle.section_laws.specs.Levels.{IsLevelledRun}
+use Rattle.core_law.specs.CleanCuts.{IsShownRun}
+use Rattle.core_law.proofs.third_law.EntryLemmas.{entry_at}
+use Rattle.first_law.proofs.grounded_monitors.RunLemmas.{free_runs_hold_monitors}
 use Rattle.core_law.specs.RevokedLevels.{is_level_revoked}
 use Rattle.core_law.proofs.RevokedLemmas.{revoked_levels_are_told}
 use Rattle.journal_rows.specs.Told.{after_row_calls, items_left}
-use Rattle.run_journals.specs.RunCalls.{open_or_close_calls, calls_at, rows_at}
-use Rattle.told_journals.specs.Calls.{end_calls_told}
-use Rattle.told_journals.specs.Laws.{StepsTellRows, SilentMovesTellNothing, ThreadsTellJournals}
+use Rattle.core_law.specs.RunCalls.{open_or_close_calls, calls_at, rows_at}
+use Rattle.core_law.specs.Calls.{end_calls_told}
+use Rattle.core_law.specs.ToldLaws.{StepsTellRows, SilentMovesTellNothing, ThreadsTellJournals}
 use Rattle.traced_runs.specs.Told.{calls_of_step, calls_of_act, told_at}
 use Rattle.traced_runs.specs.Laws.{RowsLeftAreJournals}
 use Rattle.traced_runs.proofs.CallLemmas.{none_moved}

@@ -27,7 +27,7 @@ use Rattle.word_runs.specs.Laws.{begun_with, AreActs}
 use Rattle.word_runs.proofs.TurnLemmas.{turns_are_acts}
 use Rattle.word_machine.specs.Seats.{seat_in}
 use Rattle.word_machine.specs.Machine.{threads_in}
-use Rattle.told_journals.specs.Calls.{end_calls_told}
+use Rattle.core_law.specs.Calls.{end_calls_told}
 use Rattle.journal_rows.specs.Told.{RowsTold, nothing_told, after_row_calls, items_left}
 use Rattle.journal_rows.specs.Rows.{AreRowsTold}
 use Rattle.trace_journal.specs.Text.{events_in, undos_in}

@@ -2,7 +2,7 @@
 use Rattle.std.specs.Prelude.{ℕ, Option, None, Some, List, [], ◌∷◌, ◌++◌, nat_eq, if◌then◌else◌}
 use Rattle.op_core.specs.declared.Event.{Event}
 use Rattle.journal_rows.specs.Told.{RowCall, event_came, puts_word_back, undoes_levels_to}
-use Rattle.run_journals.specs.RunCalls.{open_or_close_calls}
+use Rattle.core_law.specs.RunCalls.{open_or_close_calls}
 use Rattle.word_machine.specs.declared.told_turn.ToldTurn.{ToldTurn}
 
 abbrev pub calls_of_event : Option Event → List RowCall

@@ -5,9 +5,9 @@ use Rattle.schedules.specs.declared.order.Schedule.{Schedule}
 use Rattle.thread_automaton.specs.declared.Bounds.{Bounds}
 use Rattle.core_runs.specs.Cores.{Core}
 use Rattle.core_runs.specs.Acts.{Act}
-use Rattle.grounded_monitors.specs.Free.{IsFreeRun}
+use Rattle.first_law.specs.Free.{IsFreeRun}
 use Rattle.core_law.specs.Erasure.{Erasure, is_left_out}
-use Rattle.run_journals.specs.Journal.{run_journal}
+use Rattle.core_law.specs.Journal.{run_journal}
 use Rattle.traced_runs.specs.declared.outcome.TracedOutcome.{TracedOutcome}
 use Rattle.traced_runs.specs.Outcome.{journal_left, IsTracedOutcome}
 

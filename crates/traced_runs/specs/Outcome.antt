@@ -12,7 +12,7 @@ use Rattle.trace_journal.specs.declared.item.JournalItem.{JournalItem}
 use Rattle.trace_journal.specs.Text.{events_in, undos_in}
 use Rattle.journal_rows.specs.declared.kept.KeptJournal.{KeptJournal}
 use Rattle.journal_rows.specs.Told.{after_row_calls, items_left}
-use Rattle.told_journals.specs.Calls.{end_calls_told}
+use Rattle.core_law.specs.Calls.{end_calls_told}
 use Rattle.sched_core.specs.Outcome.{rest_of, TellsPlace}
 use Rattle.traced_runs.specs.declared.outcome.TracedOutcome.{TracedOutcome}
 use Rattle.traced_runs.specs.Told.{told_at}

@@ -11,7 +11,7 @@ use Rattle.core_runs.specs.Acts.{Act, did, ActFrom}
 use Rattle.journal_rows.specs.Told.{RowCall, RowsTold, nothing_told, after_row_calls}
 use Rattle.journal_rows.specs.Rows.{AreRowsTold}
 use Rattle.journal_rows.specs.declared.journal_rows.JournalRows.{JournalRows}
-use Rattle.told_journals.specs.Calls.{step_calls}
+use Rattle.core_law.specs.Calls.{step_calls}
 
 -- thread t, if it is there, tells this of its step
 abbrev pub calls_of_step : {S : Type 0} → Code S → Bounds → ℕ → Step → StepAnswer → Option (ThreadState S) → List RowCall

@@ -19,12 +19,12 @@ use Rattle.word_runs.specs.Laws.{AreActs}
 use Rattle.word_machine.specs.declared.told_turn.ToldTurn.{ToldTurn}
 use Rattle.word_machine.specs.Seats.{seat_in}
 use Rattle.word_machine.specs.Machine.{threads_in, IsCoreOf}
-use Rattle.run_threads.specs.Lines.{LinesHaveTickets}
+use Rattle.section_laws.specs.Lines.{LinesHaveTickets}
 use Rattle.word_texts.specs.Texts.{AreTextsOf}
 use Rattle.trace_journal.specs.Text.{events_in, undos_in}
 use Rattle.journal_rows.specs.Told.{RowsTold, after_row_calls, items_left}
 use Rattle.journal_rows.specs.Rows.{AreRowsTold}
-use Rattle.told_journals.specs.Calls.{end_calls_told}
+use Rattle.core_law.specs.Calls.{end_calls_told}
 use Rattle.sched_core.specs.Outcome.{AreEnds}
 use Rattle.traced_runs.specs.declared.outcome.TracedOutcome.{TracedOutcome}
 use Rattle.sched_core.specs.Counts.{opened_in, undone_in}

@@ -2,8 +2,8 @@
 
 ghost use Rattle.traced_runs.specs.Laws.{RowsLeftAreJournals, KeptJournalsFit};
 
+use core_law::told_journals::{silent_moves_tell_nothing, steps_tell_rows, threads_tell_journals};
 use op_core::ThreadCode;
-use told_journals::{silent_moves_tell_nothing, steps_tell_rows, threads_tell_journals};
 
 /// What is left of what the acts of a run tell is the journal of what is left of the run.
 pub fn rows_left_are_journals<C: ThreadCode>()

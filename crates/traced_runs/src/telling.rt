@@ -6,7 +6,7 @@ ghost use Rattle.journal_rows.specs.Rows.{AreRowsTold};
 ghost use Rattle.journal_rows.specs.Told.{RowsTold, after_row_calls};
 ghost use Rattle.plain_words.specs.Table.{words_in};
 ghost use Rattle.thread_moves.specs.Thread.{thread_of};
-ghost use Rattle.told_journals.specs.Calls.{end_call_told, end_calls_told};
+ghost use Rattle.core_law.specs.Calls.{end_call_told, end_calls_told};
 ghost use Rattle.word_machine.specs.Machine.{threads_in, IsCoreOf};
 ghost use Rattle.word_texts.specs.PutBack.{levels_back};
 ghost use Rattle.traced_runs.specs.Calls.{calls_of_shown, calls_of_levels, calls_of_turn};

@@ -8,8 +8,8 @@ use Rattle.std.specs.Option.{option_or}
 use Rattle.op_core.specs.OrdinaryState.{set_at}
 use Rattle.op_core.proofs.PointwiseLemmas.{set_at-hit}
 use Rattle.write_log.specs.declared.Noted.{Noted}
-use Rattle.settled_lists.specs.Settled.{notes, replay}
-use Rattle.settled_lists.proofs.ReplayLemmas.{noted_more, replay_unnoted}
+use Rattle.section_laws.specs.Settled.{notes, replay}
+use Rattle.section_laws.proofs.settled_lists.ReplayLemmas.{noted_more, replay_unnoted}
 use Rattle.word_texts.specs.OldWords.{noted_at, oldest_at, AreOldest}
 
 -- ---- one of three words

@@ -7,7 +7,7 @@ use Rattle.write_log.specs.declared.Noted.{Noted}
 use Rattle.step_port.specs.Words.{Words}
 use Rattle.thread_automaton.specs.ThreadState.{ThreadState}
 use Rattle.core_runs.specs.Cores.{Core}
-use Rattle.settled_lists.specs.Settled.{words_back, notes, replay}
+use Rattle.section_laws.specs.Settled.{words_back, notes, replay}
 use Rattle.word_runs.specs.Enabled.{has_to_undo}
 
 -- how many of its open levels a thread has to undo: those from the level on to which its section is revoked

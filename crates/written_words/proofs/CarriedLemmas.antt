@@ -15,23 +15,23 @@ use Rattle.thread_automaton.specs.ThreadState.{ThreadState}
 use Rattle.core_runs.specs.Cores.{Core}
 use Rattle.core_runs.specs.Acts.{Act, did, mover}
 use Rattle.core_runs.specs.Revoked.{IsDoomed}
-use Rattle.level_runs.specs.LevelRun.{In}
-use Rattle.level_runs.proofs.LevelLemmas.{RevokedBefore, revoked_before}
+use Rattle.section_laws.specs.LevelRun.{In}
+use Rattle.section_laws.proofs.level_runs.LevelLemmas.{RevokedBefore, revoked_before}
 use Rattle.section_laws.specs.Runs.{IsRun}
 use Rattle.section_laws.proofs.ActLemmas.{take_whole}
 use Rattle.section_laws.proofs.WordLemmas.{state_of_zero}
 use Rattle.section_laws.proofs.SectionLemmas.{sections_open_once, zero_no_section}
 use Rattle.section_laws.proofs.RunLemmas.{along}
-use Rattle.own_sections.specs.OwnWords.{IsInBits}
-use Rattle.own_sections.proofs.MoveLemmas.{moves_at, own_words_are_known}
-use Rattle.section_levels.specs.Levels.{word_in, revoked_by, levels_in, revoked_in}
-use Rattle.section_levels.proofs.TurnLemmas.{turned}
-use Rattle.section_levels.proofs.LevelLemmas.{at_place, runs_in_levels, has_section}
-use Rattle.open_sections.specs.OpenSections.{IsOpenBy}
-use Rattle.open_sections.proofs.RunLemmas.{open_sections_have_threads}
-use Rattle.run_layout.specs.Layout.{IsWordPlace}
-use Rattle.noted_words.specs.Noted.{heap_of}
-use Rattle.noted_words.proofs.TagLemmas.{section_of_none}
+use Rattle.section_laws.specs.OwnWords.{IsInBits}
+use Rattle.section_laws.proofs.own_sections.MoveLemmas.{moves_at, own_words_are_known}
+use Rattle.section_laws.specs.Levels.{word_in, revoked_by, levels_in, revoked_in}
+use Rattle.section_laws.proofs.section_levels.TurnLemmas.{turned}
+use Rattle.section_laws.proofs.section_levels.LevelLemmas.{at_place, runs_in_levels, has_section}
+use Rattle.section_laws.specs.OpenSections.{IsOpenBy}
+use Rattle.section_laws.proofs.open_sections.RunLemmas.{open_sections_have_threads}
+use Rattle.section_laws.specs.Layout.{IsWordPlace}
+use Rattle.written_words.specs.Noted.{heap_of}
+use Rattle.written_words.proofs.noted_words.TagLemmas.{section_of_none}
 use Rattle.written_words.specs.Writers.{AreLevelsOf, writers}
 use Rattle.written_words.specs.Tags.{IsWrittenRun, TagSays}
 use Rattle.written_words.specs.Undone.{TagsNameNoUndoneSection}

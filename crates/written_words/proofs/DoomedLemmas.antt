@@ -20,22 +20,22 @@ use Rattle.automaton_rows.specs.Fits.{AttemptFits}
 use Rattle.core_runs.specs.Cores.{Core}
 use Rattle.core_runs.specs.Acts.{Act, did, DidAt, mover}
 use Rattle.core_runs.specs.Revoked.{IsDoomed}
-use Rattle.level_runs.specs.LevelRun.{In, GoesBackAt}
-use Rattle.level_runs.proofs.LevelLemmas.{doomed_are_undone}
-use Rattle.settled_lists.specs.Settled.{notes}
+use Rattle.section_laws.specs.LevelRun.{In, GoesBackAt}
+use Rattle.section_laws.proofs.level_runs.LevelLemmas.{doomed_are_undone}
+use Rattle.section_laws.specs.Settled.{notes}
 use Rattle.section_laws.specs.Runs.{IsRun}
 use Rattle.section_laws.proofs.WordLemmas.{state_is}
 use Rattle.section_laws.proofs.DeedLemmas.{above, makes_it}
 use Rattle.section_laws.proofs.RunLemmas.{act_at, facts_at}
-use Rattle.own_sections.specs.OwnWords.{OwnWord, SeesUndoing}
-use Rattle.own_sections.proofs.SeenLemmas.{undoing_seen}
-use Rattle.own_sections.proofs.MoveLemmas.{own_at, own_words_are_known}
-use Rattle.section_levels.specs.Levels.{levels_in, revoked_in, UndoesAt, RunsInLevels}
-use Rattle.section_levels.proofs.RunLemmas.{counted_at}
-use Rattle.section_levels.proofs.LevelLemmas.{at_place, runs_in_levels, doomed_at}
-use Rattle.open_sections.specs.OpenSections.{IsLiveOrRevoking}
-use Rattle.noted_words.specs.Noted.{heap_of}
-use Rattle.settled_words.proofs.TurnLemmas.{none_noted}
+use Rattle.section_laws.specs.OwnWords.{OwnWord, SeesUndoing}
+use Rattle.section_laws.proofs.own_sections.SeenLemmas.{undoing_seen}
+use Rattle.section_laws.proofs.own_sections.MoveLemmas.{own_at, own_words_are_known}
+use Rattle.section_laws.specs.Levels.{levels_in, revoked_in, UndoesAt, RunsInLevels}
+use Rattle.section_laws.proofs.section_levels.RunLemmas.{counted_at}
+use Rattle.section_laws.proofs.section_levels.LevelLemmas.{at_place, runs_in_levels, doomed_at}
+use Rattle.section_laws.specs.OpenSections.{IsLiveOrRevoking}
+use Rattle.written_words.specs.Noted.{heap_of}
+use Rattle.written_words.proofs.settled_words.TurnLemmas.{none_noted}
 use Rattle.written_words.specs.Writers.{AreLevelsOf, log_of, writers}
 use Rattle.written_words.specs.Tags.{IsWrittenRun, TagSays, OldWordsSay}
 use Rattle.written_words.specs.Written.{has, HasWrittenSince}

@@ -13,18 +13,18 @@ use Rattle.thread_automaton.specs.ThreadState.{ThreadState}
 use Rattle.core_runs.specs.Cores.{Core, outermost}
 use Rattle.core_runs.specs.Acts.{Act, did, mover}
 use Rattle.core_runs.specs.Revoked.{RevokesAt, levels_from, IsDoomed}
-use Rattle.level_runs.specs.LevelRun.{is_undone, LevelAt, In, IsDoomedAt, GoesBackAt}
-use Rattle.level_runs.proofs.LevelLemmas.{open_since, were_doomed}
+use Rattle.section_laws.specs.LevelRun.{is_undone, LevelAt, In, IsDoomedAt, GoesBackAt}
+use Rattle.section_laws.proofs.level_runs.LevelLemmas.{open_since, were_doomed}
 use Rattle.section_laws.specs.Runs.{IsRun}
 use Rattle.section_laws.proofs.InRunLemmas.{is_in_list}
 use Rattle.section_laws.proofs.SectionLemmas.{sections_open_once}
 use Rattle.section_laws.proofs.RunLemmas.{facts_at}
-use Rattle.own_sections.proofs.SeenLemmas.{undoing_seen}
-use Rattle.own_sections.proofs.MoveLemmas.{own_at}
-use Rattle.section_levels.specs.Levels.{IsLevelledRun, levels_in, revoked_in, UndoesAt, RunsInLevels}
-use Rattle.section_levels.proofs.RowLemmas.{outermost_none}
-use Rattle.section_levels.proofs.RunLemmas.{counted_at}
-use Rattle.section_levels.proofs.LevelLemmas.{at_place, runs_in_levels, has_section}
+use Rattle.section_laws.proofs.own_sections.SeenLemmas.{undoing_seen}
+use Rattle.section_laws.proofs.own_sections.MoveLemmas.{own_at}
+use Rattle.section_laws.specs.Levels.{IsLevelledRun, levels_in, revoked_in, UndoesAt, RunsInLevels}
+use Rattle.section_laws.proofs.section_levels.RowLemmas.{outermost_none}
+use Rattle.section_laws.proofs.section_levels.RunLemmas.{counted_at}
+use Rattle.section_laws.proofs.section_levels.LevelLemmas.{at_place, runs_in_levels, has_section}
 use Rattle.written_words.specs.Writers.{AreLevelsOf}
 use Rattle.written_words.proofs.LevelLemmas.{levels_at, some_levels, opened_before}
 use Rattle.written_words.proofs.PlaceLemmas.{place_in, index_of, outermost_one, outermost_place, outermost_opens, one_thread}

@@ -34,20 +34,20 @@ use Rattle.section_laws.proofs.WordLemmas.{state_of_zero, state_packed}
 use Rattle.section_laws.proofs.ClaimLemmas.{found_is}
 use Rattle.section_laws.proofs.FactLemmas.{each}
 use Rattle.section_laws.proofs.RunLemmas.{along, facts_at}
-use Rattle.own_sections.specs.OwnWords.{IsInBits}
-use Rattle.own_sections.specs.Moves.{Move}
-use Rattle.own_sections.proofs.WordLemmas.{depth_low, pinned_says, deep_says, opened_says, revoked_says, committed_says, undone_says, goes_on_says}
-use Rattle.own_sections.proofs.MoveLemmas.{moves_at, unopened}
-use Rattle.known_sections.specs.Known.{IsCommittedOrPinned}
-use Rattle.known_sections.proofs.KnownLemmas.{known_sections_are_pinned}
-use Rattle.open_sections.specs.OpenSections.{SaysOfRevoking}
-use Rattle.open_sections.proofs.RunLemmas.{words_say_of_revoking}
-use Rattle.run_layout.specs.Layout.{IsWordPlace, FitsObjects}
-use Rattle.noted_words.specs.Noted.{heap_of}
+use Rattle.section_laws.specs.OwnWords.{IsInBits}
+use Rattle.section_laws.specs.Moves.{Move}
+use Rattle.section_laws.proofs.own_sections.WordLemmas.{depth_low, pinned_says, deep_says, opened_says, revoked_says, committed_says, undone_says, goes_on_says}
+use Rattle.section_laws.proofs.own_sections.MoveLemmas.{moves_at, unopened}
+use Rattle.section_laws.specs.Known.{IsCommittedOrPinned}
+use Rattle.section_laws.proofs.known_sections.KnownLemmas.{known_sections_are_pinned}
+use Rattle.section_laws.specs.OpenSections.{SaysOfRevoking}
+use Rattle.section_laws.proofs.open_sections.RunLemmas.{words_say_of_revoking}
+use Rattle.section_laws.specs.Layout.{IsWordPlace, FitsObjects}
+use Rattle.written_words.specs.Noted.{heap_of}
 use Rattle.written_words.specs.Writers.{writers}
 use Rattle.written_words.specs.Tags.{IsWrittenRun, TagSays}
 use Rattle.written_words.specs.Known.{KnowsOther, KnownSectionsAreOthers}
-use Rattle.settled_words.proofs.RoundLemmas as rounds
+use Rattle.written_words.proofs.settled_words.RoundLemmas as rounds
 use Rattle.written_words.proofs.StepLemmas as steps
 use Rattle.written_words.proofs.StepLemmas.{word_named, was_there, begins}
 use Rattle.written_words.proofs.RunLemmas.{written_at}

@@ -29,15 +29,15 @@ use Rattle.automaton_rows.specs.Rows.{Row, is_lost, own_stands, pins, is_undone,
 use Rattle.automaton_rows.proofs.RowLemmas.{answers_are_rows, words_can_answer, by_if}
 use Rattle.core_runs.specs.Cores.{Core, threads_by, levels_by}
 use Rattle.core_runs.specs.Acts.{Act, quiet, did, beside, DidAt, ActAt}
-use Rattle.level_runs.specs.LevelRun.{In}
-use Rattle.level_runs.proofs.LevelLemmas.{below, falls}
+use Rattle.section_laws.specs.LevelRun.{In}
+use Rattle.section_laws.proofs.level_runs.LevelLemmas.{below, falls}
 use Rattle.section_laws.specs.Runs.{IsRun}
 use Rattle.section_laws.proofs.FactLemmas.{each}
 use Rattle.section_laws.proofs.RunLemmas.{along, facts_at}
-use Rattle.section_levels.specs.Levels.{IsLevelledRun, levels_in, revoked_in}
-use Rattle.section_levels.proofs.RowLemmas.{drop_all, outermost_none}
-use Rattle.section_levels.proofs.RunLemmas.{Counted, counted_at, no_levels, own_levels, other_levels}
-use Rattle.section_levels.proofs.LevelLemmas.{at_place, runs_in_levels}
+use Rattle.section_laws.specs.Levels.{IsLevelledRun, levels_in, revoked_in}
+use Rattle.section_laws.proofs.section_levels.RowLemmas.{drop_all, outermost_none}
+use Rattle.section_laws.proofs.section_levels.RunLemmas.{Counted, counted_at, no_levels, own_levels, other_levels}
+use Rattle.section_laws.proofs.section_levels.LevelLemmas.{at_place, runs_in_levels}
 use Rattle.written_words.specs.Writers.{OpensInside, AreLevelsOf, OpenLevelsAreOfSections}
 
 -- ---- levels

@@ -16,22 +16,22 @@ use Rattle.thread_automaton.specs.ThreadState.{ThreadState, no_mark, nth_or}
 use Rattle.thread_automaton.specs.Told.{after_answer, after_quiet}
 use Rattle.core_runs.specs.Cores.{Core}
 use Rattle.core_runs.specs.Acts.{Act, quiet, did, beside, DidAt, ActAt}
-use Rattle.level_runs.specs.LevelRun.{In}
+use Rattle.section_laws.specs.LevelRun.{In}
 use Rattle.section_laws.specs.Runs.{IsRun}
 use Rattle.section_laws.proofs.FactLemmas.{each}
 use Rattle.section_laws.proofs.SectionLemmas.{sections_open_once}
 use Rattle.section_laws.proofs.RunLemmas.{along}
-use Rattle.section_levels.proofs.RunLemmas.{counted_at}
-use Rattle.noted_words.specs.Noted.{heap_of}
-use Rattle.noted_words.proofs.PartLemmas.{notes_since}
-use Rattle.noted_words.proofs.TagLemmas.{section_of_none}
+use Rattle.section_laws.proofs.section_levels.RunLemmas.{counted_at}
+use Rattle.written_words.specs.Noted.{heap_of}
+use Rattle.written_words.proofs.noted_words.PartLemmas.{notes_since}
+use Rattle.written_words.proofs.noted_words.TagLemmas.{section_of_none}
 use Rattle.written_words.specs.Writers.{AreLevelsOf, Writers, writers_by, writers}
 use Rattle.written_words.specs.Tags.{IsWrittenRun, TagSays}
 use Rattle.written_words.specs.Written.{has, HasWrittenSince, LevelsWriteWhatIsLogged, CarriedWordsAreLogged}
 use Rattle.written_words.proofs.LevelLemmas.{levels_at, some_levels}
 use Rattle.written_words.proofs.PlaceLemmas.{outermost_one, outermost_place, outermost_opens}
 use Rattle.written_words.proofs.SinceLemmas.{in_has}
-use Rattle.settled_words.proofs.RoundLemmas as rounds
+use Rattle.written_words.proofs.settled_words.RoundLemmas as rounds
 use Rattle.written_words.proofs.PartLemmas as parts
 use Rattle.written_words.proofs.PartLemmas.{kept_on, others_kept}
 use Rattle.written_words.proofs.OwnLemmas.{own_kept}

@@ -22,28 +22,28 @@ use Rattle.automaton_rows.proofs.RowLemmas.{answers_are_rows, words_can_answer}
 use Rattle.core_runs.specs.Cores.{Core}
 use Rattle.core_runs.specs.Acts.{Act, did, DidAt, mover}
 use Rattle.core_runs.specs.Revoked.{IsDoomed}
-use Rattle.level_runs.specs.LevelRun.{In}
+use Rattle.section_laws.specs.LevelRun.{In}
 use Rattle.section_laws.specs.Runs.{IsRun}
 use Rattle.section_laws.proofs.WordLemmas.{exchanged}
 use Rattle.section_laws.proofs.ClaimLemmas.{found_is}
 use Rattle.section_laws.proofs.RunLemmas.{act_at, facts_at}
-use Rattle.section_levels.proofs.RunLemmas.{counted_at}
-use Rattle.section_levels.proofs.LevelLemmas.{has_section, doomed_levels_are_unpinned}
-use Rattle.open_sections.proofs.RunLemmas.{doomed_sections_are_open}
-use Rattle.run_layout.specs.Layout.{IsWordPlace, FitsObjects}
-use Rattle.noted_words.specs.Noted.{heap_of}
-use Rattle.noted_words.proofs.TurnLemmas.{SetsNoWord}
-use Rattle.noted_words.proofs.StepLemmas.{IsSwap, safe_other}
-use Rattle.noted_words.proofs.DidLemmas.{writer}
-use Rattle.noted_words.proofs.RunLemmas.{noted_at}
-use Rattle.settled_words.proofs.TurnLemmas.{calm, opens, closes, ends_all, undone, writes, puts}
-use Rattle.settled_words.proofs.ReadLemmas.{ReadFinds, finds}
+use Rattle.section_laws.proofs.section_levels.RunLemmas.{counted_at}
+use Rattle.section_laws.proofs.section_levels.LevelLemmas.{has_section, doomed_levels_are_unpinned}
+use Rattle.section_laws.proofs.open_sections.RunLemmas.{doomed_sections_are_open}
+use Rattle.section_laws.specs.Layout.{IsWordPlace, FitsObjects}
+use Rattle.written_words.specs.Noted.{heap_of}
+use Rattle.written_words.proofs.noted_words.TurnLemmas.{SetsNoWord}
+use Rattle.written_words.proofs.noted_words.StepLemmas.{IsSwap, safe_other}
+use Rattle.written_words.proofs.noted_words.DidLemmas.{writer}
+use Rattle.written_words.proofs.noted_words.RunLemmas.{noted_at}
+use Rattle.written_words.proofs.settled_words.TurnLemmas.{calm, opens, closes, ends_all, undone, writes, puts}
+use Rattle.written_words.proofs.settled_words.ReadLemmas.{ReadFinds, finds}
 use Rattle.written_words.specs.Writers.{AreLevelsOf, writers}
 use Rattle.written_words.specs.Tags.{IsWrittenRun}
 use Rattle.written_words.specs.Undone.{Observes, reads, overwrites, ObservedLevelsStay}
 use Rattle.written_words.proofs.LevelLemmas.{levels_at}
 use Rattle.written_words.proofs.PlaceLemmas.{one_section, at_least, is_level}
-use Rattle.settled_words.proofs.RoundLemmas as rounds
+use Rattle.written_words.proofs.settled_words.RoundLemmas as rounds
 use Rattle.written_words.proofs.StepLemmas.{word_named}
 use Rattle.written_words.proofs.TagLemmas.{of_section}
 use Rattle.written_words.proofs.WrittenLemmas as written

@@ -12,17 +12,17 @@ use Rattle.thread_automaton.specs.NextMove.{word_place}
 use Rattle.thread_automaton.specs.Told.{after_answer}
 use Rattle.core_runs.specs.Cores.{Core}
 use Rattle.core_runs.specs.Acts.{Act, quiet, did, beside, DidAt, ActAt}
-use Rattle.level_runs.specs.LevelRun.{In}
+use Rattle.section_laws.specs.LevelRun.{In}
 use Rattle.section_laws.specs.Runs.{IsRun}
 use Rattle.section_laws.proofs.RunLemmas.{along}
-use Rattle.noted_words.proofs.TurnLemmas.{SetsNoWord}
-use Rattle.settled_words.proofs.TurnLemmas.{calm, opens, closes, ends_all, undone, writes, puts}
+use Rattle.written_words.proofs.noted_words.TurnLemmas.{SetsNoWord}
+use Rattle.written_words.proofs.settled_words.TurnLemmas.{calm, opens, closes, ends_all, undone, writes, puts}
 use Rattle.written_words.specs.Writers.{writers_by, writers}
 use Rattle.written_words.specs.Tags.{IsWrittenRun}
 use Rattle.written_words.specs.Undone.{DoomedWritersAreOpen}
 use Rattle.written_words.proofs.LevelLemmas.{levels_at}
 use Rattle.written_words.proofs.PlaceLemmas.{of_thread}
-use Rattle.settled_words.proofs.RoundLemmas as rounds
+use Rattle.written_words.proofs.settled_words.RoundLemmas as rounds
 use Rattle.written_words.proofs.StepLemmas as steps
 use Rattle.written_words.proofs.WrittenLemmas as written
 use Rattle.written_words.proofs.RunLemmas.{written_at}

@@ -24,29 +24,29 @@ use Rattle.thread_automaton.specs.Checks.{written_word, noted}
 use Rattle.thread_automaton.specs.Told.{after_answer}
 use Rattle.core_runs.specs.Cores.{Core}
 use Rattle.core_runs.specs.Acts.{Act, did, DidAt}
-use Rattle.level_runs.specs.LevelRun.{In}
+use Rattle.section_laws.specs.LevelRun.{In}
 use Rattle.section_laws.specs.Runs.{IsRun}
 use Rattle.section_laws.proofs.DeedLemmas.{makes_it}
 use Rattle.section_laws.proofs.RunLemmas.{facts_at}
-use Rattle.own_sections.proofs.SeenLemmas.{undoing_seen}
-use Rattle.own_sections.proofs.MoveLemmas.{own_at, own_words_are_known}
-use Rattle.section_levels.proofs.RunLemmas.{counted_at}
-use Rattle.level_marks.specs.Marks.{MarksFall}
-use Rattle.level_marks.proofs.RowLemmas.{NoUndo, all_count}
-use Rattle.level_marks.proofs.RunLemmas.{marks_fall}
-use Rattle.open_sections.specs.OpenSections.{IsLiveOrRevoking}
-use Rattle.run_monitors.proofs.StageLemmas.{undoes_none}
-use Rattle.noted_words.specs.Noted.{IsTaggedRun}
-use Rattle.noted_words.proofs.TurnLemmas.{SetsNoWord}
-use Rattle.noted_words.proofs.StepLemmas.{was_live, pins}
-use Rattle.settled_words.proofs.RunLemmas.{falls_at}
-use Rattle.settled_words.proofs.TurnLemmas.{Leaves, calm, opens, closes, ends_all, undone, writes, puts}
+use Rattle.section_laws.proofs.own_sections.SeenLemmas.{undoing_seen}
+use Rattle.section_laws.proofs.own_sections.MoveLemmas.{own_at, own_words_are_known}
+use Rattle.section_laws.proofs.section_levels.RunLemmas.{counted_at}
+use Rattle.section_laws.specs.Marks.{MarksFall}
+use Rattle.section_laws.proofs.level_marks.RowLemmas.{NoUndo, all_count}
+use Rattle.section_laws.proofs.level_marks.RunLemmas.{marks_fall}
+use Rattle.section_laws.specs.OpenSections.{IsLiveOrRevoking}
+use Rattle.first_law.proofs.run_monitors.StageLemmas.{undoes_none}
+use Rattle.written_words.specs.Noted.{IsTaggedRun}
+use Rattle.written_words.proofs.noted_words.TurnLemmas.{SetsNoWord}
+use Rattle.written_words.proofs.noted_words.StepLemmas.{was_live, pins}
+use Rattle.written_words.proofs.settled_words.RunLemmas.{falls_at}
+use Rattle.written_words.proofs.settled_words.TurnLemmas.{Leaves, calm, opens, closes, ends_all, undone, writes, puts}
 use Rattle.written_words.specs.Writers.{AreLevelsOf, Writers, log_of, writers}
 use Rattle.written_words.specs.Tags.{OldWordsSay}
 use Rattle.written_words.specs.Written.{has, HasWrittenSince}
 use Rattle.written_words.proofs.LevelLemmas.{levels_at}
 use Rattle.written_words.proofs.PlaceLemmas.{place_in, place_later, one_section, depth_at}
-use Rattle.settled_words.proofs.RoundLemmas as rounds
+use Rattle.written_words.proofs.settled_words.RoundLemmas as rounds
 use Rattle.written_words.proofs.TagLemmas.{old_length, AllBefore}
 use Rattle.written_words.proofs.SinceLemmas.{has_not, since_opened, old_opened, since_same, since_written, since_put}
 use Rattle.written_words.proofs.WrittenLemmas as written

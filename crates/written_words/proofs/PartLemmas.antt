@@ -19,28 +19,28 @@ use Rattle.thread_automaton.specs.Told.{after_answer}
 use Rattle.automaton_rows.specs.Fits.{IsFit}
 use Rattle.core_runs.specs.Cores.{Core}
 use Rattle.core_runs.specs.Acts.{Act, did, DidAt}
-use Rattle.level_runs.specs.LevelRun.{In}
+use Rattle.section_laws.specs.LevelRun.{In}
 use Rattle.section_laws.specs.Runs.{IsRun}
 use Rattle.section_laws.proofs.SectionLemmas.{sections_apart}
 use Rattle.section_laws.proofs.RunLemmas.{facts_at}
-use Rattle.known_sections.specs.Known.{IsCommittedOrPinned}
-use Rattle.section_levels.proofs.RunLemmas.{counted_at}
-use Rattle.open_sections.specs.OpenSections.{IsLiveOrRevoking}
-use Rattle.open_sections.proofs.WordLemmas.{committed_closed}
-use Rattle.run_layout.specs.Layout.{IsWordPlace}
-use Rattle.noted_words.specs.Noted.{IsTaggedRun, heap_of}
-use Rattle.noted_words.proofs.TagLemmas.{PutsFirst}
-use Rattle.noted_words.proofs.TurnLemmas.{SetsNoWord}
-use Rattle.noted_words.proofs.StepLemmas.{safe_other, was_live, pins, undone_part}
-use Rattle.noted_words.proofs.DidLemmas.{writer}
-use Rattle.noted_words.proofs.RunLemmas.{noted_at}
-use Rattle.settled_words.proofs.TurnLemmas.{calm, opens, closes, ends_all, undone, writes, puts}
+use Rattle.section_laws.specs.Known.{IsCommittedOrPinned}
+use Rattle.section_laws.proofs.section_levels.RunLemmas.{counted_at}
+use Rattle.section_laws.specs.OpenSections.{IsLiveOrRevoking}
+use Rattle.section_laws.proofs.open_sections.WordLemmas.{committed_closed}
+use Rattle.section_laws.specs.Layout.{IsWordPlace}
+use Rattle.written_words.specs.Noted.{IsTaggedRun, heap_of}
+use Rattle.written_words.proofs.noted_words.TagLemmas.{PutsFirst}
+use Rattle.written_words.proofs.noted_words.TurnLemmas.{SetsNoWord}
+use Rattle.written_words.proofs.noted_words.StepLemmas.{safe_other, was_live, pins, undone_part}
+use Rattle.written_words.proofs.noted_words.DidLemmas.{writer}
+use Rattle.written_words.proofs.noted_words.RunLemmas.{noted_at}
+use Rattle.written_words.proofs.settled_words.TurnLemmas.{calm, opens, closes, ends_all, undone, writes, puts}
 use Rattle.written_words.specs.Writers.{AreLevelsOf, writers}
 use Rattle.written_words.specs.Tags.{TagSays, OldWordSays}
 use Rattle.written_words.specs.Written.{has, HasWrittenSince}
 use Rattle.written_words.proofs.LevelLemmas.{levels_at}
 use Rattle.written_words.proofs.PlaceLemmas.{place_in, one_section, at_least, depth_at}
-use Rattle.settled_words.proofs.RoundLemmas as rounds
+use Rattle.written_words.proofs.settled_words.RoundLemmas as rounds
 use Rattle.written_words.proofs.StepLemmas as steps
 use Rattle.written_words.proofs.StepLemmas.{was_there, begins}
 use Rattle.written_words.proofs.TagLemmas.{of_section}

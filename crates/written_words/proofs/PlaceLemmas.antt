@@ -7,8 +7,8 @@ use Rattle.step_port.specs.declared.step.Step.{Step}
 use Rattle.step_port.specs.declared.step.Step.TheVariants.{OpenSection, OpenLevel}
 use Rattle.core_runs.specs.Cores.{Core}
 use Rattle.core_runs.specs.Acts.{Act, did, mover}
-use Rattle.level_runs.specs.LevelRun.{In, IsLevel}
-use Rattle.level_runs.proofs.LevelLemmas.{has_nth}
+use Rattle.section_laws.specs.LevelRun.{In, IsLevel}
+use Rattle.section_laws.proofs.level_runs.LevelLemmas.{has_nth}
 use Rattle.written_words.specs.Writers.{OpensInside, AreLevelsOf}
 
 -- the section in which the step opens a level

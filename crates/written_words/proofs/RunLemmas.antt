@@ -16,17 +16,17 @@ use Rattle.thread_automaton.specs.ThreadState.{ThreadState, Mark, is_open}
 use Rattle.thread_automaton.specs.Told.{after_answer, after_quiet}
 use Rattle.core_runs.specs.Cores.{Core}
 use Rattle.core_runs.specs.Acts.{Act, quiet, did, beside, DidAt, ActAt}
-use Rattle.level_runs.specs.LevelRun.{In}
+use Rattle.section_laws.specs.LevelRun.{In}
 use Rattle.section_laws.specs.Runs.{IsRun}
 use Rattle.section_laws.proofs.RunLemmas.{along, facts_at}
-use Rattle.section_levels.proofs.RunLemmas.{counted_at}
-use Rattle.run_layout.specs.Layout.{IsWordPlace}
-use Rattle.run_layout.proofs.RunLemmas.{beside_object}
-use Rattle.noted_words.specs.Noted.{IsTaggedRun, heap_of}
-use Rattle.settled_words.proofs.TurnLemmas.{Leaves, calm, opens, closes, ends_all, undone, writes, puts}
+use Rattle.section_laws.proofs.section_levels.RunLemmas.{counted_at}
+use Rattle.section_laws.specs.Layout.{IsWordPlace}
+use Rattle.section_laws.proofs.run_layout.RunLemmas.{beside_object}
+use Rattle.written_words.specs.Noted.{IsTaggedRun, heap_of}
+use Rattle.written_words.proofs.settled_words.TurnLemmas.{Leaves, calm, opens, closes, ends_all, undone, writes, puts}
 use Rattle.written_words.specs.Writers.{log_of, writers_by, writers}
 use Rattle.written_words.specs.Tags.{IsWrittenRun, TagSays, OldWordsSay, TagsSayWriters, OldTagsSayWriters}
-use Rattle.settled_words.proofs.RoundLemmas as rounds
+use Rattle.written_words.proofs.settled_words.RoundLemmas as rounds
 use Rattle.written_words.proofs.TagLemmas.{old_later, AllBefore, all_later}
 use Rattle.written_words.proofs.WrittenLemmas as written
 use Rattle.written_words.proofs.WrittenLemmas.{calm_written, swap_written, put_written, on}

@@ -6,10 +6,10 @@ use Rattle.op_core.specs.OrdinaryState.{set_at}
 use Rattle.op_core.proofs.PointwiseLemmas.{same_or_other, set_at-hit, set_at-other}
 use Rattle.write_log.specs.declared.Noted.{Noted}
 use Rattle.thread_automaton.specs.ThreadState.{nth_or, noted_since}
-use Rattle.level_runs.specs.LevelRun.{In}
-use Rattle.settled_lists.specs.Settled.{notes}
-use Rattle.settled_lists.proofs.PartLemmas.{more_since}
-use Rattle.settled_lists.proofs.ReplayLemmas.{noted_first}
+use Rattle.section_laws.specs.LevelRun.{In}
+use Rattle.section_laws.specs.Settled.{notes}
+use Rattle.section_laws.proofs.settled_lists.PartLemmas.{more_since}
+use Rattle.section_laws.proofs.settled_lists.ReplayLemmas.{noted_first}
 use Rattle.written_words.specs.Written.{has, OldWordsSince, HasWrittenSince}
 use Rattle.written_words.proofs.TagLemmas.{AllBefore}
 

@@ -16,15 +16,15 @@ use Rattle.thread_automaton.specs.Told.{after_answer}
 use Rattle.core_runs.specs.Cores.{Core, threads_by}
 use Rattle.core_runs.specs.Acts.{Act, did, DidAt}
 use Rattle.section_laws.specs.Runs.{IsRun}
-use Rattle.section_levels.proofs.RunLemmas.{Counted, counted_at}
-use Rattle.section_levels.proofs.RunLemmas as levels
-use Rattle.run_layout.specs.Layout.{Objects, IsWordPlace}
-use Rattle.run_layout.proofs.RunLemmas.{objects_stay}
-use Rattle.run_monitors.proofs.DidLemmas as dids
-use Rattle.run_monitors.proofs.RunLemmas.{so_at}
-use Rattle.noted_words.specs.Noted.{IsTaggedRun, heap_of}
-use Rattle.noted_words.proofs.TurnLemmas.{SetsNoWord}
-use Rattle.settled_words.proofs.RoundLemmas as rounds
+use Rattle.section_laws.proofs.section_levels.RunLemmas.{Counted, counted_at}
+use Rattle.section_laws.proofs.section_levels.RunLemmas as levels
+use Rattle.section_laws.specs.Layout.{Objects, IsWordPlace}
+use Rattle.section_laws.proofs.run_layout.RunLemmas.{objects_stay}
+use Rattle.first_law.proofs.run_monitors.DidLemmas as dids
+use Rattle.first_law.proofs.run_monitors.RunLemmas.{so_at}
+use Rattle.written_words.specs.Noted.{IsTaggedRun, heap_of}
+use Rattle.written_words.proofs.noted_words.TurnLemmas.{SetsNoWord}
+use Rattle.written_words.proofs.settled_words.RoundLemmas as rounds
 use Rattle.written_words.specs.Writers.{Writers, writers_after, log_of, writers_by, writers}
 
 -- a word that an operation names is one of an object

@@ -11,10 +11,10 @@ use Rattle.step_port.specs.Words.{Words}
 use Rattle.thread_automaton.specs.ThreadState.{nth_or}
 use Rattle.core_runs.specs.Cores.{Core}
 use Rattle.core_runs.specs.Acts.{Act, did}
-use Rattle.level_runs.specs.LevelRun.{In}
-use Rattle.known_sections.specs.Known.{IsCommittedOrPinned}
-use Rattle.noted_words.proofs.TagLemmas.{section_is, level_is}
-use Rattle.noted_words.proofs.DidLemmas.{writer}
+use Rattle.section_laws.specs.LevelRun.{In}
+use Rattle.section_laws.specs.Known.{IsCommittedOrPinned}
+use Rattle.written_words.proofs.noted_words.TagLemmas.{section_is, level_is}
+use Rattle.written_words.proofs.noted_words.DidLemmas.{writer}
 use Rattle.written_words.specs.Writers.{AreLevelsOf}
 use Rattle.written_words.specs.Tags.{TagSays, OldWordSays, OldWordsSay}
 use Rattle.written_words.proofs.PlaceLemmas.{one_thread}

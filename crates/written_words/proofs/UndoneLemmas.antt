@@ -12,14 +12,14 @@ use Rattle.thread_automaton.specs.ThreadState.{ThreadState}
 use Rattle.core_runs.specs.Cores.{Core}
 use Rattle.core_runs.specs.Acts.{Act, did, mover}
 use Rattle.core_runs.specs.Revoked.{levels_from, IsDoomed}
-use Rattle.level_runs.specs.LevelRun.{is_undone, LevelAt, In, IsDoomedAt}
-use Rattle.level_runs.proofs.LevelLemmas.{RevokedBefore, revoked_before, open_since, Since, since, keeps_on, is_gone}
+use Rattle.section_laws.specs.LevelRun.{is_undone, LevelAt, In, IsDoomedAt}
+use Rattle.section_laws.proofs.level_runs.LevelLemmas.{RevokedBefore, revoked_before, open_since, Since, since, keeps_on, is_gone}
 use Rattle.section_laws.specs.Runs.{IsRun}
-use Rattle.section_levels.specs.Levels.{levels_in, revoked_in, RunsInLevels}
-use Rattle.section_levels.proofs.LevelLemmas.{runs_in_levels, doomed_at}
-use Rattle.run_layout.specs.Layout.{IsWordPlace}
-use Rattle.noted_words.specs.Noted.{heap_of}
-use Rattle.noted_words.proofs.TagLemmas.{section_of_none}
+use Rattle.section_laws.specs.Levels.{levels_in, revoked_in, RunsInLevels}
+use Rattle.section_laws.proofs.section_levels.LevelLemmas.{runs_in_levels, doomed_at}
+use Rattle.section_laws.specs.Layout.{IsWordPlace}
+use Rattle.written_words.specs.Noted.{heap_of}
+use Rattle.written_words.proofs.noted_words.TagLemmas.{section_of_none}
 use Rattle.written_words.specs.Writers.{AreLevelsOf, writers}
 use Rattle.written_words.specs.Tags.{IsWrittenRun, TagSays}
 use Rattle.written_words.specs.Undone.{UndoneLevelsAreInNoWriter, UndoneLevelsHaveWrittenNothing, UndoneSectionsHaveWrittenNothing}

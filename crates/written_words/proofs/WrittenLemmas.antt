@@ -26,30 +26,30 @@ use Rattle.thread_automaton.specs.Told.{after_answer}
 use Rattle.automaton_rows.specs.Fits.{IsFit}
 use Rattle.core_runs.specs.Cores.{Core}
 use Rattle.core_runs.specs.Acts.{Act, did, DidAt}
-use Rattle.level_runs.specs.LevelRun.{In}
+use Rattle.section_laws.specs.LevelRun.{In}
 use Rattle.section_laws.specs.Runs.{IsRun}
 use Rattle.section_laws.proofs.ActLemmas.{take_whole}
 use Rattle.section_laws.proofs.WordLemmas.{exchanged}
 use Rattle.section_laws.proofs.SectionLemmas.{sections_open_once}
 use Rattle.section_laws.proofs.RunLemmas.{facts_at}
-use Rattle.own_sections.proofs.MoveLemmas.{moves_at}
-use Rattle.known_sections.specs.Known.{IsCommittedOrPinned}
-use Rattle.known_sections.proofs.KnownLemmas.{move_keeps, known_sections_are_pinned}
-use Rattle.section_levels.proofs.RunLemmas.{counted_at}
-use Rattle.run_layout.specs.Layout.{IsWordPlace, FitsObjects}
-use Rattle.run_layout.proofs.ListLemmas as lists
-use Rattle.run_layout.proofs.PlaceLemmas.{put_object}
-use Rattle.run_layout.proofs.RunLemmas.{laid_at}
-use Rattle.run_monitors.proofs.RunLemmas.{so_at}
-use Rattle.noted_words.specs.Noted.{IsTaggedRun, heap_of}
-use Rattle.noted_words.proofs.TagLemmas.{PutsFirst, puts_first, tag_is, Safe, by_none, by_own, by_known, safe_so}
-use Rattle.noted_words.proofs.TurnLemmas.{SetsNoWord}
-use Rattle.noted_words.proofs.DidLemmas.{writer}
-use Rattle.noted_words.proofs.RunLemmas.{noted_at}
+use Rattle.section_laws.proofs.own_sections.MoveLemmas.{moves_at}
+use Rattle.section_laws.specs.Known.{IsCommittedOrPinned}
+use Rattle.section_laws.proofs.known_sections.KnownLemmas.{move_keeps, known_sections_are_pinned}
+use Rattle.section_laws.proofs.section_levels.RunLemmas.{counted_at}
+use Rattle.section_laws.specs.Layout.{IsWordPlace, FitsObjects}
+use Rattle.section_laws.proofs.run_layout.ListLemmas as lists
+use Rattle.section_laws.proofs.run_layout.PlaceLemmas.{put_object}
+use Rattle.section_laws.proofs.run_layout.RunLemmas.{laid_at}
+use Rattle.first_law.proofs.run_monitors.RunLemmas.{so_at}
+use Rattle.written_words.specs.Noted.{IsTaggedRun, heap_of}
+use Rattle.written_words.proofs.noted_words.TagLemmas.{PutsFirst, puts_first, tag_is, Safe, by_none, by_own, by_known, safe_so}
+use Rattle.written_words.proofs.noted_words.TurnLemmas.{SetsNoWord}
+use Rattle.written_words.proofs.noted_words.DidLemmas.{writer}
+use Rattle.written_words.proofs.noted_words.RunLemmas.{noted_at}
 use Rattle.written_words.specs.Writers.{AreLevelsOf, Writers, writers_after, log_of, writers}
 use Rattle.written_words.specs.Tags.{TagSays, OldWordSays, OldWordsSay}
 use Rattle.written_words.proofs.LevelLemmas.{levels_at, opened_before}
-use Rattle.settled_words.proofs.RoundLemmas as rounds
+use Rattle.written_words.proofs.settled_words.RoundLemmas as rounds
 use Rattle.written_words.proofs.StepLemmas as steps
 use Rattle.written_words.proofs.StepLemmas.{word_named, sets_none, old_word, new_word}
 use Rattle.written_words.proofs.TagLemmas.{zero_tag, untagged, says_own, old_length, old_first, old_later, own_levels, AreBefore, AllBefore, all_later, all_take, all_drop, all_first, IsHeader}

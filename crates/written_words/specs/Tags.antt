@@ -9,9 +9,9 @@ use Rattle.thread_automaton.specs.declared.Bounds.{Bounds}
 use Rattle.thread_automaton.specs.ThreadState.{ThreadState}
 use Rattle.core_runs.specs.Cores.{Core}
 use Rattle.core_runs.specs.Acts.{Act}
-use Rattle.known_sections.specs.Known.{IsCommittedOrPinned}
-use Rattle.run_layout.specs.Layout.{IsWordPlace}
-use Rattle.noted_words.specs.Noted.{IsTaggedRun, heap_of}
+use Rattle.section_laws.specs.Known.{IsCommittedOrPinned}
+use Rattle.section_laws.specs.Layout.{IsWordPlace}
+use Rattle.written_words.specs.Noted.{IsTaggedRun, heap_of}
 use Rattle.written_words.specs.Writers.{AreLevelsOf, writers}
 
 -- A run as `noted_words` has them, in which no word of an object has a tag as it begins.

@@ -20,9 +20,9 @@ use Rattle.thread_automaton.specs.Told.{advanced, told}
 use Rattle.core_runs.specs.Cores.{Core}
 use Rattle.core_runs.specs.Acts.{Act, did, mover}
 use Rattle.core_runs.specs.Revoked.{levels_from, IsDoomed}
-use Rattle.level_runs.specs.LevelRun.{In}
-use Rattle.run_layout.specs.Layout.{IsWordPlace}
-use Rattle.noted_words.specs.Noted.{heap_of}
+use Rattle.section_laws.specs.LevelRun.{In}
+use Rattle.section_laws.specs.Layout.{IsWordPlace}
+use Rattle.written_words.specs.Noted.{heap_of}
 use Rattle.written_words.specs.Writers.{writers}
 use Rattle.written_words.specs.Tags.{IsWrittenRun}
 

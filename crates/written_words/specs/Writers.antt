@@ -11,7 +11,7 @@ use Rattle.thread_automaton.specs.declared.Bounds.{Bounds}
 use Rattle.thread_automaton.specs.ThreadState.{ThreadState, nth_or}
 use Rattle.core_runs.specs.Cores.{Core}
 use Rattle.core_runs.specs.Acts.{Act, did}
-use Rattle.section_levels.specs.Levels.{IsLevelledRun}
+use Rattle.section_laws.specs.Levels.{IsLevelledRun}
 
 -- ---- levels. A level has the number of the act that opened it, and levels inside of one another are a list, the innermost first.
 

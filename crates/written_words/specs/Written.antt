@@ -9,10 +9,10 @@ use Rattle.thread_automaton.specs.declared.Bounds.{Bounds}
 use Rattle.thread_automaton.specs.ThreadState.{ThreadState, mark_of, noted_since}
 use Rattle.core_runs.specs.Cores.{Core}
 use Rattle.core_runs.specs.Acts.{Act}
-use Rattle.settled_lists.specs.Settled.{notes}
-use Rattle.run_layout.specs.Layout.{IsWordPlace}
-use Rattle.noted_words.specs.Noted.{heap_of}
-use Rattle.open_sections.specs.OpenSections.{IsLiveOrRevoking}
+use Rattle.section_laws.specs.Settled.{notes}
+use Rattle.section_laws.specs.Layout.{IsWordPlace}
+use Rattle.written_words.specs.Noted.{heap_of}
+use Rattle.section_laws.specs.OpenSections.{IsLiveOrRevoking}
 use Rattle.written_words.specs.Writers.{writers}
 use Rattle.written_words.specs.Tags.{IsWrittenRun}
 

@@ -3,6 +3,10 @@
 //! Each function does nothing: its contract is the law.
 #![tactic(auto)]
 
+pub mod noted_words;
+pub mod settled_words;
+pub mod undone_monitors;
+
 ghost use Rattle.written_words.specs.Writers.{OpenLevelsAreOfSections};
 ghost use Rattle.written_words.specs.Tags.{TagsSayWriters, OldTagsSayWriters};
 ghost use Rattle.written_words.specs.Written.{LevelsWriteWhatIsLogged, CarriedWordsAreLogged};

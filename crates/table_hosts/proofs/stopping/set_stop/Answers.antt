@@ -1,7 +1,7 @@
 use Rattle.std.proofs.Common.{ap, ◌∙◌, refl, sym, subst}
 use Rattle.step_port.specs.declared.answer.StepAnswer.{StepAnswer}
 use Rattle.step_port.specs.declared.step.Step.{Step}
-use Rattle.run_parts.specs.NextSteps.{step_made}
+use Rattle.section_laws.specs.NextSteps.{step_made}
 use Rattle.table_words.specs.Tables.{setup_in, parts_of_seat}
 use Rattle.table_words.specs.Views.{first_after, FirstIsInRun}
 use Rattle.table_hosts.proofs.HostSteps.{host_stands}

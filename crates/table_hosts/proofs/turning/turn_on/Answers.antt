@@ -3,7 +3,7 @@ use Rattle.thread_automaton.specs.declared.Bounds.{Bounds}
 use Rattle.thread_automaton.specs.declared.Move.TheVariants.{Make}
 use Rattle.thread_automaton.specs.NextMove.{next_move}
 use Rattle.thread_moves.specs.Thread.{thread_of}
-use Rattle.run_parts.specs.NextSteps.{step_made}
+use Rattle.section_laws.specs.NextSteps.{step_made}
 use Rattle.table_words.specs.Views.{first_after, FirstIsInRun}
 use Rattle.table_words.specs.Plays.{SeatMayMake}
 use Rattle.table_words.specs.Ports.{port_setup, port_view, HandedAt}

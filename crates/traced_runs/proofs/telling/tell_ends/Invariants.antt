@@ -3,7 +3,7 @@ use Rattle.core_runs.specs.Cores.{Core}
 use Rattle.word_machine.specs.Machine.{IsCoreOf}
 use Rattle.journal_rows.specs.Told.{RowsTold, after_row_calls}
 use Rattle.journal_rows.specs.Rows.{AreRowsTold}
-use Rattle.told_journals.specs.Calls.{end_calls_told}
+use Rattle.core_law.specs.Calls.{end_calls_told}
 use Rattle.traced_runs.proofs.telling.tell_ends.Given as goal
 
 abbrev pub invariant-loop-number : goal.invariant-loop-number

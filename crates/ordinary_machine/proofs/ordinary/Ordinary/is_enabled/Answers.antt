@@ -11,5 +11,5 @@ returns-else-can_step g c =
     let now = c.args.self.now in
     let thread = c.args.thread in
     lacking_enabled g.C.ThreadCode.code (machine_of state now) thread (state c.in-Some.code.now) c.in-Want.op c.lacks_number.result
-    (λ r. owner_there (object_at now.objects r) thread)
+    (λ r. owner_there (object_at now.state.objects r) thread)
     c.in-Some.ensures (sym c.in-Want.ensures) (λ can. false≢true (sym c.if-can_step.false ∙ c.can_step.ensures.1 can)) c.lacks_number.ensures

@@ -12,7 +12,7 @@ pub compare_exchange-requires : goal.compare_exchange-requires
 compare_exchange-requires g c =
     let k = setup_in c.args.self.now in
     let v = parts_of_seat c.args.seat.now in
-    let at = at_place _ _ c.args.self.now.areas_are _ (Section c.args.section) c.requires.there.0 _ c.place-place.ensures.place in
+    let at = at_place _ _ c.args.self.now.areas_are _ (Section c.args.section) c.requires.there.0 _ c.place_from-place.ensures.place in
     let level : revoke_of c.revoked_to-word.result ≡ c.args.level = ap revoke_of c.revoked_to-word.ensures ∙ (c.levels_are_revoked.ensures c.args.old c.args.level c.ranges.level.fits).1.5 in (
       search rules,
       search rules,
@@ -26,7 +26,7 @@ pub returns-clause-grown : goal.returns-clause-grown
 returns-clause-grown g c =
     let k = setup_in c.args.self.now in
     let v = parts_of_seat c.args.seat.now in
-    let at = at_place _ _ c.args.self.now.areas_are _ (Section c.args.section) c.requires.there.0 _ c.place-place.ensures.place in
+    let at = at_place _ _ c.args.self.now.areas_are _ (Section c.args.section) c.requires.there.0 _ c.place_from-place.ensures.place in
     let level : revoke_of c.revoked_to-word.result ≡ c.args.level = ap revoke_of c.revoked_to-word.ensures ∙ (c.levels_are_revoked.ensures c.args.old c.args.level c.ranges.level.fits).1.5 in
     beside_told g.C.ThreadCode.state g.C.ThreadCode.code k v _ (BreakLevel c.args.section c.args.old c.args.level) _
     (level_told k v c.requires.seated c.args.section _ c.args.old c.args.level _ at level) c.compare_exchange.result _ c.compare_exchange.ensures.2

@@ -2,7 +2,7 @@ use Rattle.std.proofs.Common.{rules, refl, ap, ◌∙◌, ℕ}
 use Rattle.step_port.specs.declared.step.Effect.{Effect}
 use Rattle.step_port.specs.Steps.{place_of}
 use Rattle.step_port.specs.Words.{answer_to}
-use Rattle.run_parts.specs.NextSteps.{step_made}
+use Rattle.section_laws.specs.NextSteps.{step_made}
 use Rattle.table_words.specs.Views.{first_after}
 use Rattle.table_words.specs.Tables.{setup_in, parts_of_seat}
 use Rattle.table_words.proofs.Blocks.{word_after}
@@ -18,7 +18,7 @@ compare_exchange-requires g c =
       search rules,
       search rules,
       own_allowed g.C.ThreadCode.state g.C.ThreadCode.code k _ _ _ step (may_there g.C.ThreadCode.state g.C.ThreadCode.code k v step c.requires.next) _
-          (at_place _ _ c.args.self.now.areas_are _ (place_of step) c.requires.step.0 _ c.place-place.ensures.place) _ (ap word_after c.requires.step.1)
+          (at_place _ _ c.args.self.now.areas_are _ (place_of step) c.requires.step.0 _ c.place_from-place.ensures.place) _ (ap word_after c.requires.step.1)
           (λ (n : ℕ). n) (λ (n : ℕ). refl) c.requires.step.2 v c.requires.next,
     )
 

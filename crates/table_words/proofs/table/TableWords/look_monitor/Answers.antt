@@ -10,7 +10,7 @@ pub load-requires : goal.load-requires
 load-requires g c =
     let k = setup_in c.args.self.now in
     let v = parts_of_seat c.args.seat.now in
-    let at = at_place _ _ c.args.self.now.areas_are _ (Object (c.args.object + 1)) c.requires.there.0 _ c.place-place.ensures.place in (
+    let at = at_place _ _ c.args.self.now.areas_are _ (Object (c.args.object + 1)) c.requires.there.0 _ c.place_from-place.ensures.place in (
       search rules,
       search rules,
       beside_allowed g.C.ThreadCode.state g.C.ThreadCode.code k _ _ _ (LookMonitor c.args.object) (there_in _ _ c.args.self.now.areas_are _ (Object (c.args.object + 1)) c.requires.there.0 c.requires.there.1) _ at
@@ -21,7 +21,7 @@ pub returns-clause-grown : goal.returns-clause-grown
 returns-clause-grown g c =
     let k = setup_in c.args.self.now in
     let v = parts_of_seat c.args.seat.now in
-    let at = at_place _ _ c.args.self.now.areas_are _ (Object (c.args.object + 1)) c.requires.there.0 _ c.place-place.ensures.place in
+    let at = at_place _ _ c.args.self.now.areas_are _ (Object (c.args.object + 1)) c.requires.there.0 _ c.place_from-place.ensures.place in
     beside_told g.C.ThreadCode.state g.C.ThreadCode.code k v _ (LookMonitor c.args.object) _ (monitor_told k v c.requires.seated c.args.object _ at) c.load.result _ c.load.ensures.2
 
 pub returns-clause-in_run : goal.returns-clause-in_run

@@ -1,5 +1,0 @@
-use Rattle.java_cores.proofs.laws.core_states_fit.Goals as goal
-use Rattle.java_cores.proofs.Whole.{core_states_fit}
-
-pub returns : goal.returns
-returns c us order main sound room is = core_states_fit us order sound room main is

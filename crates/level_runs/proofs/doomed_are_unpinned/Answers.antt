@@ -1,5 +1,0 @@
-use Rattle.level_runs.proofs.LevelLemmas as lemmas
-use Rattle.level_runs.proofs.doomed_are_unpinned.Goals as goal
-
-pub returns : goal.returns
-returns g = lemmas.doomed_are_unpinned

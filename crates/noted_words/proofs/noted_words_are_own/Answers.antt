@@ -1,5 +1,0 @@
-use Rattle.noted_words.proofs.RunLemmas.{noted_words_are_own}
-use Rattle.noted_words.proofs.noted_words_are_own.Goals as goal
-
-pub returns : goal.returns
-returns g c = noted_words_are_own g.C.ThreadCode.code

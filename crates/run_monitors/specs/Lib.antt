@@ -1,3 +1,0 @@
-pub mod Monitors
-pub mod Held
-pub mod Laws

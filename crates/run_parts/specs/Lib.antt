@@ -1,2 +1,0 @@
-pub mod NextSteps
-pub mod Numbers

@@ -1,5 +1,0 @@
-use Rattle.section_levels.proofs.LevelLemmas.{doomed_levels_are_unpinned}
-use Rattle.section_levels.proofs.doomed_levels_are_unpinned.Goals as goal
-
-pub returns : goal.returns
-returns g c = doomed_levels_are_unpinned g.C.ThreadCode.code

@@ -1,5 +1,0 @@
-use Rattle.section_levels.proofs.RunLemmas.{levels_are_counted}
-use Rattle.section_levels.proofs.levels_are_counted.Goals as goal
-
-pub returns : goal.returns
-returns g c = levels_are_counted g.C.ThreadCode.code

@@ -1,5 +1,0 @@
-use Rattle.section_levels.proofs.LevelLemmas.{threads_run_in_levels}
-use Rattle.section_levels.proofs.threads_run_in_levels.Goals as goal
-
-pub returns : goal.returns
-returns g c = threads_run_in_levels g.C.ThreadCode.code

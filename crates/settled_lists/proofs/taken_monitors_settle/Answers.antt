@@ -1,6 +1,0 @@
-use Rattle.settled_lists.proofs.MonitorLemmas.{takes_monitor}
-use Rattle.settled_lists.proofs.taken_monitors_settle.Goals as goal
-
-pub returns : goal.returns
-returns g settled settled' held back back' facts t h free_before others now =
-    takes_monitor settled held back facts t h settled' back' free_before others.0 others.1 now

@@ -1,3 +1,0 @@
-pub mod KnownTexts
-pub mod KeptTexts
-pub mod Texts

@@ -1,2 +1,0 @@
-pub mod CleanCuts
-pub mod CutLaw
