@@ -28,7 +28,7 @@ KINDS = ["load", "store", "exchange", "add"]
 THREADS = [1, 2, 4]
 STEPS_STAND_ON = ["atomic_table", "anyhow", "op_core", "heap_words"]
 TURNS_STAND_ON = ["anyhow", "op_core", "fixed_objects", "heap_words", "step_port", "plain_words", "thread_automaton", "thread_moves",
-                  "rollback_core", "core_runs", "section_laws", "run_parts", "table_words", "table_hosts", "table_runs", "table_cases"]
+                  "rollback_core", "core_runs", "section_laws", "table_words", "table_hosts", "table_runs", "table_cases"]
 INVARIANT = """use Rattle.std.proofs.Common.{{◌≡◌}}
 use Rattle.table_steps.proofs.{0}.Given as goal
 
