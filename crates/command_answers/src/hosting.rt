@@ -6,10 +6,9 @@ ghost use Rattle.encoded_texts.specs.Encoded.{encoded_text};
 ghost use Rattle.accepted_runs.specs.Programs.{IsOfFiles};
 ghost use Rattle.java_run.specs.Run.{IsHostedRunOf};
 ghost use Rattle.command_answers.specs.Answers.{IsDecided, RunsHosted};
-ghost use Rattle.command_answers.specs.Folder.{AreListed, ReadsInOrder};
+ghost use Rattle.file_answers.specs.Folder.{AreListed, ReadsInOrder};
 
-use crate::failure::Failure;
-use crate::loading::{Judged, Loaded, load_folder};
+use file_answers::{Failure, Judged, Loaded, load_folder};
 use java_run::execute_hosted;
 use java_world::JavaWorld;
 use jr_ports::{ClassDir, Gate};

@@ -5,21 +5,19 @@ ghost use Rattle.jr_ports.specs.Stream.{Gains};
 ghost use Rattle.encoded_texts.specs.Encoded.{encoded_text};
 ghost use Rattle.java_run.specs.Check.{Begins, IsCheckOf};
 ghost use Rattle.program_input.specs.Input.{TakesAtMost, TakesUpTo};
-ghost use Rattle.command_answers.specs.Answers.{Checks, ComeTo, IsDecided, IsJournalText, IsJudged, IsMigrated};
-ghost use Rattle.command_answers.specs.Folder.{AreListed, ReadsInOrder};
+ghost use Rattle.command_answers.specs.Answers.{Checks, ComeTo, IsDecided, IsJournalText, IsJudged, IsMigrated, checked_answer};
+ghost use Rattle.file_answers.specs.Folder.{AreListed, ReadsInOrder};
 
-use crate::answers::{checked_answer, given, not_execution};
-use crate::failure::Failure;
-use crate::loading::{Judged, Loaded, load_folder};
+use file_answers::{Failure, Judged, Loaded, given, load_folder, not_execution};
 use java_run::{Checked, JournalCheck};
 use java_world::JavaWorld;
 use jr_ports::{ClassDir, Source};
 use op_core::NoMemory;
 use program_accept::Program;
-use program_answers::Answer;
+use program_answers::{Answer, Output, Status};
 use program_input::{Feed, feed_up_to, read_up_to};
-use rows::Bytes;
-use std::alloc::Global;
+use rows::{Bytes, Rows};
+use std::alloc::{AllocError, Global};
 use trace_journal::{JournalRefusal, as_newest};
 
 /// How many bytes are read at most: one more than a journal may have.
@@ -77,6 +75,20 @@ fn check_journal<I: Source>(
     feed_up_to(alloc, input, MOST_READ, &mut input_check)?;
     let checked = input_check.check.finish(alloc, accepted.world())?;
     Ok(checked)
+}
+
+// What the check of a journal came to.
+fn checked_answer(alloc: Global, checked: Checked) -> Result<Answer, AllocError>
+    ensures { IfOk result (λ answer. answer ≡ checked_answer checked) }
+{
+    match checked {
+        Checked::Execution(lines) => Ok(Answer {
+            status: Status::Done,
+            out: Output::from_pieces(lines),
+            err: Rows::new(alloc),
+        }),
+        Checked::NotExecution(number) => not_execution(alloc, number),
+    }
 }
 
 // The answer of `check` to what the class files of a folder come to. Where they are no program the input isn't called.

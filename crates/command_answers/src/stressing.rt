@@ -6,7 +6,7 @@ ghost use Rattle.java_run.specs.Run.{IsHostedRunOf, IsRunOf, shown};
 ghost use Rattle.command_answers.specs.Answers as answers;
 ghost use Rattle.command_answers.specs.Ends.{is_done};
 
-use crate::loading::{Judged, judge};
+use file_answers::{Judged, judge};
 use java_run::{PrintedRun, execute_hosted_printed, execute_printed};
 use java_world::JavaWorld;
 use jr_ports::Gate;

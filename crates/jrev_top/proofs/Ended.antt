@@ -11,8 +11,8 @@ use Rattle.encoded_texts.specs.Encoded.{encoded_text}
 use Rattle.command_answers.specs.Answers.{Counts, Runs, RunsHosted, Traces, Checks}
 use Rattle.command_answers.specs.Ends.{is_done, is_of_journal, is_of_run}
 use Rattle.command_answers.proofs.EndLemmas.{ends-as, ran, ran_hosted, traced, checks, counted, judged_as, made, migrated, stressed}
-use Rattle.command_answers.specs.declared.failure.Failure.{Failure}
-use Rattle.command_answers.specs.declared.failure.Failure.TheVariants as failure
+use Rattle.file_answers.specs.declared.failure.Failure.{Failure}
+use Rattle.file_answers.specs.declared.failure.Failure.TheVariants as failure
 use Rattle.jrev_top.specs.Touches.{may_end}
 use Rattle.jrev_top.specs.Headline.{Outside, IsAnswerTo, IsAnswer, IsTold, Reports, FailsAsked, FailsStream, Ends, MayEnd}
 

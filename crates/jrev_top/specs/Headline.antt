@@ -11,11 +11,11 @@ use Rattle.program_answers.specs.declared.status.Status.TheVariants as statuses
 use Rattle.program_answers.specs.declared.answer.Answer.{Answer}
 use Rattle.program_answers.specs.Written.{SinkRun, Streams, Comes, IsReadFault, IsNoMemory}
 use Rattle.command_answers.specs.Answers.{usage, given, help_text, version_text, IsDecided, Counts, Runs, RunsHosted, Traces, Checks, IsJournalText, IsText, IsMade, IsMigrated, IsStressed}
-use Rattle.command_answers.specs.declared.failure.Failure.{Failure}
-use Rattle.command_answers.specs.declared.failure.Failure.TheVariants.{Failed, NoMemory}
+use Rattle.file_answers.specs.declared.failure.Failure.{Failure}
+use Rattle.file_answers.specs.declared.failure.Failure.TheVariants.{Failed, NoMemory}
 use Rattle.jrev_top.specs.Touches.{folder_named, input_wanted, may_end}
-use Rattle.command_answers.specs.Folder.{AreListed}
-pub use Rattle.command_answers.specs.Folder.{ReadsInOrder}
+use Rattle.file_answers.specs.Folder.{AreListed}
+pub use Rattle.file_answers.specs.Folder.{ReadsInOrder}
 
 -- What the program has from outside: what the folder was asked and gave; what the folder and the input hold, where that
 -- is known; and the names of the files that were read from the folder, before the run and after it.

@@ -3,15 +3,15 @@
 ghost use Rattle.std.specs.Prelude.{◌≡◌, ◌<◌, IfOk, OnOk, IfSome, None};
 ghost use Rattle.program_input.specs.Input.{TakesAtMost, TakesUpTo};
 ghost use Rattle.command_answers.specs.Answers as answers;
-ghost use Rattle.command_answers.specs.Folder.{ReadsInOrder};
+ghost use Rattle.file_answers.specs.Folder.{ReadsInOrder};
 ghost use Rattle.jrev_top.specs.Touches.{asked_by, files_wanted, folder_named, input_wanted};
 ghost use Rattle.jrev_top.specs.Headline.{AsksOnly, FailsAsked, IsAnswer};
 
 use command_answers::{
-    Count, Execution, Failure, HostedExecution, Tracing, answer_to_number, check, decide_hosted,
-    decide_program, given, help, make, migrate, usage, version,
+    Execution, HostedExecution, Tracing, answer_to_number, check, decide_hosted, migrate,
 };
 use command_words::{Request, WordsRefusal, words_of};
+use file_answers::{Count, Failure, decide_program, given, help, make, usage, version};
 use jr_ports::{ClassDir, Gate, Source};
 use program_answers::Answer;
 use rows::Bytes;

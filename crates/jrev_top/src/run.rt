@@ -2,7 +2,7 @@
 
 ghost use Rattle.std.specs.Prelude.{◌≡◌, ◌<◌, ◌⊎◌, ◌↔◌, IfSome, None};
 ghost use Rattle.program_input.specs.Input.{TakesAtMost, TakesUpTo};
-ghost use Rattle.command_answers.specs.Folder.{ReadsInOrder};
+ghost use Rattle.file_answers.specs.Folder.{ReadsInOrder};
 ghost use Rattle.jrev_top.specs.Touches.{asked_by, files_wanted, folder_named, input_wanted};
 ghost use Rattle.jrev_top.specs.Headline.{AsksOnly, FailsAsked, MayEnd, Reports, sink_run};
 

@@ -3,7 +3,7 @@
 ghost use Rattle.std.specs.Prelude.{◌≡◌};
 ghost use Rattle.jrev_top.specs.Headline.{IsTold, sink_run};
 
-use command_answers::Failure;
+use file_answers::Failure;
 use jr_ports::Sink;
 use program_answers::{Answer, Status, report, say, say_fault};
 

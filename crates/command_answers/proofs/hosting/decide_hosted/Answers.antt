@@ -1,7 +1,7 @@
 use Rattle.std.proofs.Common.{take}
 use Rattle.encoded_texts.specs.Encoded.{encoded_text}
 use Rattle.command_answers.specs.Answers.{RunsHosted}
-use Rattle.command_answers.proofs.Answered.{judged_program, judged_other}
+use Rattle.file_answers.proofs.Answered.{judged_program, judged_other}
 use Rattle.command_answers.proofs.hosting.decide_hosted.Goals as goal
 
 pub returns-in_ok-executed-in-Program-clause-answer : goal.returns-in_ok-executed-in-Program-clause-answer

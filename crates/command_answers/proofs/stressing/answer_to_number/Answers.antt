@@ -4,7 +4,7 @@ use Rattle.encoded_texts.specs.Encoded.{encoded_text}
 use Rattle.stress_texts.specs.Classes.{stress_names}
 use Rattle.stress_texts.specs.declared.classes.TheConstants.{STRESS_MAIN}
 use Rattle.command_answers.specs.Answers.{IsJudged, RunsTwice}
-use Rattle.command_answers.proofs.Answered.{judged_program, judged_other}
+use Rattle.file_answers.proofs.Answered.{judged_program, judged_other}
 use Rattle.command_answers.proofs.stressing.answer_to_number.Goals as goal
 
 pub returns-in-Program : goal.returns-in-Program

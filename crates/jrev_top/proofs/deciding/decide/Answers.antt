@@ -4,7 +4,7 @@ use Rattle.command_words.specs.declared.request.Request.{Request}
 use Rattle.command_answers.specs.Answers.{Runs, RunsHosted, Traces, Checks, Counts}
 use Rattle.jrev_top.proofs.Asked.{program-asked}
 use Rattle.jrev_top.proofs.Ended.{OnOk-left, OnOk-right}
-use Rattle.command_answers.proofs.Found.{order-none}
+use Rattle.file_answers.proofs.Found.{order-none}
 use Rattle.jrev_top.proofs.deciding.decide.Goals as goal
 
 pub returns-in-Ok-Pick-clause-answer : goal.returns-in-Ok-Pick-clause-answer

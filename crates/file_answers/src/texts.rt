@@ -1,7 +1,7 @@
 //! What `--help` and `--version` print.
 
 ghost use Rattle.std.specs.Prelude.{◌≡◌};
-ghost use Rattle.command_answers.specs.Answers.{help_text, version_text};
+ghost use Rattle.file_answers.specs.Answers.{help_text, version_text};
 
 /// What `--help` prints.
 pub const HELP: &str = "jrev executes Java class files whose monitors can be revoked.

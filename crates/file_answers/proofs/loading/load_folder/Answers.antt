@@ -1,10 +1,10 @@
 use Rattle.std.proofs.Common.{◌≡◌, length, map, ◌∙◌, rules}
 use Rattle.std.proofs.lemmas.List.{length-map}
 use Rattle.encoded_texts.specs.Encoded.{encoded_text}
-use Rattle.command_answers.specs.Answers.{ComeTo}
-use Rattle.command_answers.proofs.Found.{order-loaded}
-use Rattle.command_answers.proofs.Answered.{loaded}
-use Rattle.command_answers.proofs.loading.load_folder.Goals as goal
+use Rattle.file_answers.specs.Answers.{ComeTo}
+use Rattle.file_answers.proofs.Found.{order-loaded}
+use Rattle.file_answers.proofs.Answered.{loaded}
+use Rattle.file_answers.proofs.loading.load_folder.Goals as goal
 
 pub returns-in_err-files-clause-order : goal.returns-in_err-files-clause-order
 returns-in_err-files-clause-order g c =

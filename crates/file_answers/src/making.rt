@@ -3,7 +3,7 @@
 ghost use Rattle.std.specs.Prelude.{◌≡◌, ◌+◌, ◌<◌, List, ℕ, IfOk, OnOk};
 ghost use Rattle.assembler_text.specs.TextLines.{most_bytes};
 ghost use Rattle.program_input.specs.Input.{TakesAtMost, TakesUpTo};
-ghost use Rattle.command_answers.specs.Answers.{IsMade, IsText};
+ghost use Rattle.file_answers.specs.Answers.{IsMade, IsText};
 
 use crate::answers::{given, not_made};
 use crate::failure::Failure;

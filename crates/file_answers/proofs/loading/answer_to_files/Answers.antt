@@ -2,8 +2,8 @@ use Rattle.std.proofs.Common.{◌≡◌, length, map, rules, string_bytes}
 use Rattle.std.proofs.lemmas.Result.{IfOk-weaker}
 use Rattle.std.proofs.lemmas.List.{length-map}
 use Rattle.encoded_texts.specs.Encoded.{encoded_text}
-use Rattle.command_answers.proofs.Answered.{judged_program}
-use Rattle.command_answers.proofs.loading.answer_to_files.Goals as goal
+use Rattle.file_answers.proofs.Answered.{judged_program}
+use Rattle.file_answers.proofs.loading.answer_to_files.Goals as goal
 
 pub returns-in-Program : goal.returns-in-Program
 returns-in-Program g c =

@@ -1,8 +1,8 @@
-//! What is answered to a program that is accepted.
+//! Runs of a program that is accepted, and journals of them.
 
 ghost use Rattle.std.specs.Prelude.{IfOk, ◌<◌, ◌^◌};
 
-use crate::answers::accepted;
+use file_answers::Verdict;
 use java_run::{execute, trace};
 use java_world::JavaWorld;
 use op_core::{Limits, NoMemory};
@@ -10,36 +10,6 @@ use program_accept::Program;
 use program_answers::Answer;
 use schedules::Schedule;
 use std::alloc::Global;
-
-/// What is answered to a program that is accepted.
-pub trait Verdict {
-    ghost use Rattle.std.specs.Prelude.{ℕ, IfOk};
-    ghost use Rattle.accepted_runs.specs.Programs.{IsOfFiles};
-    ghost use Rattle.program_accept.specs.Accepted.{Accepted};
-    ghost use Rattle.program_answers.specs.declared.answer.Answer.{Answer};
-
-    /// What holds of the answer to a program of `count` classes.
-    ghost answers: { Self → ℕ → Accepted → Answer → Type 0 };
-
-    /// The answer to a program of `count` classes. It fails only when memory runs out.
-    fn answer(&self, alloc: Global, count: usize, accepted: &Program) -> Result<Answer, NoMemory>
-        requires { IsOfFiles accepted.now }
-        ensures { IfOk result (λ answer. answers self.now count accepted.now answer) };
-}
-
-/// How many classes were read.
-#[derive(Clone, Copy)]
-pub struct Count;
-
-impl Verdict for Count {
-    ghost use Rattle.command_answers.specs.Answers.{Counts};
-
-    ghost answers = { λ _. Counts };
-
-    fn answer(&self, alloc: Global, count: usize, _accepted: &Program) -> Result<Answer, NoMemory> {
-        Ok(accepted(alloc, count)?)
-    }
-}
 
 /// A run of the program by a schedule and under limits, with its counts where they are asked for. There are fewer than 2^24
 /// sections, and fewer than 2^56 turns of each thread.

@@ -1,7 +1,7 @@
 use Rattle.std.proofs.Common.{inl, inr, ap, ◌∙◌, Err}
 use Rattle.class_make.specs.declared.refusal.MakeRefusal.{MakeRefusal}
-use Rattle.command_answers.specs.Answers.{given}
-use Rattle.command_answers.proofs.making.answer_to_text.Goals as goal
+use Rattle.file_answers.specs.Answers.{given}
+use Rattle.file_answers.proofs.making.answer_to_text.Goals as goal
 
 pub returns-in_ok-given-in-Ok : goal.returns-in_ok-given-in-Ok
 returns-in_ok-given-in-Ok c =

@@ -1,6 +1,6 @@
 use Rattle.std.proofs.Common.{List, ℕ, subst}
-use Rattle.command_answers.specs.Answers.{IsMade}
-use Rattle.command_answers.proofs.making.make.Goals as goal
+use Rattle.file_answers.specs.Answers.{IsMade}
+use Rattle.file_answers.proofs.making.make.Goals as goal
 
 pub returns-clause-answer : goal.returns-clause-answer
 returns-clause-answer g c =

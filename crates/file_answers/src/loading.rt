@@ -3,8 +3,8 @@
 ghost use Rattle.std.specs.Prelude.{◌≡◌, ◌<◌, List, ℕ, IfOk, OnOk, IfSome, None, map, take, string_bytes};
 ghost use Rattle.jr_ports.specs.Stream.{Gains};
 ghost use Rattle.encoded_texts.specs.Encoded.{encoded_text};
-ghost use Rattle.command_answers.specs.Answers.{ComeTo, IsJudged, IsDecided, IsLoaded};
-ghost use Rattle.command_answers.specs.Folder.{AreListed, ReadsInOrder};
+ghost use Rattle.file_answers.specs.Answers.{ComeTo, IsJudged, IsDecided, IsLoaded};
+ghost use Rattle.file_answers.specs.Folder.{AreListed, ReadsInOrder};
 
 use crate::answers::{no_main, refused};
 use crate::failure::Failure;
@@ -22,7 +22,7 @@ const MOST_READ: usize = 1025;
 
 /// What class files come to before anything is done with them.
 #[derive(Drop)]
-pub(crate) enum Judged {
+pub enum Judged {
     /// A program that is accepted.
     Program(Program),
     /// No such program, to which this is answered.
@@ -31,17 +31,18 @@ pub(crate) enum Judged {
 
 /// What the class files of a folder come to.
 #[derive(Drop)]
-pub(crate) struct Loaded {
+pub struct Loaded {
     /// How many they are.
-    pub(crate) count: usize,
-    pub(crate) judged: Judged,
+    pub count: usize,
+    /// What they come to.
+    pub judged: Judged,
 }
 
 /// What class files of these names and bytes come to, where the program is to begin with a class.
 ///
 /// # Errors
 /// It fails only when memory runs out.
-pub(crate) fn judge(
+pub fn judge(
     alloc: Global,
     names: &[String],
     files: Vec<Vec<u8>>,
@@ -85,7 +86,7 @@ pub fn answer_to_files<V: Verdict>(
 ///
 /// # Errors
 /// `Failed` comes exactly where the folder's count of faults rose in this call.
-pub(crate) fn load_folder<D: ClassDir>(
+pub fn load_folder<D: ClassDir>(
     alloc: Global,
     dir: &str,
     main: &str,

@@ -3,9 +3,8 @@
 ghost use Rattle.std.specs.Prelude.{◌≡◌, [], ◌∷◌, List, ℕ, IfOk, OnOk, map, string_bytes, slice_index_or};
 ghost use Rattle.std.specs.Fmt.{decimal};
 ghost use Rattle.program_answers.specs.Written.{line};
-ghost use Rattle.command_answers.specs.Answers as answers;
+ghost use Rattle.file_answers.specs.Answers as answers;
 
-use java_run::Checked;
 use program_accept::{Refusal, Stage};
 use program_answers::{Answer, Output, Status};
 use rows::{Bytes, Rows};
@@ -156,25 +155,11 @@ pub(crate) fn not_made(alloc: Global, number: u32) -> Result<Answer, AllocError>
 }
 
 /// The line of this number shows that a text is the journal of no execution.
-pub(crate) fn not_execution(alloc: Global, number: u32) -> Result<Answer, AllocError>
+pub fn not_execution(alloc: Global, number: u32) -> Result<Answer, AllocError>
     ensures { IfOk result (λ answer. answer ≡ answers.not_execution number) }
 {
     let digits = number.to_string(alloc)?;
     let mut text = Vec::from_slice(alloc, b"not an execution: line ")?;
     text.extend_from_slice(digits.as_bytes())?;
     told(alloc, Status::NotExecution(number), text)
-}
-
-/// What the check of a journal came to.
-pub(crate) fn checked_answer(alloc: Global, checked: Checked) -> Result<Answer, AllocError>
-    ensures { IfOk result (λ answer. answer ≡ answers.checked_answer checked) }
-{
-    match checked {
-        Checked::Execution(lines) => Ok(Answer {
-            status: Status::Done,
-            out: Output::from_pieces(lines),
-            err: Rows::new(alloc),
-        }),
-        Checked::NotExecution(number) => not_execution(alloc, number),
-    }
 }

@@ -3,7 +3,7 @@
 ghost use Rattle.std.specs.Prelude.{◌≡◌};
 ghost use Rattle.jr_ports.specs.declared.ports.DirFault.TheVariants as folders;
 ghost use Rattle.jr_ports.specs.declared.ports.SourceFault.TheVariants as inputs;
-ghost use Rattle.command_answers.specs.declared.failure.Failure.TheVariants.{Failed, NoMemory};
+ghost use Rattle.file_answers.specs.declared.failure.Failure.TheVariants.{Failed, NoMemory};
 
 use jr_ports::{DirFault, SourceFault};
 use std::alloc::{AllocError, AllocFailed};

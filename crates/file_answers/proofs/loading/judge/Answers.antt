@@ -1,9 +1,9 @@
 use Rattle.std.proofs.Common.{inl, inr, map, subst, ◌∙◌, ℕ, List}
 use Rattle.program_accept.specs.declared.refusal.AcceptRefusal.TheVariants.{NoMain, Refused}
 use Rattle.program_accept.specs.Accepted.{program_rules}
-use Rattle.command_answers.specs.Answers.{AreProgram, RefuseOnly}
-use Rattle.command_answers.proofs.Answered.{refuses-only}
-use Rattle.command_answers.proofs.loading.judge.Goals as goal
+use Rattle.file_answers.specs.Answers.{AreProgram, RefuseOnly}
+use Rattle.file_answers.proofs.Answered.{refuses-only}
+use Rattle.file_answers.proofs.loading.judge.Goals as goal
 
 pub returns-in-Ok : goal.returns-in-Ok
 returns-in-Ok c =

@@ -6,7 +6,7 @@ use Rattle.std.proofs.lemmas.List.{take-map}
 use Rattle.jr_ports.specs.Folder.{File, Asked, names_of}
 use Rattle.jr_ports.specs.Stream.{Gains}
 use Rattle.program_input.specs.Folder.{AreClassNames, ReadsFront}
-use Rattle.command_answers.specs.Folder.{AreListed, ReadsInOrder}
+use Rattle.file_answers.specs.Folder.{AreListed, ReadsInOrder}
 
 -- what is known of a folder that was asked for its names
 abbrev pub Told : Option Asked → Option (List File) → List ℕ → List (List ℕ) → Type 0
