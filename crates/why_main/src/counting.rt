@@ -2,12 +2,12 @@
 
 ghost use Rattle.code_decode.specs.Method.{StandsForFile};
 
-use crate::no_memory;
 use class_read::{ClassFile, ReadRefusal, read_class};
 use code_decode::{CodeAt, CodeRefusal, decode_class};
 use program_accept::Stage;
 use std::alloc::Global;
 use std::io;
+use why_names::no_memory;
 
 /// Whether the code of a class is first refused by the rule of a number.
 fn breaks_code(alloc: Global, file: ClassFile, number: u8) -> io::Result<bool>

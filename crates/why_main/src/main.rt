@@ -6,8 +6,6 @@ ghost use Rattle.why_main.specs.Verdict.{IsVerdict};
 
 mod accepted;
 mod counting;
-mod library;
-mod naming;
 mod refused;
 
 use accepted::show_accepted;
@@ -23,6 +21,7 @@ use std::env;
 use std::io::{self, ErrorKind};
 use std::process::ExitCode;
 use std::rt::{Env, Files};
+use why_names::no_memory;
 
 /// How many class files are read at most: one more than a program has, so that too many are seen.
 const MOST_READ: usize = 1025;
@@ -48,11 +47,6 @@ fn judge(alloc: Global, files: Vec<Vec<u8>>, main: &[u8]) -> Result<Verdict, NoM
         Err(AcceptRefusal::NoMain) => Ok(Verdict::NoMain),
         Err(AcceptRefusal::NoMemory) => Err(NoMemory),
     }
-}
-
-/// There is no memory.
-pub(crate) fn no_memory() -> io::Error {
-    io::Error::from(ErrorKind::OutOfMemory)
 }
 
 /// The words of `jrev load` with the words of the command line.

@@ -4,13 +4,14 @@ ghost use Rattle.std.specs.Prelude.{List, ℕ};
 ghost use Rattle.class_read.specs.ClassFile.{IsFile};
 
 use crate::counting::count_breaking;
-use crate::library::{owner_name, show_built_in, show_uses};
-use crate::naming::{show_class, show_entry, show_instruction, show_method};
-use crate::no_memory;
 use builtin_world::builtin;
 use class_read::{ClassFile, ReadRefusal, read_class};
 use program_accept::{Refusal, Stage};
 use std::io;
+use why_names::{
+    no_memory, owner_name, show_built_in, show_class, show_entry, show_instruction, show_method,
+    show_uses,
+};
 use why_texts::refusal_text;
 
 /// Prints the class of a file.

@@ -8,7 +8,7 @@ use class_read::{ClassFile, Constant, Member, NameRefusal, text_of};
 use instructions::row;
 use std::io;
 
-/// Prints the text of a Utf8 entry, quoted and with escapes.
+/// Prints the text of a Utf8 entry, quoted and with escapes, and `?` where the index has no such text.
 pub(crate) fn show_text<R: Print + AllocGlobal>(
     rt: &R,
     file: &ClassFile,
@@ -34,12 +34,11 @@ pub(crate) fn class_name_index(file: &ClassFile, index: u16) -> Option<u16> {
     }
 }
 
-/// Prints the name of a Class entry.
-pub(crate) fn show_class<R: Print + AllocGlobal>(
-    rt: &R,
-    file: &ClassFile,
-    index: u16,
-) -> io::Result<()>
+/// Prints the name of a Class entry, quoted, and `?` where the index has none.
+///
+/// # Errors
+/// It fails where nothing can be printed, and where there is no memory.
+pub fn show_class<R: Print + AllocGlobal>(rt: &R, file: &ClassFile, index: u16) -> io::Result<()>
     requires { (bytes : List ℕ) × IsFile bytes file.now }
 {
     match class_name_index(file, index) {
@@ -78,12 +77,12 @@ fn show_member<R: Print + AllocGlobal>(
     show_pair(rt, file, pair)
 }
 
-/// Prints what an entry names: a class, or a member with its class, its name and its descriptor.
-pub(crate) fn show_entry<R: Print + AllocGlobal>(
-    rt: &R,
-    file: &ClassFile,
-    index: u16,
-) -> io::Result<()>
+/// Prints what an entry names: a class, or a member with its class, its name and its descriptor. Of any other entry it prints
+/// the index.
+///
+/// # Errors
+/// It fails where nothing can be printed, and where there is no memory.
+pub fn show_entry<R: Print + AllocGlobal>(rt: &R, file: &ClassFile, index: u16) -> io::Result<()>
     requires { (bytes : List ℕ) × IsFile bytes file.now }
 {
     match file.pool.get(usize::from(index)) {
@@ -136,8 +135,11 @@ fn operand_at(bytes: &[u8], at: usize) -> Option<u16> {
     }
 }
 
-/// Prints the instruction at an offset of a method's code, and what it names.
-pub(crate) fn show_instruction<R: Print + AllocGlobal>(
+/// Prints the instruction at an offset of a method's code, and what it names. It prints nothing where the method has no code there.
+///
+/// # Errors
+/// It fails where nothing can be printed, and where there is no memory.
+pub fn show_instruction<R: Print + AllocGlobal>(
     rt: &R,
     file: &ClassFile,
     method: &Member,
@@ -165,7 +167,10 @@ pub(crate) fn show_instruction<R: Print + AllocGlobal>(
 }
 
 /// Prints the name and the descriptor of a method.
-pub(crate) fn show_method<R: Print + AllocGlobal>(
+///
+/// # Errors
+/// It fails where nothing can be printed, and where there is no memory.
+pub fn show_method<R: Print + AllocGlobal>(
     rt: &R,
     file: &ClassFile,
     method: &Member,

@@ -24,8 +24,11 @@ fn owner_index(file: &ClassFile, index: u16) -> Option<u16> {
     }
 }
 
-/// The name of the class that an entry names, or whose member it names.
-pub(crate) fn owner_name(alloc: Global, file: &ClassFile, index: u16) -> io::Result<Option<Text>>
+/// The name of the class that an entry names, or whose member it names, and `None` where it names neither.
+///
+/// # Errors
+/// It fails only when memory runs out.
+pub fn owner_name(alloc: Global, file: &ClassFile, index: u16) -> io::Result<Option<Text>>
     requires { (bytes : List ℕ) × IsFile bytes file.now }
 {
     match owner_index(file, index) {
@@ -65,8 +68,11 @@ fn show_used<R: Print + AllocGlobal>(
     Ok(())
 }
 
-/// Prints what the files name of a class.
-pub(crate) fn show_uses<R: Print + AllocGlobal>(
+/// Prints what the files of these names and bytes name of a class. A file that is no class file names nothing.
+///
+/// # Errors
+/// It fails where nothing can be printed, and where there is no memory.
+pub fn show_uses<R: Print + AllocGlobal>(
     rt: &R,
     names: &[String],
     files: &[Vec<u8>],
@@ -84,7 +90,10 @@ pub(crate) fn show_uses<R: Print + AllocGlobal>(
 
 /// Prints what is built in in the place of a class: of a built-in class its own members, and otherwise the names of all
 /// built-in classes.
-pub(crate) fn show_built_in<R: Print>(rt: &R, owner: &str) -> io::Result<()> {
+///
+/// # Errors
+/// It fails where nothing can be printed.
+pub fn show_built_in<R: Print>(rt: &R, owner: &str) -> io::Result<()> {
     match builtin(owner) {
         Some(class) => {
             let name = class.name;
