@@ -4,25 +4,11 @@ ghost use Rattle.std.specs.Prelude.{List, ℕ};
 ghost use Rattle.class_read.specs.ClassFile.{IsFile};
 
 use crate::counting::count_breaking;
-use builtin_world::builtin;
 use class_read::{ClassFile, ReadRefusal, read_class};
 use program_accept::{Refusal, Stage};
 use std::io;
-use why_names::{
-    no_memory, owner_name, show_built_in, show_class, show_entry, show_instruction, show_method,
-    show_uses,
-};
+use why_names::{no_memory, show_file_class, show_instruction, show_linked, show_method};
 use why_texts::refusal_text;
-
-/// Prints the class of a file.
-fn show_file_class<R: Print + AllocGlobal>(rt: &R, file: &ClassFile) -> io::Result<()>
-    requires { (bytes : List ℕ) × IsFile bytes file.now }
-{
-    print!(rt; "class:")?;
-    show_class(rt, file, file.this_class)?;
-    let major = file.major;
-    println!(rt; ", version {major}")
-}
 
 /// Prints the method of a refusal, and the instruction at its place.
 fn show_place<R: Print + AllocGlobal>(rt: &R, file: &ClassFile, refusal: Refusal) -> io::Result<()>
@@ -39,34 +25,6 @@ fn show_place<R: Print + AllocGlobal>(rt: &R, file: &ClassFile, refusal: Refusal
         }
         None => Ok(()),
     }
-}
-
-/// Prints what the entry of a refusal of linking names. Where it is a class of the Java API, or a member of one, prints what
-/// the program uses of the class and what is built in.
-fn show_linked<R: Print + AllocGlobal>(
-    rt: &R,
-    names: &[String],
-    files: &[Vec<u8>],
-    file: &ClassFile,
-    place: u16,
-) -> io::Result<()>
-    requires { (bytes : List ℕ) × IsFile bytes file.now }
-{
-    print!(rt; "it names:")?;
-    show_entry(rt, file, place)?;
-    println!(rt; "")?;
-    match owner_name(rt.alloc(), file, place)? {
-        Some(owner) if is_of_java(owner.as_str()) => {
-            show_uses(rt, names, files, owner.as_str())?;
-            show_built_in(rt, owner.as_str())
-        }
-        _ => Ok(()),
-    }
-}
-
-/// Whether a class is one of the Java API, by its name.
-fn is_of_java(name: &str) -> bool {
-    name.as_bytes().starts_with(b"java/") || builtin(name).is_some()
 }
 
 /// Prints what the numbers of a refusal mean in a file.

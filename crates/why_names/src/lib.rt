@@ -5,8 +5,8 @@
 mod library;
 mod naming;
 
-pub use library::{owner_name, show_built_in, show_uses};
-pub use naming::{show_class, show_entry, show_instruction, show_method};
+pub use library::show_linked;
+pub use naming::{show_file_class, show_instruction, show_method};
 use std::io::{self, ErrorKind};
 
 /// There is no memory.

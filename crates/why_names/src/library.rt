@@ -3,7 +3,7 @@
 ghost use Rattle.std.specs.Prelude.{List, ℕ};
 ghost use Rattle.class_read.specs.ClassFile.{IsFile};
 
-use crate::naming::{class_name_index, show_pair};
+use crate::naming::{class_name_index, show_entry, show_pair};
 use crate::no_memory;
 use builtin_world::{builtin, builtins};
 use class_read::{ClassFile, Constant, NameRefusal, ReadRefusal, read_class, text_of};
@@ -28,7 +28,7 @@ fn owner_index(file: &ClassFile, index: u16) -> Option<u16> {
 ///
 /// # Errors
 /// It fails only when memory runs out.
-pub fn owner_name(alloc: Global, file: &ClassFile, index: u16) -> io::Result<Option<Text>>
+pub(crate) fn owner_name(alloc: Global, file: &ClassFile, index: u16) -> io::Result<Option<Text>>
     requires { (bytes : List ℕ) × IsFile bytes file.now }
 {
     match owner_index(file, index) {
@@ -72,7 +72,7 @@ fn show_used<R: Print + AllocGlobal>(
 ///
 /// # Errors
 /// It fails where nothing can be printed, and where there is no memory.
-pub fn show_uses<R: Print + AllocGlobal>(
+pub(crate) fn show_uses<R: Print + AllocGlobal>(
     rt: &R,
     names: &[String],
     files: &[Vec<u8>],
@@ -93,7 +93,7 @@ pub fn show_uses<R: Print + AllocGlobal>(
 ///
 /// # Errors
 /// It fails where nothing can be printed.
-pub fn show_built_in<R: Print>(rt: &R, owner: &str) -> io::Result<()> {
+pub(crate) fn show_built_in<R: Print>(rt: &R, owner: &str) -> io::Result<()> {
     match builtin(owner) {
         Some(class) => {
             let name = class.name;
@@ -115,4 +115,35 @@ pub fn show_built_in<R: Print>(rt: &R, owner: &str) -> io::Result<()> {
             Ok(())
         }
     }
+}
+
+/// Prints what the entry of a refusal of linking names. Where it is a class of the Java API, or a member of one, prints what
+/// the program uses of the class and what is built in.
+///
+/// # Errors
+/// It fails where nothing can be printed, and where there is no memory.
+pub fn show_linked<R: Print + AllocGlobal>(
+    rt: &R,
+    names: &[String],
+    files: &[Vec<u8>],
+    file: &ClassFile,
+    place: u16,
+) -> io::Result<()>
+    requires { (bytes : List ℕ) × IsFile bytes file.now }
+{
+    print!(rt; "it names:")?;
+    show_entry(rt, file, place)?;
+    println!(rt; "")?;
+    match owner_name(rt.alloc(), file, place)? {
+        Some(owner) if is_of_java(owner.as_str()) => {
+            show_uses(rt, names, files, owner.as_str())?;
+            show_built_in(rt, owner.as_str())
+        }
+        _ => Ok(()),
+    }
+}
+
+/// Whether a class is one of the Java API, by its name.
+fn is_of_java(name: &str) -> bool {
+    name.as_bytes().starts_with(b"java/") || builtin(name).is_some()
 }

@@ -38,7 +38,11 @@ pub(crate) fn class_name_index(file: &ClassFile, index: u16) -> Option<u16> {
 ///
 /// # Errors
 /// It fails where nothing can be printed, and where there is no memory.
-pub fn show_class<R: Print + AllocGlobal>(rt: &R, file: &ClassFile, index: u16) -> io::Result<()>
+pub(crate) fn show_class<R: Print + AllocGlobal>(
+    rt: &R,
+    file: &ClassFile,
+    index: u16,
+) -> io::Result<()>
     requires { (bytes : List ℕ) × IsFile bytes file.now }
 {
     match class_name_index(file, index) {
@@ -82,7 +86,11 @@ fn show_member<R: Print + AllocGlobal>(
 ///
 /// # Errors
 /// It fails where nothing can be printed, and where there is no memory.
-pub fn show_entry<R: Print + AllocGlobal>(rt: &R, file: &ClassFile, index: u16) -> io::Result<()>
+pub(crate) fn show_entry<R: Print + AllocGlobal>(
+    rt: &R,
+    file: &ClassFile,
+    index: u16,
+) -> io::Result<()>
     requires { (bytes : List ℕ) × IsFile bytes file.now }
 {
     match file.pool.get(usize::from(index)) {
@@ -181,4 +189,17 @@ pub fn show_method<R: Print + AllocGlobal>(
     show_text(rt, file, method.name)?;
     show_text(rt, file, method.descriptor)?;
     println!(rt; "")
+}
+
+/// Prints the class of a file, with its version.
+///
+/// # Errors
+/// It fails where nothing can be printed, and where there is no memory.
+pub fn show_file_class<R: Print + AllocGlobal>(rt: &R, file: &ClassFile) -> io::Result<()>
+    requires { (bytes : List ℕ) × IsFile bytes file.now }
+{
+    print!(rt; "class:")?;
+    show_class(rt, file, file.this_class)?;
+    let major = file.major;
+    println!(rt; ", version {major}")
 }
