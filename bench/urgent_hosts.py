@@ -88,7 +88,7 @@ def built(folder, rounds, priority):
 def milliseconds(folder):
     """The milliseconds that an entry of the urgent thread takes in a run."""
     begun = time.perf_counter()
-    words = [PROGRAM, "run", folder, "Urgent", "--workers=6", "--turns=2000000000"]
+    words = [PROGRAM, "run", folder, "Urgent", "--workers=6", "--turns=1000000000"]
     printed = subprocess.run(words, stdout=subprocess.PIPE, check=True, timeout=300).stdout
     if printed != f"{ENTRIES}\n".encode():
         sys.exit(f"the run printed {printed!r}")
