@@ -25,8 +25,6 @@ mod replays;
 #[cfg(test)]
 mod scheduling;
 #[cfg(test)]
-mod scripts;
-#[cfg(test)]
 mod setting;
 #[cfg(test)]
 mod tables;
