@@ -4,6 +4,4 @@
 #[cfg(test)]
 mod setting;
 #[cfg(test)]
-mod texts;
-#[cfg(test)]
 mod threads;

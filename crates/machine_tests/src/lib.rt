@@ -15,18 +15,10 @@ macro_rules! event {
 }
 
 #[cfg(test)]
-mod advancing;
-#[cfg(test)]
 mod monitors_and_threads;
 #[cfg(test)]
 mod refusals;
 #[cfg(test)]
 mod replays;
 #[cfg(test)]
-mod scheduling;
-#[cfg(test)]
-mod setting;
-#[cfg(test)]
 mod tables;
-#[cfg(test)]
-mod toys;

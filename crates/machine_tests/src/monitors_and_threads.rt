@@ -1,7 +1,7 @@
 //! Tests of monitors and of the table of threads.
 
-use crate::setting::ample;
 use crate::tables::object;
+use machine_cases::ample;
 use machine_tables::{MonitorState, Objects, Seat, Standing, Threads, WaitState};
 use std::test::Fail;
 

@@ -1,6 +1,6 @@
 //! Tests of which events the ordinary machine refuses, and why.
 
-use crate::setting::{HAND_OVER, machine, opening};
+use machine_cases::{HAND_OVER, machine, opening};
 use op_core::{Event, Op, Reply, Script};
 use ordinary_machine::{Ordinary, StepRefusal};
 use std::alloc::Global;

@@ -1,6 +1,6 @@
 //! Tests of making the steps of given events, alone or in a replay.
 
-use crate::setting::{HAND_OVER, machine, opening};
+use machine_cases::{HAND_OVER, machine, opening};
 use op_core::{Event, Line, Op, Reply, ScriptStep};
 use ordinary_machine::StepRefusal;
 use std::test::Fail;

@@ -1,6 +1,6 @@
 //! Tests of the words of objects and of the tables of objects and classes.
 
-use crate::setting::ample;
+use machine_cases::ample;
 use machine_tables::{ClassProgress, Classes, HeapObject, MonitorState, Objects, Words};
 use op_core::NoMemory;
 use std::alloc::Global;

@@ -1,7 +1,7 @@
 //! Programs of threads that print what they read, run along schedules.
 
 use crate::scheduling::Live;
-use crate::setting::{ample, opening};
+use machine_cases::{ample, opening};
 use op_core::{Limits, Line, NoMemory, Op, Rows};
 use ordinary_machine::{Advance, Ordinary};
 use schedules::{OrderItem, Remaining, Schedule, TurnEnd, pick};

@@ -1,6 +1,6 @@
 //! Tests of advancing a thread by a step or by silent steps, and of what it is answered.
 
-use crate::setting::{machine, opening};
+use machine_cases::{machine, opening};
 use op_core::{Limit, Limits, Line, NoMemory, Op, Reply, ScriptStep, ThreadCode};
 use ordinary_machine::{Advance, Ordinary};
 use std::test::Fail;
