@@ -7,3 +7,4 @@ pub mod RunLemmas
 pub mod MainLemmas
 pub mod TextLemmas
 pub mod StateLemmas
+pub mod HostedLemmas

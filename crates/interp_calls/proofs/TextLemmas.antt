@@ -1,8 +1,8 @@
 -- Methods that read or make texts.
 use Rattle.std.specs.Prelude.{IsTrue}
-use Rattle.std.proofs.Common.{◌≡◌, ℕ, Bool, true, false, Option, None, Some, List, [], ◌∷◌, refl, ap, sym, subst, ◌∙◌}
+use Rattle.std.proofs.Common.{◌≡◌, ℕ, Bool, true, false, Option, None, Some, List, [], refl, ap, sym, subst, ◌∙◌}
 use Rattle.code_decode.specs.declared.code.ClassUnit.{ClassUnit}
-use Rattle.frame_snapshot.specs.FrameStack.{Frame as StackFrame, Saved, FrameStack}
+use Rattle.frame_snapshot.specs.FrameStack.{FrameStack}
 use Rattle.frame_snapshot.specs.declared.stage.CallSite.{CallSite}
 use Rattle.frame_snapshot.specs.declared.stage.Caller.{Caller}
 use Rattle.frame_snapshot.specs.declared.stage.Caller.TheVariants.{Instruction, Launch}
@@ -13,8 +13,7 @@ use Rattle.frame_snapshot.specs.declared.text.TextJob.TheVariants as jobs
 use Rattle.frame_snapshot.specs.declared.todo.Then.{Then}
 use Rattle.frame_snapshot.specs.declared.todo.Todo.{Todo}
 use Rattle.frame_snapshot.specs.declared.todo.Todo.TheVariants as todos
-use Rattle.op_core.specs.declared.Next.{Next}
-use Rattle.op_core.specs.declared.Next.TheVariants.{Silent, Want, Ended}
+use Rattle.op_core.specs.declared.Next.TheVariants.{Silent, Want}
 use Rattle.op_core.specs.declared.Op.{Op}
 use Rattle.op_core.specs.declared.Reply.{Reply}
 use Rattle.op_core.specs.Replies.{FitsNext, IsEntry}

@@ -1,9 +1,9 @@
 //! What a reply or a silent step leads to is done.
 
-ghost use Rattle.std.specs.Prelude.{◌≡◌, ◌≤◌, ◌++◌, length, drop};
+ghost use Rattle.std.specs.Prelude.{◌≡◌, ◌≤◌, ◌+◌, ◌++◌, length, drop};
 ghost use Rattle.std.specs.Prelude.{IfSome, IsNone};
 ghost use Rattle.frame_snapshot.specs.declared.stage.FrameStage.{FrameStage};
-ghost use Rattle.frame_snapshot.specs.FrameStack.{with_stage};
+ghost use Rattle.frame_snapshot.specs.FrameStack.{with_stage, with_step, without_words};
 ghost use Rattle.interp_local.specs.declared.step.LocalStep.{LocalStep};
 ghost use Rattle.interp_local.specs.Effects.{with_words};
 ghost use Rattle.interp_local.specs.Steps.{kind_of, local_now};
@@ -64,8 +64,9 @@ fn push_value(frames: &mut Frames, value: Value)
     }
 }
 
+/// How many words a value has.
 #[inline(always)]
-fn value_len(value: Value) -> usize
+pub fn value_len(value: Value) -> usize
     ensures { result ≡ length (value_words value) }
 {
     match value {
@@ -73,6 +74,18 @@ fn value_len(value: Value) -> usize
         Value::Word(_) => 1,
         Value::Long { .. } => 2,
     }
+}
+
+/// Takes words off the stack, pushes those of a value, and goes to another instruction.
+#[inline(always)]
+pub fn leave(frames: &mut Frames, taken: usize, value: Value, next: usize)
+    requires words { taken ≤ length frames.old.here.stack }
+    requires room { length (value_words value) ≤ frames.old.here.free + taken }
+    ensures { frames.new ≡ with_step (with_words (without_words frames.old taken) (value_words value)) next }
+{
+    frames.drop_words(taken);
+    push_value(frames, value);
+    frames.set_step(next);
 }
 
 /// How many instructions the method of the top frame has.
@@ -108,9 +121,7 @@ fn complete<P: JavaProgram>(
     if count > taken && !frames.has_room(count - taken) {
         return go_on(frames, Todo::Stuck);
     }
-    frames.drop_words(taken);
-    push_value(frames, value);
-    frames.set_step(next);
+    leave(frames, taken, value, next);
     frames.set_stage(FrameStage::Begun);
 }
 

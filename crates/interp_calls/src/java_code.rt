@@ -1,16 +1,20 @@
 //! A thread of a Java program.
 
-ghost use Rattle.std.specs.Prelude.{◌≡◌, None, Some, [], IfOk, IfSome, IsSome, IsTrue};
+ghost use Rattle.std.specs.Prelude.{◌≡◌, true, None, Some, [], IfOk, IfSome, IsSome, IsTrue};
 ghost use Rattle.java_rows.specs.Thread.{first_state, java_code};
 ghost use Rattle.frame_snapshot.specs.declared.todo.Todo.{Todo};
 ghost use Rattle.op_core.specs.declared.Op.{Op};
+ghost use Rattle.op_core.specs.declared.Next.{Next as nexts};
+ghost use Rattle.op_core.specs.Hosted.{IsLedTo, MayBeAsked};
 ghost use Rattle.op_core.specs.Replies.{FitsNext};
 ghost use Rattle.interp_plans.specs.Todos.{plan_at, plan_of};
 ghost use Rattle.interp_plans.specs.Uses.{frame_of};
 ghost use Rattle.interp_texts.specs.Told.{HasRoomNow, has_room-prop};
+ghost use Rattle.interp_calls.specs.Hosted.{LeadsTo};
 ghost use Rattle.interp_calls.specs.Local.{stands_in};
 
 use crate::behind::go_on_behind;
+use crate::hosted::run_answered;
 use crate::running::run;
 use crate::silent::{leaves_outside, next_outside, silent_outside};
 use crate::texts::{reply_inside, reply_outside, silent_inside};
@@ -19,7 +23,7 @@ use frame_snapshot::{CallSite, Caller, FrameStage, Frames, Then, Todo};
 use interp_plans::{Here, JavaProgram};
 use interp_texts::TextRun;
 use link_types::MethodId;
-use op_core::{CodeStop, Next, NoMemory, Op, Reply, ThreadCode};
+use op_core::{CodeStop, Next, NoMemory, Op, OpHost, Reply, ThreadCode};
 use std::alloc::Global;
 
 /// `run` of Thread.
@@ -141,6 +145,86 @@ impl<'p, P: JavaProgram> JavaCode<'p, P> {
             }
         }
     }
+
+    // Goes on by many steps at once, where the thread is at the beginning of an instruction, and does nothing elsewhere. `false`
+    // where the host may have declined what the thread wants.
+    #[inline(always)]
+    #[tactic(auto, using(crate::proofs::TextLemmas::begun_none, crate::proofs::TextLemmas::outside_is))]
+    fn go_on_answered<H: OpHost>(&mut self, host: &mut H, most: u64) -> bool
+        requires may { MayBeAsked java_code (saved_locals (P.units self.old.program.now) self.old.thread self.old.frames) H.passes H.answers H.may
+            (state_over (P.units self.old.program.now) self.old.thread self.old.frames self.old.texts self.old.text) host.old }
+        ensures led { IsLedTo java_code (saved_locals (P.units self.old.program.now) self.old.thread self.old.frames) H.passes H.answers H.declines
+            (state_over (P.units self.old.program.now) self.old.thread self.old.frames self.old.texts self.old.text) host.old
+            (state_over (P.units self.new.program.now) self.new.thread self.new.frames self.new.texts self.new.text) host.new }
+        ensures on { result ≡ true → LeadsTo (saved_locals (P.units self.old.program.now) self.old.thread self.old.frames) H.passes H.answers
+            (state_over (P.units self.old.program.now) self.old.thread self.old.frames self.old.texts self.old.text) host.old
+            (state_over (P.units self.new.program.now) self.new.thread self.new.frames self.new.texts self.new.text) host.new }
+        ensures saved { saved_locals (P.units self.new.program.now) self.new.thread self.new.frames
+            ≡ saved_locals (P.units self.old.program.now) self.old.thread self.old.frames }
+    {
+        match self.frames.stage_here() {
+            FrameStage::Begun => run_answered(
+                self.program,
+                self.thread,
+                &mut self.frames,
+                host,
+                most,
+            ),
+            _ => true,
+        }
+    }
+
+    // Makes the silent step that comes next, unless the host has no room for it, it would end a frame that was on top at a save,
+    // or it fails. Says whether it made it.
+    fn pass_silent<H: OpHost>(&mut self, host: &mut H) -> bool
+        requires { java_code.next (state_over (P.units self.old.program.now) self.old.thread self.old.frames self.old.texts self.old.text) ≡ nexts.Silent }
+        ensures led { LeadsTo (saved_locals (P.units self.old.program.now) self.old.thread self.old.frames) H.passes H.answers
+            (state_over (P.units self.old.program.now) self.old.thread self.old.frames self.old.texts self.old.text) host.old
+            (state_over (P.units self.new.program.now) self.new.thread self.new.frames self.new.texts self.new.text) host.new }
+        ensures saved { saved_locals (P.units self.new.program.now) self.new.thread self.new.frames
+            ≡ saved_locals (P.units self.old.program.now) self.old.thread self.old.frames }
+    {
+        if host.room() == 0 || self.leaves() {
+            return false;
+        }
+        match self.silent() {
+            Ok(()) => {
+                host.pass(1);
+                true
+            }
+            Err(_) => false,
+        }
+    }
+
+    // Makes silent steps, and then asks the host the operation that comes next, or makes one more silent step. After an answer it
+    // goes on by many steps at once. `false` also where the host may have declined what the thread wants.
+    #[inline(always)]
+    fn ask_next<H: OpHost>(&mut self, host: &mut H, most: u64) -> bool
+        requires may { MayBeAsked java_code (saved_locals (P.units self.old.program.now) self.old.thread self.old.frames) H.passes H.answers H.may
+            (state_over (P.units self.old.program.now) self.old.thread self.old.frames self.old.texts self.old.text) host.old }
+        ensures led { IsLedTo java_code (saved_locals (P.units self.old.program.now) self.old.thread self.old.frames) H.passes H.answers H.declines
+            (state_over (P.units self.old.program.now) self.old.thread self.old.frames self.old.texts self.old.text) host.old
+            (state_over (P.units self.new.program.now) self.new.thread self.new.frames self.new.texts self.new.text) host.new }
+        ensures on { result ≡ true → LeadsTo (saved_locals (P.units self.old.program.now) self.old.thread self.old.frames) H.passes H.answers
+            (state_over (P.units self.old.program.now) self.old.thread self.old.frames self.old.texts self.old.text) host.old
+            (state_over (P.units self.new.program.now) self.new.thread self.new.frames self.new.texts self.new.text) host.new }
+        ensures saved { saved_locals (P.units self.new.program.now) self.new.thread self.new.frames
+            ≡ saved_locals (P.units self.old.program.now) self.old.thread self.old.frames }
+    {
+        let made = self.run_silent(host.room());
+        host.pass(made);
+        match self.next() {
+            Next::Want(op) => match host.ask(op) {
+                Some(reply) => {
+                    self.reply(reply);
+                    self.go_on_answered(host, most)
+                }
+                None => false,
+            },
+            Next::Silent => self.pass_silent(host),
+            Next::Ended => false,
+        }
+    }
 }
 
 impl<'p, P: JavaProgram> ThreadCode for JavaCode<'p, P> {
@@ -198,6 +282,14 @@ impl<'p, P: JavaProgram> ThreadCode for JavaCode<'p, P> {
         match self.frames.stage_here() {
             FrameStage::Begun => run(self.program, self.thread, &mut self.frames, most),
             _ => 0,
+        }
+    }
+
+    fn run_with<H: OpHost>(&mut self, host: &mut H, most: u64) {
+        for _asked in 0..most {
+            if !self.ask_next(host, most) {
+                return;
+            }
         }
     }
 

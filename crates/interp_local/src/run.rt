@@ -93,6 +93,28 @@ fn run_few<P: Constants>(
     most
 }
 
+/// Makes steps of instructions that one look identifies, at most `most`, and says how many. It is meant for loops whose
+/// frames are nowhere else, which keep the place of the top frame in registers. Takes no memory.
+#[inline(always)]
+pub fn run_here<P: Constants>(
+    program: &P,
+    steps: &[Instr<Target>],
+    quicks: &[Quick],
+    frames: &mut Frames,
+    most: u64,
+) -> u64
+    requires { quicks.now ≡ quicks_of steps.now }
+    ensures run { IsLocalRun (P.units program.now) steps.now result frames.old frames.new }
+    ensures most { result ≤ most }
+{
+    for made in 0..most {
+        if !quick_step(program, steps, quicks, frames) {
+            return made;
+        }
+    }
+    most
+}
+
 // Makes steps of instructions that one look identifies. Meanwhile the frames are nowhere else, so the place of the top
 // frame stays in registers. Returns how many steps were made.
 #[inline(never)]
@@ -107,12 +129,8 @@ fn run_many<P: Constants>(
     ensures run { IsLocalRun (P.units program.now) steps.now result.1 frames result.0 }
     ensures most { result.1 ≤ most }
 {
-    for made in 0..most {
-        if !quick_step(program, steps, quicks, &mut frames) {
-            return (frames, made);
-        }
-    }
-    (frames, most)
+    let made = run_here(program, steps, quicks, &mut frames, most);
+    (frames, made)
 }
 
 // The same, of frames that are taken out for the steps: apart, since most runs don't come here.

@@ -11,4 +11,4 @@ mod values;
 
 pub use elements::{loads, stores};
 pub use replying::answer;
-pub use values::{done, high_read, low_read, low_written, read};
+pub use values::{done, high_read, length, low_read, low_written, read};

@@ -32,11 +32,13 @@ impl<'a, C: ThreadCode, P: StepPort, W: WordSight<P>> OpHost for TurnHost<'a, C,
 
     ghost declines = { λ h op k. SameBorrows h k × HostDeclines (host_place h) (host_place k) };
 
+    #[inline(always)]
     fn room(&self) -> u64 {
         let turns = self.own.bounds.limits.turns;
         self.left.min(turns.saturating_sub(self.own.counted))
     }
 
+    #[inline(always)]
     fn pass(&mut self, made: u64) {
         self.left -= made;
         if made > 0 {
@@ -44,6 +46,7 @@ impl<'a, C: ThreadCode, P: StepPort, W: WordSight<P>> OpHost for TurnHost<'a, C,
         }
     }
 
+    #[inline(always)]
     fn ask(&mut self, op: Op) -> Option<Reply> {
         match op {
             Op::Read(object, place) => self.read(object, place),

@@ -21,6 +21,7 @@ pub(crate) const LOAD_SECTION: u8 = 6;
 pub(crate) const LOAD_CLASS: u8 = 25;
 
 /// Whether a level is open that the thread hasn't seen pinned.
+#[inline(always)]
 pub(crate) fn has_unseen_level(own: &Own) -> bool
     ensures { result ≡ has_unseen_level own.now }
 {
@@ -28,6 +29,7 @@ pub(crate) fn has_unseen_level(own: &Own) -> bool
 }
 
 /// Whether the thread may read or overwrite this word of an object at once.
+#[inline(always)]
 pub(crate) fn is_safe(own: &Own, word: u64) -> bool
     ensures { result ≡ is_safe_for own.now word }
 {
@@ -38,6 +40,7 @@ pub(crate) fn is_safe(own: &Own, word: u64) -> bool
 }
 
 /// The word with this value that the thread writes.
+#[inline(always)]
 pub(crate) fn written_word(own: &Own, value: u32) -> u64
     ensures { result ≡ written_by own.now value }
 {
@@ -78,6 +81,7 @@ pub(crate) fn make_log_room(own: &mut Own) -> bool
 }
 
 /// Counts this many silent turns.
+#[inline(always)]
 pub(crate) fn count_silent(own: &mut Own, made: u64)
     requires { own.old.counted + made ≤ own.old.bounds.limits.turns }
     ensures { own.old.silents ≤ own.old.counted → own.new ≡ own_quiet own.old made }
@@ -106,6 +110,7 @@ pub(crate) fn know(own: &mut Own, section: u32, depth: u8)
 }
 
 /// Counts a turn with an event.
+#[inline(always)]
 pub(crate) fn count_event(own: &mut Own, kind: u8)
     requires { own.old.counted < own.old.bounds.limits.turns }
     ensures { own.new ≡ own_counted own.old kind }
@@ -116,6 +121,7 @@ pub(crate) fn count_event(own: &mut Own, kind: u8)
 }
 
 /// Counts the turn in which a word was overwritten, and logs the word where it can be put back. There must be room in the log.
+#[inline(always)]
 pub(crate) fn count_write(own: &mut Own, at: u32, old: u64)
     requires counted { own.old.counted < own.old.bounds.limits.turns }
     requires room { has_unseen_level own.old ≡ true → 0 < own.old.log.spare }

@@ -28,6 +28,7 @@ const LONGEST: u64 = 5;
 
 impl<'a, C: ThreadCode, P: StepPort, W: WordSight<P>> TurnHost<'a, C, P, W> {
     // Whether there are turns for an answer, and the thread may have one more counted turn.
+    #[inline(always)]
     fn has_turns(&self) -> bool
         ensures { IsTrue result → HasTurns (host_place self.now) }
     {
@@ -35,6 +36,7 @@ impl<'a, C: ThreadCode, P: StepPort, W: WordSight<P>> TurnHost<'a, C, P, W> {
     }
 
     // Whether the own section is as the thread has last seen it, where it may have changed.
+    #[inline(always)]
     fn is_as_seen(&self) -> bool
         ensures { IsTrue result → IsAsSeen (W.words self.now.port.now) self.now.own.now }
     {
@@ -76,6 +78,7 @@ impl<'a, C: ThreadCode, P: StepPort, W: WordSight<P>> TurnHost<'a, C, P, W> {
     }
 
     // Looks at the own section, where that has to be.
+    #[inline(always)]
     fn look_at_own(&mut self)
         requires left { 1 ≤ self.old.left }
         requires allowed { has_unseen_level self.old.own.now ≡ true → P.allows self.old.port.now (Step.LoadSection self.old.own.now.section) }
@@ -105,6 +108,7 @@ impl<'a, C: ThreadCode, P: StepPort, W: WordSight<P>> TurnHost<'a, C, P, W> {
 
     // Makes the steps of an attempt at the word at this place before the load after which the word is safe, and says whether it
     // did. It makes none where what they would find isn't usual.
+    #[inline(always)]
     fn reach(&mut self, at: u32) -> bool
         requires { (op : Op) × IsOfWord op at × HostMayAsk C.code P.allows P.stepped (host_place self.old) op }
         ensures same { SameBorrows self.old self.new }
@@ -129,6 +133,7 @@ impl<'a, C: ThreadCode, P: StepPort, W: WordSight<P>> TurnHost<'a, C, P, W> {
     }
 
     /// Reads a word of an object, where that is usual.
+    #[inline(always)]
     pub(crate) fn read(&mut self, object: u32, place: u32) -> Option<Reply>
         requires { HostMayAsk C.code P.allows P.stepped (host_place self.old) (Op.Read object place) }
         ensures some { IfSome result (λ reply. Fits (Op.Read object place) reply × SameBorrows self.old self.new
@@ -147,6 +152,7 @@ impl<'a, C: ThreadCode, P: StepPort, W: WordSight<P>> TurnHost<'a, C, P, W> {
 
     /// Writes a word of an object, where that is usual, and logs the one that it overwrites. Declines where there is no memory for
     /// the log.
+    #[inline(always)]
     pub(crate) fn write(&mut self, object: u32, place: u32, value: u32) -> Option<Reply>
         requires { HostMayAsk C.code P.allows P.stepped (host_place self.old) (Op.Write object place value) }
         ensures some { IfSome result (λ reply. Fits (Op.Write object place value) reply × SameBorrows self.old self.new
@@ -170,6 +176,7 @@ impl<'a, C: ThreadCode, P: StepPort, W: WordSight<P>> TurnHost<'a, C, P, W> {
     }
 
     /// Reads the header of an object, where that is usual.
+    #[inline(always)]
     pub(crate) fn class_of(&mut self, object: u32) -> Option<Reply>
         requires { HostMayAsk C.code P.allows P.stepped (host_place self.old) (Op.ClassOf object) }
         ensures some { IfSome result (λ reply. Fits (Op.ClassOf object) reply × SameBorrows self.old self.new

@@ -1,4 +1,4 @@
-use Rattle.std.proofs.Common.{◌≡◌, ap, sym, ◌∙◌}
+use Rattle.std.proofs.Common.{ap, sym, ◌∙◌}
 use Rattle.java_rows.specs.Thread.{settled}
 use Rattle.text_stages.specs.Stages.{reached_plan}
 use Rattle.interp_plans.specs.Jobs.{job_of}
