@@ -8,7 +8,6 @@ mod apply;
 mod behind;
 mod calling;
 mod ending;
-mod hosted;
 mod java_code;
 mod running;
 mod silent;
