@@ -72,8 +72,8 @@ impl From<AllocError> for PushRefusal {
 /// How many frames can lie below the top one.
 const MOST_BELOW: usize = 1023;
 
-/// For how many words a thread has room from the beginning: 256 bytes. So the words of two threads share no line of a processor's
-/// memory, on which two host threads would have to wait for each other.
+/// For how many words a thread has room from the beginning: 256 bytes, so that the words of two threads rarely share a line of a
+/// processor's memory, on which two host threads would have to wait for each other.
 const FIRST_ROOM: usize = 64;
 
 impl Frames {

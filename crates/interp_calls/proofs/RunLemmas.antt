@@ -61,7 +61,7 @@ count_stays old new stays few = subst (λ b. suc (length b) ≤ 1024) (sym stays
 pub steps_stay : (us : List ClassUnit) (old new : FrameStack) → StaysLocal old new → steps_of us old.here.method ≡ steps_of us new.here.method
 steps_stay us old new stays = ap (steps_of us) (sym stays.method)
 
-some_same : {A : Type 0} {x y : A} → Some x ≡ Some y → x ≡ y
+pub some_same : {A : Type 0} {x y : A} → Some x ≡ Some y → x ≡ y
 some_same is = search
 
 -- n local steps are n quiet steps

@@ -10,7 +10,7 @@ ghost use Rattle.op_core.specs.Replies.{FitsNext};
 ghost use Rattle.interp_plans.specs.Todos.{plan_at, plan_of};
 ghost use Rattle.interp_plans.specs.Uses.{frame_of};
 ghost use Rattle.interp_texts.specs.Told.{HasRoomNow, has_room-prop};
-ghost use Rattle.interp_calls.specs.Hosted.{LeadsTo};
+ghost use Rattle.interp_calls.specs.Hosted.{HostedTo};
 ghost use Rattle.interp_calls.specs.Local.{stands_in};
 
 use crate::behind::go_on_behind;
@@ -149,7 +149,7 @@ impl<'p, P: JavaProgram> JavaCode<'p, P> {
     // or it fails. Says whether it made it.
     fn pass_silent<H: OpHost>(&mut self, host: &mut H) -> bool
         requires { java_code.next (state_over (P.units self.old.program.now) self.old.thread self.old.frames self.old.texts self.old.text) ≡ nexts.Silent }
-        ensures led { LeadsTo (saved_locals (P.units self.old.program.now) self.old.thread self.old.frames) H.passes H.answers
+        ensures led { HostedTo (saved_locals (P.units self.old.program.now) self.old.thread self.old.frames) H.passes H.answers
             (state_over (P.units self.old.program.now) self.old.thread self.old.frames self.old.texts self.old.text) host.old
             (state_over (P.units self.new.program.now) self.new.thread self.new.frames self.new.texts self.new.text) host.new }
         ensures saved { saved_locals (P.units self.new.program.now) self.new.thread self.new.frames
@@ -176,7 +176,7 @@ impl<'p, P: JavaProgram> JavaCode<'p, P> {
         ensures led { IsLedTo java_code (saved_locals (P.units self.old.program.now) self.old.thread self.old.frames) H.passes H.answers H.declines
             (state_over (P.units self.old.program.now) self.old.thread self.old.frames self.old.texts self.old.text) host.old
             (state_over (P.units self.new.program.now) self.new.thread self.new.frames self.new.texts self.new.text) host.new }
-        ensures on { result ≡ true → LeadsTo (saved_locals (P.units self.old.program.now) self.old.thread self.old.frames) H.passes H.answers
+        ensures on { result ≡ true → HostedTo (saved_locals (P.units self.old.program.now) self.old.thread self.old.frames) H.passes H.answers
             (state_over (P.units self.old.program.now) self.old.thread self.old.frames self.old.texts self.old.text) host.old
             (state_over (P.units self.new.program.now) self.new.thread self.new.frames self.new.texts self.new.text) host.new }
         ensures saved { saved_locals (P.units self.new.program.now) self.new.thread self.new.frames

@@ -23,5 +23,5 @@ pub use constants::{Constant, Constants};
 pub use numbers::{long, to_byte, to_char, to_short};
 pub use operands::{four, one, three, two};
 pub use quick::{Quick, make_quick, make_quicks};
-pub use run::{LocalRun, run_here, run_local, run_step};
+pub use run::{LocalRun, run_local, run_step};
 pub use step::{LocalStep, local_step, look_ahead};

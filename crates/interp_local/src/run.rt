@@ -93,10 +93,10 @@ fn run_few<P: Constants>(
     most
 }
 
-/// Makes steps of instructions that one look identifies, at most `most`, and says how many. It is meant for loops whose
-/// frames are nowhere else, which keep the place of the top frame in registers. Takes no memory.
+// Makes steps of instructions that one look identifies, at most `most`, and says how many. It is meant for loops whose
+// frames are nowhere else, which keep the place of the top frame in registers.
 #[inline(always)]
-pub fn run_here<P: Constants>(
+fn run_here<P: Constants>(
     program: &P,
     steps: &[Instr<Target>],
     quicks: &[Quick],

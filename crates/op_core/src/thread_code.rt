@@ -65,7 +65,7 @@ pub trait ThreadCode: Sized {
     }
 
     /// Goes on by silent steps and operations as long as the host answers these, and makes at most this many operations.
-    /// None of the silent steps ends a frame that was on top at a save. Takes no memory but what the host takes.
+    /// None of the silent steps ends a frame that was on top at a save. It ends before a silent step that can't be made.
     fn run_with<H: OpHost>(&mut self, host: &mut H, most: u64)
         requires may { MayBeAsked code (saved self.old) H.passes H.answers H.may (state self.old) host.old }
         ensures led { IsLedTo code (saved self.old) H.passes H.answers H.declines (state self.old) host.old (state self.new) host.new }

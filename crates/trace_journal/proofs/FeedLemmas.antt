@@ -10,7 +10,7 @@ use Rattle.trace_journal.specs.declared.state.Stage.{Stage}
 use Rattle.trace_journal.specs.declared.state.Stage.TheVariants.{Head, Items, Closed, Failed}
 use Rattle.trace_journal.specs.Text.{Lines, before_first, onto, lines_of, is_inside}
 use Rattle.trace_journal.specs.Reading.{Read}
-use Rattle.trace_journal.specs.Reader.{with_items, FromStage, ReadsOn, Feeds, LeadsTo, line_in}
+use Rattle.trace_journal.specs.Reader.{with_items, FromStage, ReadsOn, Feeds, LineTakes, line_in}
 use Rattle.trace_journal.proofs.StageLemmas.{none_added}
 
 -- lines
@@ -60,7 +60,7 @@ never_past l = le-ltb l 0 (omega arith)
 -- one byte after another
 
 end_reads : (most : ℕ) (part : List ℕ) (stage stage' : Stage) (count events count' events' l : ℕ) (before after : List JournalItem) → is_inside part ≡ true
-    → (h : LeadsTo most part stage count events stage' count' events' before after) (more : List ℕ) (found : Result Read JournalFault)
+    → (h : LineTakes most part stage count events stage' count' events' before after) (more : List ℕ) (found : Result Read JournalFault)
     → FromStage stage' (nat_lt l (length more)) most count' events' (lines_of (take l more)) found
     → FromStage stage (nat_lt (suc l) (length (10 ∷ more))) most count events (lines_of (part ++ take (suc l) (10 ∷ more))) (with_items h.added found)
 end_reads most part stage stage' count events count' events' l before after inside h more found reads =
@@ -71,7 +71,7 @@ end_reads most part stage stage' count events count' events' l before after insi
 
 -- the line that a reader is in ends
 pub line_feeds : (old new : JournalReader) (stage : Stage) (count events : ℕ) (before after : List JournalItem)
-    → LeadsTo old.limits.items old.part.items old.stage old.count old.events stage count events before after → is_inside old.part.items ≡ true
+    → LineTakes old.limits.items old.part.items old.stage old.count old.events stage count events before after → is_inside old.part.items ≡ true
     → new.stage ≡ stage → new.count ≡ count → new.events ≡ events → new.limits ≡ old.limits → new.part.items ≡ [] → old.left ≡ new.left + 1
     → Feeds old new (10 ∷ []) before after
 line_feeds old new stage count events before after leads inside is_stage is_count is_events is_limits is_part is_left = record {

@@ -35,7 +35,7 @@ pub record Feeds (old new : JournalReader) (piece : List ℕ) (before after : Li
   pub reads : (more : List ℕ) (found : Result Read JournalFault) → ReadsOn new more found → ReadsOn old (piece ++ more) (with_items added found)
 
 -- A line leads from a stage to another, whatever lines come after it.
-pub record LeadsTo (most : ℕ) (line : List ℕ) (old : Stage) (count events : ℕ) (new : Stage) (count' events' : ℕ) (before after : List JournalItem) : Type 0 where
+pub record LineTakes (most : ℕ) (line : List ℕ) (old : Stage) (count events : ℕ) (new : Stage) (count' events' : ℕ) (before after : List JournalItem) : Type 0 where
   pub added : List JournalItem
   pub items : after ≡ before ++ added
   pub counts : count' ≡ count + length added

@@ -4,7 +4,7 @@ ghost use Rattle.std.specs.Prelude.{◌≡◌, ◌≤◌, ◌<◌, ◌+◌, ◌+
 ghost use Rattle.trace_journal.specs.declared.item.JournalFault.{JournalFault};
 ghost use Rattle.trace_journal.specs.declared.item.JournalItem.{JournalItem};
 ghost use Rattle.trace_journal.specs.Reading.{Read, IsRead, events_with};
-ghost use Rattle.trace_journal.specs.Reader.{ReadsOn, Feeds, LeadsTo, line_in};
+ghost use Rattle.trace_journal.specs.Reader.{ReadsOn, Feeds, LineTakes, line_in};
 ghost use Rattle.trace_journal.specs.declared.state.Stage.{Stage};
 
 use crate::head::{Head, head_of, is_end};
@@ -28,7 +28,7 @@ pub(crate) fn add<T: Drop>(row: &mut Vec<T>, one: T) -> Result<(), NoMemory>
 // The stage after the first line of a text.
 #[tactic(auto, using(crate::proofs::StageLemmas::head_known, crate::proofs::StageLemmas::head_other, crate::proofs::StageLemmas::head_wrong))]
 fn after_head(line: &[u8]) -> Stage
-    ensures leads { (most : ℕ) (items : List JournalItem) → LeadsTo most line.now Stage.Head 0 0 result 0 0 items items }
+    ensures leads { (most : ℕ) (items : List JournalItem) → LineTakes most line.now Stage.Head 0 0 result 0 0 items items }
     ensures goes { result ≡ Stage.Head → ⊥ }
 {
     match head_of(line) {
@@ -86,7 +86,7 @@ impl JournalReader {
     #[tactic(auto, using(crate::proofs::StageLemmas::wrong_line, crate::proofs::StageLemmas::too_many, crate::proofs::StageLemmas::one_more, crate::proofs::StageLemmas::at_end))]
     fn after_line(&mut self, version: u8, items: &mut Vec<JournalItem>) -> Result<Stage, NoMemory>
         requires { self.old.stage ≡ Stage.Items version }
-        ensures leads { IfOk result (λ stage. LeadsTo self.old.limits.items self.old.part.items (Stage.Items version) self.old.count self.old.events stage self.new.count self.new.events items.old.items items.new.items) }
+        ensures leads { IfOk result (λ stage. LineTakes self.old.limits.items self.old.part.items (Stage.Items version) self.old.count self.old.events stage self.new.count self.new.events items.old.items items.new.items) }
         ensures goes { IfOk result (λ stage. stage ≡ Stage.Head → ⊥) }
         ensures limits { OnOk result (self.new.limits ≡ self.old.limits) }
         ensures part { OnOk result (self.new.part ≡ self.old.part) }
@@ -108,7 +108,7 @@ impl JournalReader {
     // The stage after the line that the reader is in.
     #[tactic(auto, using(crate::proofs::StageLemmas::after_end, crate::proofs::StageLemmas::failed))]
     fn next_stage(&mut self, items: &mut Vec<JournalItem>) -> Result<Stage, NoMemory>
-        ensures leads { IfOk result (λ stage. LeadsTo self.old.limits.items self.old.part.items self.old.stage self.old.count self.old.events stage self.new.count self.new.events items.old.items items.new.items) }
+        ensures leads { IfOk result (λ stage. LineTakes self.old.limits.items self.old.part.items self.old.stage self.old.count self.old.events stage self.new.count self.new.events items.old.items items.new.items) }
         ensures goes { IfOk result (λ stage. stage ≡ Stage.Head → ⊥) }
         ensures limits { OnOk result (self.new.limits ≡ self.old.limits) }
         ensures part { OnOk result (self.new.part ≡ self.old.part) }
