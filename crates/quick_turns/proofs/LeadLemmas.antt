@@ -18,9 +18,13 @@ use Rattle.thread_moves.specs.Thread.{thread_of, without_opening, AreCounted}
 use Rattle.turn_runs.specs.Turns.{StaysReady}
 use Rattle.quick_turns.specs.declared.host.TurnHost.{TurnHost}
 use Rattle.quick_turns.specs.Usual.{UsualTurns}
-use Rattle.quick_turns.specs.Place.{thread_at, HostPlace, IsBetween, HostKeeps, own_quiet, HostPasses, HostLeads, HostAnswers, HostDeclines, HostMayAsk}
+use Rattle.turn_runs.specs.Own.{thread_at, own_quiet}
+use Rattle.turn_runs.specs.HostPlaces.{HostPlace, IsBetween, HostPasses}
+use Rattle.quick_turns.specs.Place.{HostKeeps, HostLeads, HostAnswers, HostDeclines, HostMayAsk}
 use Rattle.quick_turns.specs.Borrowed.{host_place, SameBorrows}
-use Rattle.quick_turns.proofs.UsualLemmas.{no_turns, usual_joined, quiet_usual, ready_on, turns_fit, turns_count}
+use Rattle.turn_runs.proofs.HostLemmas.{quiet_between, sum_on, room_left}
+use Rattle.turn_runs.proofs.KeptLemmas.{ready_on, turns_fit, turns_count}
+use Rattle.quick_turns.proofs.UsualLemmas.{no_turns, usual_joined, quiet_usual}
 
 pub keeps_all : (own : Own) → HostKeeps own own
 keeps_all own = record { bounds = refl; opening = refl; attempt = refl; lives = refl }
@@ -36,16 +40,6 @@ keeps_on x y z first second = record {
 quiet_keeps : (own : Own) (n : ℕ) → HostKeeps own (own_quiet own n)
 quiet_keeps own zero = keeps_all own
 quiet_keeps own (suc n) = record { bounds = refl; opening = refl; attempt = refl; lives = refl }
-
-quiet_between : (own : Own) (n : ℕ) → IsBetween own → IsBetween (own_quiet own n)
-quiet_between own zero is = is
-quiet_between own (suc n) is = record { begins = is.begins; lives = is.lives; counts = let counts = is.counts in omega (arith, counts) }
-
-sum_on : (a b c n m : ℕ) → a ≡ b + n → b ≡ c + m → a ≡ c + (n + m)
-sum_on a b c n m one two = omega (arith, one, two)
-
-room_left : (left turns counted n : ℕ) → n ≤ min left (turns - counted) → 0 < n → counted + n ≤ turns
-room_left left turns counted n room some = omega (arith, room, some)
 
 module _ {S P : Type 0} (code : Code S) (stepped : P → Step → StepAnswer → P → Type 0) (words : P → Words)
     (on_words : (x : P) (step : Step) (a : StepAnswer) (y : P) → stepped x step a y → IsStepOnWords (words x) step a (words y)) where

@@ -31,10 +31,14 @@ use Rattle.thread_moves.specs.declared.thread.Own.{Own}
 use Rattle.thread_moves.specs.Thread.{CanBeAsked}
 use Rattle.turn_runs.specs.Turns.{StaysReady}
 use Rattle.quick_turns.specs.Usual.{is_awaited_by_none, UsualTurns}
-use Rattle.quick_turns.specs.Place.{thread_at, HostPlace, IsBetween, HostKeeps, HostLeads, HostLeadsAmid, HostAnswers, HostDeclines, HostMayAsk}
-use Rattle.quick_turns.specs.Paths.{is_safe_for, written_by, has_unseen_level, IsAsSeen, HasTurns, IsOfWord, IsInitialized, looked, probed_at, LooksAtOwnSection, KnowsWriter, own_knowing, LooksAtWriter, ReachesWord, own_counted, HasWritten}
+use Rattle.turn_runs.specs.Own.{thread_at}
+use Rattle.turn_runs.specs.HostPlaces.{HostPlace, IsBetween}
+use Rattle.quick_turns.specs.Place.{HostKeeps, HostLeads, HostLeadsAmid, HostAnswers, HostDeclines, HostMayAsk}
+use Rattle.turn_runs.specs.Own.{is_safe_for, written_by, has_unseen_level, own_counted}
+use Rattle.quick_turns.specs.Paths.{IsAsSeen, HasTurns, IsOfWord, IsInitialized, looked, probed_at, LooksAtOwnSection, KnowsWriter, own_knowing, LooksAtWriter, ReachesWord, HasWritten}
 use Rattle.quick_turns.proofs.LeadLemmas.{keeps_on, goes_on, stays_here}
-use Rattle.quick_turns.proofs.StepLemmas.{NoneWaits, moves_so, first_moves, word_first, none_waits, word_found, own_goes, unsafe_goes, writer_goes, read_goes, safe_goes, write_goes, header_goes, class_found, init_goes, init_waits}
+use Rattle.turn_runs.proofs.HostLemmas.{moves_so}
+use Rattle.quick_turns.proofs.StepLemmas.{NoneWaits, first_moves, word_first, none_waits, word_found, own_goes, unsafe_goes, writer_goes, read_goes, safe_goes, write_goes, header_goes, class_found, init_goes, init_waits}
 
 module _ {S P : Type 0} (code : Code S) (stepped : P → Step → StepAnswer → P → Type 0) (words : P → Words)
     (on_words : (x : P) (step : Step) (a : StepAnswer) (y : P) → stepped x step a y → IsStepOnWords (words x) step a (words y)) where

@@ -37,33 +37,14 @@ use Rattle.thread_automaton.specs.Told.{Told, probed, advanced, shown, told_of, 
 use Rattle.word_runs.specs.Enabled.{is_being_undone, is_of_another, has_to_wait_for}
 use Rattle.thread_moves.specs.declared.thread.Own.{Own}
 use Rattle.quick_turns.specs.Usual.{goes_through, is_awaited_by_none, is_usual_step, UsualTurns}
-use Rattle.quick_turns.specs.Place.{thread_at, HostPlace, HostKeeps, HostLeads}
-use Rattle.quick_turns.specs.Paths.{is_safe_for, written_by, has_unseen_level, IsAsSeen, IsOfWord, IsInitialized, looked, probed_at, own_knowing, own_counted, HasWritten}
-use Rattle.quick_turns.proofs.UsualLemmas.{not_full, enabled_by, one_made}
+use Rattle.turn_runs.proofs.HostLemmas.{told_is, after_is, moves_so}
+use Rattle.turn_runs.specs.Own.{thread_at}
+use Rattle.turn_runs.specs.HostPlaces.{HostPlace}
+use Rattle.quick_turns.specs.Place.{HostKeeps, HostLeads}
+use Rattle.turn_runs.specs.Own.{is_safe_for, written_by, has_unseen_level, own_counted}
+use Rattle.quick_turns.specs.Paths.{IsAsSeen, IsOfWord, IsInitialized, looked, probed_at, own_knowing, HasWritten}
+use Rattle.quick_turns.proofs.UsualLemmas.{enabled_by, one_made}
 use Rattle.quick_turns.proofs.LeadLemmas.{goes_on}
-
--- ---- what a thread makes of an answer, while its code wants an operation
-
-module _ {S : Type 0} (code : Code S) (b : Bounds) (th : ThreadState S) (op : Op) (wants : code.next th.local ≡ Want op) (step : Step) (answer : StepAnswer)
-    (change : Change) (tells : Told) (change_is : change_of code b th (Want op) step answer ≡ change) (tells_is : told_of (Want op) step answer change (shown change) ≡ tells) where
-  told_is : told code b th step answer ≡ tells
-  told_is =
-      ap (λ next. told_of next step answer (change_of code b th next step answer) (shown (change_of code b th next step answer))) wants
-      ∙ ap (λ change. told_of (Want op) step answer change (shown change)) change_is ∙ tells_is
-
-  after_is : (last : ThreadState S) → counted_for tells (changed code th change) ≡ last → after_answer code b th step answer ≡ last
-  after_is last is =
-      ap (λ tells. counted_for tells (changed code th (change_of code b th (code.next th.local) step answer))) told_is
-      ∙ ap (λ next. counted_for tells (changed code th (change_of code b th next step answer))) wants
-      ∙ ap (λ change. counted_for tells (changed code th change)) change_is ∙ is
-
--- the next move of a thread that wants an operation and goes on
-pub moves_so : {S : Type 0} (code : Code S) (b : Bounds) (own : Own) (l : S) (saves : List S) (op : Op) (a : Attempt) (step : Step) → code.next l ≡ Want op → own.over ≡ false
-    → own.counted < b.limits.turns → move_of code (thread_at own a l saves) (Want op) a ≡ Make step → next_move code b (thread_at own a l saves) ≡ Make step
-moves_so code b own l saves op a step wants lives below is =
-    ap (λ over. if over then Over else if nat_le b.limits.turns own.counted then Stop Turns else move_of code (thread_at own a l saves) (code.next l) a) lives
-    ∙ ap (λ full. if full then Stop Turns else move_of code (thread_at own a l saves) (code.next l) a) (not_full b.limits.turns own.counted below)
-    ∙ ap (λ next. move_of code (thread_at own a l saves) next a) wants ∙ is
 
 -- ---- which step comes next
 

@@ -19,30 +19,19 @@ use Rattle.thread_automaton.specs.declared.Move.TheVariants.{Over, Quiet, Stop, 
 use Rattle.thread_automaton.specs.ThreadState.{ThreadState, is_open}
 use Rattle.thread_automaton.specs.NextMove.{move_of, next_move}
 use Rattle.thread_automaton.specs.Told.{Told, told, after_answer, after_quiet}
-use Rattle.automaton_rows.specs.Fits.{IsFit}
-use Rattle.automaton_rows.proofs.FitLemmas.{answers_keep}
 use Rattle.word_runs.specs.Enabled.{has_to_wait_for, has_to_undo, is_enabled}
 use Rattle.thread_moves.specs.declared.thread.Own.{Own}
-use Rattle.thread_moves.specs.Thread.{AreCounted}
-use Rattle.rollback_core.proofs.CountLemmas.{answers_within, quiet_within}
 use Rattle.rollback_core.proofs.QuietLemmas.{silent_by}
-use Rattle.rollback_core.proofs.TurnLemmas.{silent_steps_keep}
 use Rattle.turn_runs.specs.Turns as runs
-use Rattle.turn_runs.specs.Turns.{TurnMove, silent, made, StaysReady}
+use Rattle.turn_runs.specs.Turns.{TurnMove, silent, made, last_kind}
 use Rattle.turn_runs.proofs.TurnLemmas.{joined}
-use Rattle.quick_turns.specs.Usual.{goes_through, is_usual_step, AreUsual, last_kind, UsualTurns}
-use Rattle.quick_turns.specs.Place.{thread_at, own_quiet}
-
-pub not_full : (turns counted : ℕ) → counted < turns → nat_le turns counted ≡ false
-not_full turns counted below = grind (arith, common_steps, nat_tests)
+use Rattle.turn_runs.proofs.HostLemmas.{never_both, last_kind_joined, and_then_some, one_more_quiet, counted_quiet, lives_quiet}
+use Rattle.quick_turns.specs.Usual.{goes_through, is_usual_step, AreUsual, UsualTurns}
+use Rattle.turn_runs.specs.Own.{thread_at, own_quiet}
 
 or_true : (t : Bool) → (t || true) ≡ true
 or_true true = refl
 or_true false = refl
-
-never_both : (t u : Bool) → u ≡ false → (t && u) ≡ false
-never_both true u is = is
-never_both false u is = refl
 
 -- a thread that goes on and has to wait for no other one is enabled
 pub enabled_by : {S : Type 0} (code : Code S) (w : Words) (th : ThreadState S) (next : Next) → th.over ≡ false → code.next th.local ≡ next → has_to_wait_for w th next ≡ false
@@ -51,32 +40,6 @@ enabled_by code w th next lives wants waits =
     ap (λ over. not over && (has_to_undo w th || not (has_to_wait_for w th (code.next th.local)))) lives
     ∙ ap (λ next. has_to_undo w th || not (has_to_wait_for w th next)) wants
     ∙ ap (λ waits. has_to_undo w th || not waits) waits ∙ or_true (has_to_undo w th)
-
-last_kind_joined : (k : ℕ) (moves others : List TurnMove) → last_kind k (moves ++ others) ≡ last_kind (last_kind k moves) others
-last_kind_joined k [] others = refl
-last_kind_joined k (silent ∷ moves) others = last_kind_joined 0 moves others
-last_kind_joined k (made next step answer tells ∷ moves) others = last_kind_joined (kind_of step) moves others
-
-module _ {S P : Type 0} (code : Code S) (b : Bounds) (stepped : P → Step → StepAnswer → P → Type 0) where
-  -- ---- what turns keep
-
-  turns_keep : (Q : ThreadState S → Type 0) → ((th : ThreadState S) (l : S) → Q th → Q (after_quiet th l))
-      → ((th : ThreadState S) (step : Step) (answer : StepAnswer) → Q th → next_move code b th ≡ Make step → CanAnswer (effect_of step) answer → Q (after_answer code b th step answer))
-      → (moves : List TurnMove) (th last : ThreadState S) (x y : P) → runs.Turns code b stepped th x moves last y → Q th → Q last
-  turns_keep Q quiet answers [] th last x y turns has = subst Q (sym turns.0) has
-  turns_keep Q quiet answers (silent ∷ moves) th last x y (l, is, steps, turns) has = turns_keep Q quiet answers moves (after_quiet th l) last x y turns (quiet th l has)
-  turns_keep Q quiet answers (made next step answer tells ∷ moves) th last x y (z, wants, is, stepped_to, can, tells_is, turns) has =
-      turns_keep Q quiet answers moves (after_answer code b th step answer) last z y turns (answers th step answer has is can)
-
-  pub turns_fit : (moves : List TurnMove) (th last : ThreadState S) (x y : P) → runs.Turns code b stepped th x moves last y → IsFit code th → IsFit code last
-  turns_fit = turns_keep (IsFit code) (λ th l fits. silent_steps_keep code th l fits) (λ th step answer fits makes can. answers_keep code b th step answer fits makes can)
-
-  pub turns_count : (moves : List TurnMove) (th last : ThreadState S) (x y : P) → runs.Turns code b stepped th x moves last y → AreCounted th → AreCounted last
-  turns_count = turns_keep AreCounted (λ th l are. quiet_within th l are) (λ th step answer are makes can. answers_within code b th step answer are)
-
-  pub ready_on : (allows : P → Step → Type 0) (moves : List TurnMove) (th last : ThreadState S) (x y : P) → StaysReady code b allows stepped th x
-      → runs.Turns code b stepped th x moves last y → StaysReady code b allows stepped last y
-  ready_on allows moves th last x y ready turns = λ others end z further. ready (moves ++ others) end z (joined code b stepped last end y z moves others th x turns further)
 
 module _ {S P : Type 0} (code : Code S) (b : Bounds) (stepped : P → Step → StepAnswer → P → Type 0) (words : P → Words) where
   -- ---- one turn
@@ -149,31 +112,6 @@ module _ {S P : Type 0} (code : Code S) (b : Bounds) (stepped : P → Step → S
           kind = refl;
         }
 
-    and_then_some : {A : Type 0} (f : A → Option A) (x : Option A) (y : A) → option_and_then f x ≡ Some y → (m : A) × (x ≡ Some m) × (f m ≡ Some y)
-    and_then_some f None y is = absurd (cc)
-    and_then_some f (Some m) y is = (m, refl, is)
-
-    one_more : (own : Own) (saves : List S) (n : ℕ) (m l : S) → after_quiet (thread_at (own_quiet own n) Begin m saves) l ≡ thread_at (own_quiet own (suc n)) Begin l saves
-    one_more own saves zero m l =
-        let counted : suc own.counted ≡ own.counted + 1 = omega arith in
-        let silents : suc own.silents ≡ own.silents + 1 = omega arith in
-        λ i. record (thread_at own Begin l saves) { counted = counted i; silents = silents i }
-    one_more own saves (suc n) m l =
-        let counted : suc (own.counted + suc n) ≡ own.counted + suc (suc n) = omega arith in
-        let silents : suc (own.silents + suc n) ≡ own.silents + suc (suc n) = omega arith in
-        λ i. record (thread_at own Begin l saves) { counted = counted i; silents = silents i }
-
-    counted_quiet : (own : Own) (n turns : ℕ) → own.counted + n < turns → nat_le turns (own_quiet own n).counted ≡ false
-    counted_quiet own zero turns below = not_full turns own.counted (omega (arith, below))
-    counted_quiet own (suc n) turns below = not_full turns (own.counted + suc n) below
-
-    lives_quiet : (own : Own) (n : ℕ) → own.over ≡ false → (own_quiet own n).over ≡ false
-    lives_quiet own zero lives = lives
-    lives_quiet own (suc n) lives = lives
-
-    kind_quiet : (own : Own) (n : ℕ) → (own_quiet own (suc n)).last_kind ≡ 0
-    kind_quiet own n = refl
-
     pub quiet_usual : (own : Own) (saves : List S) (x : P) (l : S) (n : ℕ) (m : S) → own.over ≡ false → own.counted + n ≤ b.limits.turns → quiet_steps code n l ≡ Some m
         → LeavesNoSave code saves n l
         → UsualTurns code b stepped words (thread_at own Begin l saves) x own.last_kind n (thread_at (own_quiet own n) Begin m saves) x (own_quiet own n).last_kind
@@ -189,4 +127,4 @@ module _ {S P : Type 0} (code : Code S) (b : Bounds) (stepped : P → Step → S
         own.last_kind (own_quiet own n).last_kind 0 n 1
         (quiet_usual own saves x l n mid lives (omega (arith, left)) before (λ k y below. stays k y (omega (arith, below))))
         (one_silent (thread_at (own_quiet own n) Begin mid saves) (thread_at (own_quiet own (suc n)) Begin m saves) x (own_quiet own n).last_kind m
-        (lives_quiet own n lives) (counted_quiet own n b.limits.turns (omega (arith, left))) refl (stays n mid (omega arith) before) step (one_more own saves n mid m)))
+        (lives_quiet own n lives) (counted_quiet own n b.limits.turns (omega (arith, left))) refl (stays n mid (omega arith) before) step (one_more_quiet own saves n mid m)))

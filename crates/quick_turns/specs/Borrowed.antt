@@ -1,6 +1,6 @@
 -- Where a host is.
 use Rattle.std.specs.Prelude.{◌≡◌}
-use Rattle.quick_turns.specs.Place.{HostPlace}
+use Rattle.turn_runs.specs.HostPlaces.{HostPlace}
 use Rattle.quick_turns.specs.declared.host.TurnHost.{TurnHost}
 
 abbrev pub host_place : {C P W : Type 0} → TurnHost C P W → HostPlace P

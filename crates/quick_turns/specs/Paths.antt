@@ -1,5 +1,5 @@
 -- The steps of an attempt at a word of an object that finds nothing unusual.
-use Rattle.std.specs.Prelude.{◌≡◌, ◌⊎◌, ℕ, suc, ◌-◌, ◌<◌, ◌≤◌, Bool, true, false, [], ◌∷◌, nat_lt, if◌then◌else◌, MatchBool}
+use Rattle.std.specs.Prelude.{◌≡◌, ◌⊎◌, ℕ, ◌-◌, ◌<◌, ◌≤◌, true, false, ◌∷◌, if◌then◌else◌, MatchBool}
 use Rattle.op_core.specs.declared.Op.{Op}
 use Rattle.op_core.specs.declared.Op.TheVariants.{Read, Write}
 use Rattle.op_core.specs.ThreadCode.{Code}
@@ -15,30 +15,15 @@ use Rattle.step_port.specs.declared.step.Step.TheVariants.{LoadWord, LoadSection
 use Rattle.step_port.specs.Words.{Words}
 use Rattle.thread_automaton.specs.declared.Attempt.{Attempt}
 use Rattle.thread_automaton.specs.declared.Attempt.TheVariants.{Begin, Checked}
-use Rattle.thread_automaton.specs.ThreadState.{ThreadState}
 use Rattle.thread_automaton.specs.NextMove.{word_place}
 use Rattle.thread_automaton.specs.Changes.{knows}
-use Rattle.thread_automaton.specs.Checks.{is_safe, written_word, tag_seen}
+use Rattle.thread_automaton.specs.Checks.{tag_seen}
 use Rattle.thread_moves.specs.declared.thread.Own.{Own}
-use Rattle.quick_turns.specs.Place.{thread_at, HostPlace, HostLeadsAmid}
+use Rattle.turn_runs.specs.Own.{is_safe_for, has_unseen_level, own_counted}
+use Rattle.turn_runs.specs.HostPlaces.{HostPlace}
+use Rattle.quick_turns.specs.Place.{HostLeadsAmid}
 
--- the thread of which this is kept, whatever its code
-abbrev pub thread_of_own : Own → ThreadState (Unit {0})
-thread_of_own own = thread_at own Begin tt []
-
--- the thread may read or overwrite this word of an object at once
-abbrev pub is_safe_for : Own → ℕ → Bool
-is_safe_for own w = is_safe (thread_of_own own) w
-
--- the word with this value that the thread writes
-abbrev pub written_by : Own → ℕ → ℕ
-written_by own v = written_word (thread_of_own own) v
-
--- a level is open that the thread hasn't seen pinned
-abbrev pub has_unseen_level : Own → Bool
-has_unseen_level own = nat_lt own.pinned own.levels
-
--- where that is so, the word of its section says on the words w what the thread has last seen
+-- where a level is open that the thread hasn't seen pinned, the word of its section says on the words w what the thread has last seen
 pub record IsAsSeen (w : Words) (own : Own) : Type 0 where
   pub state : has_unseen_level own ≡ true → is_in Revoking (w (Section own.section)) ≡ false
   pub pinned : has_unseen_level own ≡ true → pinned_of (w (Section own.section)) ≡ own.pinned
@@ -99,11 +84,7 @@ pub record ReachesWord {S P : Type 0} (code : Code S) (stepped : P → Step → 
   pub left : 2 ≤ k.left
   pub counted : k.own.counted < k.own.bounds.limits.turns
 
--- what is kept once a turn with an event is counted whose step has this kind
-abbrev pub own_counted : Own → ℕ → Own
-own_counted own kind = record own { counted = suc own.counted; silents = 0; last_kind = kind }
-
--- .. and once a word was overwritten, which is logged where it can be put back
+-- a turn is counted in which a word was overwritten, which is logged where it can be put back
 pub record HasWritten (at old : ℕ) (before after : Own) : Type 0 where
   pub own : after ≡ record (own_counted before 2) { log = after.log }
   pub log : after.log.noted ≡ (if has_unseen_level before then record { at = at; old = old } ∷ before.log.noted else before.log.noted)

@@ -1,5 +1,5 @@
 -- A thread on shared words as a host of its own code: what it answers at once, and by which turns.
-use Rattle.std.specs.Prelude.{◌≡◌, ℕ, zero, suc, ◌+◌, ◌-◌, ◌≤◌, min, false, List, map, reverse}
+use Rattle.std.specs.Prelude.{◌≡◌, ℕ, ◌+◌, List}
 use Rattle.op_core.specs.declared.Op.{Op}
 use Rattle.op_core.specs.declared.Reply.{Reply}
 use Rattle.op_core.specs.declared.Next.TheVariants.{Want}
@@ -9,47 +9,11 @@ use Rattle.step_port.specs.declared.step.Step.{Step}
 use Rattle.step_port.specs.Words.{Words}
 use Rattle.thread_automaton.specs.declared.Attempt.{Attempt}
 use Rattle.thread_automaton.specs.declared.Attempt.TheVariants.{Begin}
-use Rattle.thread_automaton.specs.ThreadState.{ThreadState}
 use Rattle.thread_moves.specs.declared.thread.Own.{Own}
-use Rattle.thread_moves.specs.Thread.{mark_meant, printed}
 use Rattle.turn_runs.specs.Turns.{StaysReady}
+use Rattle.turn_runs.specs.Own.{thread_at}
+use Rattle.turn_runs.specs.HostPlaces.{HostPlace, IsBetween}
 use Rattle.quick_turns.specs.Usual.{UsualTurns}
-
--- the thread of which this is kept, with an attempt, a local state and saves
-abbrev pub thread_at : {S : Type 0} → Own → Attempt → S → List S → ThreadState S
-thread_at own attempt l saves = record {
-  number = own.number;
-  priority = own.priority;
-  local = l;
-  saved = saves;
-  marks = map mark_meant (reverse own.marks.items);
-  section = own.section;
-  levels = own.levels;
-  pinned = own.pinned;
-  known = own.known;
-  known_depth = own.known_depth;
-  log = own.log.noted;
-  held = own.held.newest_first;
-  depth = own.depth;
-  level = own.level;
-  counted = own.counted;
-  silents = own.silents;
-  lines = map printed own.lines.newest_first;
-  over = own.over;
-  attempt = attempt;
-}
-
--- what is kept of a thread, its port, and how many turns it may still have
-pub record HostPlace (P : Type 0) : Type 0 where
-  pub own : Own
-  pub port : P
-  pub left : ℕ
-
--- the thread goes on, nothing of its next attempt is made, and its silent moves are counted turns
-pub record IsBetween (own : Own) : Type 0 where
-  pub begins : own.attempt ≡ Begin
-  pub lives : own.over ≡ false
-  pub counts : own.silents ≤ own.counted
 
 -- this stays, whatever is answered
 pub record HostKeeps (old new : Own) : Type 0 where
@@ -57,22 +21,6 @@ pub record HostKeeps (old new : Own) : Type 0 where
   pub opening : new.opening ≡ old.opening
   pub attempt : new.attempt ≡ old.attempt
   pub lives : new.over ≡ old.over
-
--- what is kept of a thread once it has made n silent turns
-abbrev pub own_quiet : Own → ℕ → Own
-own_quiet own zero = own
-own_quiet own (suc n) = record own { counted = own.counted + suc n; silents = own.silents + suc n; last_kind = 0 }
-
--- how many silent turns it may make
-abbrev pub silent_room : {P : Type 0} → HostPlace P → ℕ
-silent_room h = min h.left (h.own.bounds.limits.turns - h.own.counted)
-
--- it made n silent turns
-pub record HostPasses {P : Type 0} (h : HostPlace P) (n : ℕ) (k : HostPlace P) : Type 0 where
-  pub room : n ≤ silent_room h
-  pub left : h.left ≡ k.left + n
-  pub port : k.port ≡ h.port
-  pub own : IsBetween h.own → k.own ≡ own_quiet h.own n
 
 -- Usual turns lead the thread from the local state l at one place to the local state m at another.
 pub record HostLeads {S P : Type 0} (code : Code S) (stepped : P → Step → StepAnswer → P → Type 0) (words : P → Words) (saves : List S)

@@ -8,13 +8,12 @@ use Rattle.monitor_core.specs.Contention.{is_in}
 use Rattle.step_port.specs.declared.answer.StepAnswer.{StepAnswer}
 use Rattle.step_port.specs.declared.step.Step.{Step}
 use Rattle.step_port.specs.declared.step.Step.TheVariants.{LoadWord, SwapWord, LoadSection, LoadClass}
-use Rattle.step_port.specs.Steps.{kind_of}
 use Rattle.step_port.specs.Words.{Words, words_after}
 use Rattle.thread_automaton.specs.declared.Bounds.{Bounds}
 use Rattle.thread_automaton.specs.ThreadState.{ThreadState}
 use Rattle.thread_automaton.specs.Told.{Told, probed, advanced, after_answer, after_quiet}
 use Rattle.word_runs.specs.Enabled.{is_enabled}
-use Rattle.turn_runs.specs.Turns.{TurnMove, silent, made, Turns}
+use Rattle.turn_runs.specs.Turns.{TurnMove, silent, made, last_kind, Turns}
 
 -- the turn ends no attempt without its reply, and hands no thread out
 abbrev pub goes_through : Told → Bool
@@ -44,16 +43,6 @@ AreUsual {S} code b w th (silent ∷ moves) =
 AreUsual code b w th (made next step answer tells ∷ moves) =
     (is_enabled code w th ≡ true) × ((is_usual_step w step && goes_through tells) ≡ true)
     × AreUsual code b (words_after step w) (after_answer code b th step answer) moves
-
--- the number of the kind of the step of a turn that made this, 0 where it made none
-abbrev pub move_kind : TurnMove → ℕ
-move_kind silent = 0
-move_kind (made next step answer tells) = kind_of step
-
--- that of the last of these moves, or k where there are none
-abbrev pub last_kind : ℕ → List TurnMove → ℕ
-last_kind k [] = k
-last_kind k (move ∷ moves) = last_kind (move_kind move) moves
 
 -- A number n of usual turns leads from the thread th and the port x to the thread last and the port y. The port makes its steps on
 -- these words. The kind of the last step before the turns is k, and l after them.

@@ -1,11 +1,11 @@
 //! A thread on shared words as a host of its own code.
 
 use crate::WordSight;
-use crate::own::count_silent;
 use op_core::{Op, OpHost, Reply, ThreadCode};
 use std::marker::PhantomData;
 use step_port::StepPort;
 use thread_moves::Own;
+use turn_runs::count_silent;
 
 /// A thread as the host of its code: it answers an operation at once where the words that it finds are usual.
 #[derive(Drop)]
@@ -19,7 +19,8 @@ pub(crate) struct TurnHost<'a, C, P, W> {
 }
 
 impl<'a, C: ThreadCode, P: StepPort, W: WordSight<P>> OpHost for TurnHost<'a, C, P, W> {
-    ghost use Rattle.quick_turns.specs.Place.{silent_room, HostPasses, HostAnswers, HostDeclines, HostMayAsk};
+    ghost use Rattle.turn_runs.specs.HostPlaces.{silent_room, HostPasses};
+    ghost use Rattle.quick_turns.specs.Place.{HostAnswers, HostDeclines, HostMayAsk};
     ghost use Rattle.quick_turns.specs.Borrowed.{host_place, SameBorrows};
 
     ghost room = { λ h. silent_room (host_place h) };

@@ -8,20 +8,19 @@ ghost use Rattle.step_port.specs.declared.step.Step.{Step};
 ghost use Rattle.step_port.specs.declared.answer.StepAnswer.{StepAnswer};
 ghost use Rattle.quick_turns.specs.Usual.{is_awaited_by_none};
 ghost use Rattle.quick_turns.specs.Place.{HostAnswers, HostDeclines, HostMayAsk};
-ghost use Rattle.quick_turns.specs.Paths.{has_unseen_level, HasTurns, IsAsSeen, IsOfWord, KnowsWriter, LooksAtOwnSection, LooksAtWriter, ReachesWord};
+ghost use Rattle.turn_runs.specs.Own.{has_unseen_level};
+ghost use Rattle.quick_turns.specs.Paths.{HasTurns, IsAsSeen, IsOfWord, KnowsWriter, LooksAtOwnSection, LooksAtWriter, ReachesWord};
 ghost use Rattle.quick_turns.specs.Borrowed.{host_place, SameBorrows};
 
 use crate::WordSight;
 use crate::host::TurnHost;
-use crate::own::{
-    LOAD_CLASS, LOAD_SECTION, LOAD_WORD, count_event, count_write, has_unseen_level,
-    is_initialized, is_safe, know, make_log_room, probe, written_word,
-};
+use crate::own::{LOAD_CLASS, LOAD_SECTION, count_write, is_initialized, know, make_log_room};
 use heap_words::{Header, HeapWord, Tag};
 use op_core::{Op, Reply, ThreadCode};
 use section_state::{State, pinned_of};
 use step_port::StepPort;
 use thread_moves::is_in;
+use turn_runs::{LOAD_WORD, count_event, has_unseen_level, is_safe, probe, written_word};
 
 /// The most turns that an answer takes.
 const LONGEST: u64 = 5;

@@ -1,2 +1,4 @@
 pub mod TurnLemmas
 pub mod StretchLemmas
+pub mod KeptLemmas
+pub mod HostLemmas

@@ -1,10 +1,10 @@
 -- Turns of one thread, one after another, through a port.
-use Rattle.std.specs.Prelude.{◌≡◌, List, [], ◌∷◌, Some}
+use Rattle.std.specs.Prelude.{◌≡◌, ℕ, List, [], ◌∷◌, Some}
 use Rattle.op_core.specs.declared.Next.{Next}
 use Rattle.op_core.specs.ThreadCode.{Code, quiet_step}
 use Rattle.step_port.specs.declared.answer.StepAnswer.{StepAnswer}
 use Rattle.step_port.specs.declared.step.Step.{Step}
-use Rattle.step_port.specs.Steps.{effect_of}
+use Rattle.step_port.specs.Steps.{effect_of, kind_of}
 use Rattle.step_port.specs.Words.{CanAnswer}
 use Rattle.thread_automaton.specs.declared.Bounds.{Bounds}
 use Rattle.thread_automaton.specs.declared.Move.TheVariants.{Quiet, Make}
@@ -20,6 +20,16 @@ pub data TurnMove : Type 0 where
   silent : TurnMove
   -- what the code wanted, the step on the shared words, its answer, and what the turn reports
   made : Next → Step → StepAnswer → Told → TurnMove
+
+-- the number of the kind of the step of a turn that made this, 0 where it made none
+abbrev pub move_kind : TurnMove → ℕ
+move_kind silent = 0
+move_kind (made next step answer tells) = kind_of step
+
+-- that of the last of these moves, or k where there are none
+abbrev pub last_kind : ℕ → List TurnMove → ℕ
+last_kind k [] = k
+last_kind k (move ∷ moves) = last_kind (move_kind move) moves
 
 -- Turns that make these moves lead from the thread th and the port x to the thread last and the port y. Each move is the one that
 -- comes next.

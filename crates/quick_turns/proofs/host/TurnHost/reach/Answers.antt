@@ -3,7 +3,8 @@ use Rattle.heap_words.specs.Words.{tag_of, tag_section}
 use Rattle.heap_words.specs.declared.words.HeapWord.{HeapWord}
 use Rattle.heap_words.specs.declared.words.Tag.{Tag}
 use Rattle.step_port.specs.declared.step.Step.TheVariants.{LoadSection}
-use Rattle.quick_turns.specs.Paths.{is_safe_for, KnowsWriter, LooksAtWriter}
+use Rattle.turn_runs.specs.Own.{is_safe_for}
+use Rattle.quick_turns.specs.Paths.{KnowsWriter, LooksAtWriter}
 use Rattle.quick_turns.specs.Borrowed.{host_place}
 use Rattle.quick_turns.proofs.PathLemmas.{allowed_look, allowed_word, allowed_writer, reaches_safe, reaches_known}
 use Rattle.quick_turns.proofs.host.TurnHost.reach.Goals as goal

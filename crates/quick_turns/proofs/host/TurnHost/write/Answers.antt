@@ -5,8 +5,9 @@ use Rattle.step_port.specs.declared.step.Step.TheVariants.{SwapWord}
 use Rattle.step_port.specs.Words.{exchanged}
 use Rattle.thread_automaton.specs.NextMove.{word_place}
 use Rattle.quick_turns.specs.Usual.{is_awaited_by_none}
-use Rattle.quick_turns.specs.Place.{HostPlace, HostDeclines}
-use Rattle.quick_turns.specs.Paths.{written_by}
+use Rattle.turn_runs.specs.HostPlaces.{HostPlace}
+use Rattle.quick_turns.specs.Place.{HostDeclines}
+use Rattle.turn_runs.specs.Own.{written_by}
 use Rattle.quick_turns.specs.Borrowed.{host_place}
 use Rattle.quick_turns.proofs.PathLemmas.{write_range, may_still, still_between_here, answers_still, allowed_reached, allowed_swap, swap_made, write_answers}
 use Rattle.quick_turns.proofs.host.TurnHost.write.Goals as goal

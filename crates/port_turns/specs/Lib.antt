@@ -1,0 +1,4 @@
+pub mod Plain
+pub mod Place
+pub mod Words
+pub mod Borrowed
