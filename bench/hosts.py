@@ -4,9 +4,10 @@
 usage: bench/hosts.py [RUNS]     at the top of the repository, after `./jrev` has built the program; javac and java have to be
                                  there, and the machine should have four processors and nothing else to do
 
-Each program has seven threads beside main. Each row has the medians of RUNS (3) of the seconds that a run takes, by the clock, with
-those of an empty main taken off: under `pick`, under `run` with 1, 2 and 4 workers, and under `java -Xint`. Then come the speed of 4
-workers beside 1, and the time of `run` with 1 worker beside that of `pick`. All runs have to print the same.
+Each program has seven threads beside main, and a row for the usual slice and one for the longest. Each row has the medians of RUNS
+(3) of the seconds that a run takes, by the clock, with those of an empty main taken off: under `pick`, under `run` with 1, 2 and 4
+workers and slices of this many turns, and under `java -Xint`. Then come the speed of 4 workers beside 1, and the time of `run` with
+1 worker beside that of `pick`. All runs have to print the same.
 """
 import os
 import statistics
@@ -20,6 +21,7 @@ SOURCES = os.path.join("bench", "hosts")
 EMPTY = os.path.join("bench", "java", "Empty.java")
 JAVA = ["java", "-Xint", "-XX:+UseSerialGC", "-cp"]
 WORKERS = [1, 2, 4]
+SLICES = [10000, 1000000]
 
 
 def timed(words):
@@ -40,6 +42,17 @@ def median(runs, words, empty, wanted):
     return statistics.median(seconds)
 
 
+def row(runs, folder, name, turns):
+    """The medians of a program with slices of this many turns, and their ratios."""
+    wanted = timed(JAVA + [folder, name])[1]
+    seconds = [median(runs, [PROGRAM, "pick", folder, name], [PROGRAM, "pick", folder, "Empty"], wanted)]
+    for workers in WORKERS:
+        options = [f"--workers={workers}", f"--slice={turns}"]
+        seconds.append(median(runs, [PROGRAM, "run", folder, name] + options, [PROGRAM, "run", folder, "Empty"] + options, wanted))
+    seconds.append(median(runs, JAVA + [folder, name], JAVA + [folder, "Empty"], None))
+    return seconds, [seconds[1] / seconds[3], seconds[1] / seconds[0]]
+
+
 def main():
     runs = int(sys.argv[1]) if len(sys.argv) > 1 else 3
     if not os.path.exists(PROGRAM):
@@ -47,18 +60,13 @@ def main():
     with tempfile.TemporaryDirectory() as folder:
         sources = [os.path.join(SOURCES, it) for it in sorted(os.listdir(SOURCES))]
         subprocess.run(["javac", "--release", "8", "-Xlint:none", "-d", folder, EMPTY] + sources, check=True)
-        titles = ["pick s"] + [f"run {it} s" for it in WORKERS] + ["java s", "4 : 1", "1 : pick"]
+        titles = ["slice", "pick s"] + [f"run {it} s" for it in WORKERS] + ["java s", "4 : 1", "1 : pick"]
         print(f"{'class':<10}" + "".join(f"{it:>10}" for it in titles), flush=True)
         for source in sources:
             name = os.path.splitext(os.path.basename(source))[0]
-            wanted = timed(JAVA + [folder, name])[1]
-            seconds = [median(runs, [PROGRAM, "pick", folder, name], [PROGRAM, "pick", folder, "Empty"], wanted)]
-            for workers in WORKERS:
-                option = f"--workers={workers}"
-                seconds.append(median(runs, [PROGRAM, "run", folder, name, option], [PROGRAM, "run", folder, "Empty", option], wanted))
-            seconds.append(median(runs, JAVA + [folder, name], JAVA + [folder, "Empty"], None))
-            ratios = [seconds[1] / seconds[3], seconds[1] / seconds[0]]
-            print(f"{name:<10}" + "".join(f"{it:>10.3f}" for it in seconds) + "".join(f"{it:>10.2f}" for it in ratios), flush=True)
+            for turns in SLICES:
+                seconds, ratios = row(runs, folder, name, turns)
+                print(f"{name:<10}{turns:>10}" + "".join(f"{it:>10.3f}" for it in seconds) + "".join(f"{it:>10.2f}" for it in ratios), flush=True)
 
 
 main()

@@ -55,7 +55,7 @@ handed_by (Split m r q) ns n there = elim (in_front m n ns there) [
 ]
 handed_by step ns n there = inl there
 
-begot_grown : {C : Type 0} (p : ThreadPart C) (m : StepMade) (born : List (ThreadPart C))
+pub begot_grown : {C : Type 0} (p : ThreadPart C) (m : StepMade) (born : List (ThreadPart C))
     → ((n : ℕ) → Contains (handed_after m.step (handed_numbers p.steps)) n → Contains (handed_numbers p.steps) n ⊎ HasPartOf born n) → Begot (p ∷ []) (part_after p m ∷ []) born
 begot_grown p m born new = record {
   numbers = λ n h. h;

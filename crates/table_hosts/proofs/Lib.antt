@@ -7,4 +7,4 @@ pub mod Taking
 pub mod HostSteps
 pub mod Tallying
 pub mod SliceSteps
-pub mod SilentTurns
+pub mod PlainTurns

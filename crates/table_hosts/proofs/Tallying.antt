@@ -11,15 +11,16 @@ use Rattle.step_port.specs.declared.step.Step.TheVariants.{OpenSection, MarkUndo
 use Rattle.step_port.specs.Steps.{kind_of}
 use Rattle.thread_automaton.specs.declared.Move.{Move}
 use Rattle.thread_automaton.specs.declared.Move.TheVariants.{Over, Quiet, Stop, Make}
-use Rattle.thread_automaton.specs.ThreadState.{ThreadState, is_open}
+use Rattle.thread_automaton.specs.ThreadState.{ThreadState}
 use Rattle.thread_automaton.specs.NextMove.{next_move}
-use Rattle.thread_automaton.specs.Changes.{Change, sees_pinned, opens_level, closes_to, closes, goes_back, changed, forgotten}
+use Rattle.thread_automaton.specs.Changes.{changed}
 use Rattle.thread_automaton.specs.Answers.{change_of}
 use Rattle.thread_automaton.specs.Told.{Told, probed, advanced, born, lost, blocked, told, counted_for, after_answer}
 use Rattle.thread_moves.specs.Thread.{thread_of}
 use Rattle.rollback_core.specs.Turn.{SaysPlainly, Says, Turned, kind_made}
 use Rattle.rollback_core.specs.declared.turned.Turn.{Turn}
 use Rattle.section_laws.specs.NextSteps.{step_made}
+use Rattle.turn_runs.proofs.KeptLemmas.{changed_counts, counted_by_told, told_counts}
 use Rattle.table_words.specs.declared.setup.Setup.{Setup}
 use Rattle.table_words.specs.declared.setup.ThreadPart.{ThreadPart}
 use Rattle.table_words.specs.declared.seat.TableSeat.{TableSeat}
@@ -38,37 +39,6 @@ opening_kind step = refl
 pub undoing_kind : (step : Step) → undone_by step ≡ (if nat_eq (kind_of step) 10 then 1 else 0)
 undoing_kind (MarkUndone s word) = refl
 undoing_kind step = refl
-
--- ---- a thread's own count
-
-module _ {S : Type 0} (code : Code S) where
-  forgotten_counts : (th : ThreadState S) → (forgotten th).counted ≡ th.counted
-  forgotten_counts th = by_test (is_open th)
-    where
-      by_test : (t : Bool) → (if t then th else record th { log = []; saved = []; marks = [] }).counted ≡ th.counted
-      by_test true = refl
-      by_test false = refl
-
-  changed_counts : (th : ThreadState S) (change : Change) → (changed code th change).counted ≡ th.counted
-  changed_counts th (sees_pinned depth attempt) = forgotten_counts (record th { pinned = depth; attempt = attempt })
-  changed_counts th (opens_level attempt) = forgotten_counts _
-  changed_counts th (closes_to n attempt) = forgotten_counts _
-  changed_counts th closes = forgotten_counts _
-  changed_counts th (goes_back n) = forgotten_counts _
-  changed_counts th change = refl
-
-  abbrev counted_by_told : Told → ℕ
-  counted_by_told (advanced reply) = 1
-  counted_by_told born = 1
-  counted_by_told tells = 0
-
-  told_counts : (tells : Told) (next : ThreadState S) → (counted_for tells next).counted ≡ next.counted + counted_by_told tells
-  told_counts (advanced None) next = omega arith
-  told_counts (advanced (Some reply)) next = omega arith
-  told_counts born next = omega arith
-  told_counts probed next = omega arith
-  told_counts (lost v) next = omega arith
-  told_counts (blocked why) next = omega arith
 
 -- ---- one turn
 

@@ -1,5 +1,5 @@
 -- What is counted of turns.
-use Rattle.std.specs.Prelude.{◌≡◌, ℕ, zero, suc, ◌+◌, ◌≤◌, Bool, nat_eq, if◌then◌else◌, Option, None, Some, IfSome, List, [], ◌∷◌}
+use Rattle.std.specs.Prelude.{◌≡◌, ℕ, zero, suc, ◌+◌, ◌≤◌, Bool, true, nat_eq, if◌then◌else◌, Option, None, Some, IfSome, List, [], ◌∷◌}
 use Rattle.op_core.specs.declared.Limit.{Limit}
 use Rattle.op_core.specs.ThreadCode.{Code, quiet_step}
 use Rattle.step_port.specs.declared.step.Step.{Step}
@@ -107,18 +107,24 @@ tally_after before turn = record {
   undone = before.undone + turn.undone;
 }
 
--- turns, and n silent ones
-abbrev pub tally_after_silent : Tally → ℕ → Tally
-tally_after_silent before zero = before
-tally_after_silent before (suc n) = record {
+-- turns, and n plain ones, of which this number counted
+abbrev pub tally_after_plain : Tally → ℕ → ℕ → Tally
+tally_after_plain before zero counted = before
+tally_after_plain before (suc n) counted = record {
   limit = None;
-  counted = before.counted + suc n;
+  counted = before.counted + counted;
   idle = 0;
   opened = before.opened;
   undone = before.undone;
 }
 
 module _ {C S : Type 0} (state : C → S) (saved : C → List S) (code : Code S) (k : Setup C) where
+  -- Such turns, after each of which more follow: none of them opened a section or marked levels undone.
+  pub record TookPlainly (n : ℕ) (th : ThreadState S) (v : List (ThreadPart C)) (next : ThreadState S) (w : List (ThreadPart C)) : Type 0 where
+    pub took : TookTurns state saved code k (λ turn. goes_on Pace.WhileFree turn ≡ true) n th v next w
+    pub opened : opened_in_parts w ≡ opened_in_parts v
+    pub undone : undone_in_parts w ≡ undone_in_parts v
+
   -- the last n turns of the thread, which is `next` and whose seat has the parts w, were idle
   abbrev pub EndsIdly : ℕ → ThreadState S → List (ThreadPart C) → Type 0
   EndsIdly n next w = (th : ThreadState S) × (v : List (ThreadPart C)) × TookTurns state saved code k IsIdle n th v next w

@@ -11,7 +11,7 @@ ghost use Rattle.table_hosts.specs.Slices.{IsSliceAt, IsSliceOf, IsTryOf};
 
 use crate::SeatedThread;
 use crate::tally::{NO_TURN, Pace, Tally};
-use crate::turning::{next_turn, run_silent};
+use crate::turning::{next_turn, run_free};
 use op_core::{NoMemory, ThreadCode};
 use std::alloc::Global;
 use std::thread::{Threads, join};
@@ -58,9 +58,9 @@ fn run_at<C: ThreadCode + Drop>(
     let mut tally = NO_TURN;
     let mut turns = 0;
     for _round in 0..most {
-        let silent = run_silent(&mut thread, pace, most - turns);
-        tally = tally.after_silent(silent);
-        turns += silent;
+        let given = run_free(&mut thread, &mut port, pace, most - turns);
+        tally = tally.after_plain(given);
+        turns += given.turns;
         if turns == most || thread.thread().is_over() {
             break;
         }

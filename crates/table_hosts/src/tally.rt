@@ -2,8 +2,9 @@
 
 ghost use Rattle.std.specs.Prelude.{◌≡◌, ◌<◌, ◌+◌, ◌-◌, ◌^◌};
 ghost use Rattle.table_hosts.specs.Turns.{goes_on, is_idle};
-ghost use Rattle.table_hosts.specs.Tallies.{tally_of_turn, tally_after, tally_after_silent, IsWithin};
+ghost use Rattle.table_hosts.specs.Tallies.{tally_of_turn, tally_after, tally_after_plain, IsWithin};
 
+use crate::turning::Given;
 use op_core::{Limit, ThreadCode};
 use rollback_core::Turn;
 
@@ -77,17 +78,17 @@ pub(crate) fn tally_of<C: ThreadCode, S>(turned: &Turn<C, S>, kind: u8) -> Tally
 }
 
 impl Tally {
-    /// Turns, and this number of silent ones.
-    pub(crate) fn after_silent(self, turns: u32) -> Tally
-        requires { self.counted + turns < 2 ^ 32 }
-        ensures { result ≡ tally_after_silent self turns }
+    /// Turns, and these plain ones.
+    pub(crate) fn after_plain(self, given: Given) -> Tally
+        requires { self.counted + given.counted < 2 ^ 32 }
+        ensures { result ≡ tally_after_plain self given.turns given.counted }
     {
-        if turns == 0 {
+        if given.turns == 0 {
             return self;
         }
         Tally {
             limit: None,
-            counted: self.counted + turns,
+            counted: self.counted + given.counted,
             idle: 0,
             opened: self.opened,
             undone: self.undone,

@@ -1,22 +1,22 @@
 //! Turns of a thread on the table.
 
-ghost use Rattle.std.specs.Prelude.{◌≡◌, ◌≤◌, ◌<◌, false, IfOk, IfSome, OnErr};
+ghost use Rattle.std.specs.Prelude.{◌≡◌, ◌≤◌, ◌<◌, ◌+◌, false, [], IfOk, IfSome, OnErr};
 ghost use Rattle.thread_automaton.specs.NextMove.{next_move};
 ghost use Rattle.thread_moves.specs.Thread.{thread_of};
 ghost use Rattle.rollback_core.specs.Turn.{kind_made};
-ghost use Rattle.rollback_core.specs.Quiet.{QuietTurns};
 ghost use Rattle.table_words.specs.Setups.{setup_bounds};
 ghost use Rattle.table_words.specs.Ports.{port_setup, port_view};
 ghost use Rattle.table_hosts.specs.Standing.{ThreadsCanGoOn, StandsAtView};
 ghost use Rattle.table_hosts.specs.Families.{Begot};
 ghost use Rattle.table_hosts.specs.Turns.{TakesTurn, TookTurn};
-ghost use Rattle.table_hosts.specs.Tallies.{CameTo, IsWithin};
+ghost use Rattle.table_hosts.specs.Tallies.{CameTo, IsWithin, TookPlainly};
 ghost use Rattle.table_words.specs.declared.table.TableWords.{TableWords};
 ghost use Rattle.table_hosts.specs.Seated.{BeginsOn, BornStandsOn, parts_born, parts_of_child};
 
 use crate::SeatedThread;
 use crate::tally::{Pace, Tally, goes_on, tally_of};
 use op_core::{NoMemory, ThreadCode};
+use port_turns::run_plain;
 use rollback_core::{ReadyThread, Turn, turn};
 use table_words::{TablePort, TableSeat};
 
@@ -66,21 +66,45 @@ fn child_of<C: ThreadCode + Drop>(turned: Turn<C, TableSeat<C>>) -> Option<Seate
     }
 }
 
-/// Gives a thread some of the silent turns that come next, at most this many, and says how many: none where the turns have to be
-/// idle.
-pub(crate) fn run_silent<C: ThreadCode + Drop>(
+/// Turns that a thread was given.
+#[derive(Clone, Copy)]
+pub(crate) struct Given {
+    /// How many they were.
+    pub(crate) turns: u32,
+    /// How many of them counted.
+    pub(crate) counted: u32,
+}
+
+/// Gives a thread some of the plain turns that come next, at most this many: none where the turns have to be idle.
+pub(crate) fn run_free<C: ThreadCode + Drop>(
     thread: &mut ReadyThread<C>,
+    port: &mut TablePort<'_, C>,
     pace: Pace,
     most: u32,
-) -> u32
-    ensures most { result ≤ most }
-    ensures bounds { thread.new.own.bounds ≡ thread.old.own.bounds }
-    ensures turns { QuietTurns C.code thread.old.own.bounds result (thread_of C.state C.saved thread.old) (thread_of C.state C.saved thread.new) }
-    ensures pace { 0 < result → pace ≡ Pace.WhileFree }
+) -> Given
+    requires can { ThreadsCanGoOn C.state C.code (port_setup port.old) }
+    requires stands { StandsAtView C.state C.saved C.code (port_setup port.old) thread.old (port_view port.old) }
+    ensures most { result.turns ≤ most }
+    ensures table { port.new.table.now ≡ port.old.table.now }
+    ensures stands { StandsAtView C.state C.saved C.code (port_setup port.old) thread.new (port_view port.new) }
+    ensures begot { Begot (port_view port.old) (port_view port.new) [] }
+    ensures took { TookPlainly C.state C.saved C.code (port_setup port.old) result.turns
+        (thread_of C.state C.saved thread.old) (port_view port.old) (thread_of C.state C.saved thread.new) (port_view port.new) }
+    ensures counted { thread.new.own.counted ≡ thread.old.own.counted + result.counted }
+    ensures few { result.counted ≤ result.turns }
+    ensures pace { 0 < result.turns → pace ≡ Pace.WhileFree }
 {
     match pace {
-        Pace::WhileFree => thread.run_silent(u64::from(most)) as u32,
-        Pace::WhileIdle => 0,
+        Pace::WhileFree if !thread.thread().is_over() => {
+            let before = thread.thread().own.counted;
+            let turns = run_plain(thread, port, u64::from(most)) as u32;
+            let counted = (thread.thread().own.counted - before) as u32;
+            Given { turns, counted }
+        }
+        _ => Given {
+            turns: 0,
+            counted: 0,
+        },
     }
 }
 

@@ -5,6 +5,7 @@ ghost use Rattle.std.specs.List.{list_all};
 ghost use Rattle.thread_moves.specs.Thread.{thread_of};
 ghost use Rattle.turn_run_tests.specs.InRange.{is_in_range};
 ghost use Rattle.turn_run_tests.specs.Ready.{StaysReadyOnAny};
+ghost use Rattle.toy_code.specs.Toy.{toy_code};
 
 use crate::answering::Answering;
 use fixed_objects::{FixedObject, Opening};
@@ -28,7 +29,7 @@ const THREAD: u32 = 11;
 const FIRST: u32 = 16;
 
 /// How many calls a run has at most.
-const MOST: u64 = 1000;
+pub(crate) const MOST: u64 = 1000;
 
 /// The kind of the step that commits a section.
 const COMMIT: u64 = 9;
@@ -39,13 +40,13 @@ const LIMITS: Limits = Limits {
     sections: 10,
 };
 
-const NO_LOOKS: Looks = Looks {
+pub(crate) const NO_LOOKS: Looks = Looks {
     kinds: 0,
     events: false,
 };
 
 /// Words and silent steps outside of sections, an object, a class, a line.
-const OUTSIDE: &[ToyStep] = &[
+pub(crate) const OUTSIDE: &[ToyStep] = &[
     ToyStep::Pass,
     ToyStep::Call,
     ToyStep::Do(Op::Write(WORDS, 0, 7)),
@@ -60,7 +61,7 @@ const OUTSIDE: &[ToyStep] = &[
 ];
 
 /// Sections one after another and inside each other, with words of the section before.
-const SECTIONS: &[ToyStep] = &[
+pub(crate) const SECTIONS: &[ToyStep] = &[
     ToyStep::Do(Op::Enter(LOCK)),
     ToyStep::Do(Op::Write(WORDS, 0, 1)),
     ToyStep::Do(Op::Enter(LOCK)),
@@ -78,7 +79,7 @@ const SECTIONS: &[ToyStep] = &[
 ];
 
 /// A thread that is started, and monitors that aren't owned.
-const OTHERS: &[ToyStep] = &[
+pub(crate) const OTHERS: &[ToyStep] = &[
     ToyStep::Do(Op::Exit(LOCK)),
     ToyStep::Do(Op::Enter(LOCK)),
     ToyStep::Do(Op::Start(THREAD, 5)),
@@ -89,17 +90,17 @@ const OTHERS: &[ToyStep] = &[
 
 /// How many turns a thread was given, in how many calls.
 #[derive(Clone, Copy)]
-struct Given {
-    calls: u64,
-    turns: u64,
+pub(crate) struct Given {
+    pub(crate) calls: u64,
+    pub(crate) turns: u64,
 }
 
 /// A thread after its turns, and its words.
 #[derive(Drop)]
-struct Ran<'a> {
-    ready: ReadyThread<Toy<'a>>,
-    port: Answering,
-    given: Given,
+pub(crate) struct Ran<'a> {
+    pub(crate) ready: ReadyThread<Toy<'a>>,
+    pub(crate) port: Answering,
+    pub(crate) given: Given,
 }
 
 fn opening(alloc: Global) -> Result<Opening, AllocError> {
@@ -180,13 +181,13 @@ fn give_turns<C: ThreadCode + Drop>(
     Err(Fail::from("the script ends"))
 }
 
-/// A script up to where it can't go on alone, by calls of at most this many turns.
-fn run<'a>(
+/// Where a script begins: its thread before the first turn, and its words.
+pub(crate) fn begin<'a>(
     alloc: Global,
     scripts: &'a [ToyScript<'a>],
-    most: u64,
-    looks: Looks,
-) -> Result<Ran<'a>, Fail> {
+) -> Result<(ReadyThread<Toy<'a>>, Answering), Fail>
+    ensures { IfOk result (λ b. StaysReadyOnAny toy_code b.0.own.bounds (thread_of ⟦<Toy<'a> as ThreadCode>⟧.state ⟦<Toy<'a> as ThreadCode>⟧.saved b.0) b.1) }
+{
     let main = Toy::new(alloc, scripts, 0);
     if !are_in_range(main.steps) {
         return Err(Fail::from("each step is in range"));
@@ -195,10 +196,26 @@ fn run<'a>(
         limits: LIMITS,
         first: FIRST,
     };
-    let mut ready = ReadyThread::first(alloc, main, 1, 5, bounds);
-    let mut port = port(alloc)?;
+    let ready = ReadyThread::first(alloc, main, 1, 5, bounds);
+    let port = port(alloc)?;
+    Ok((ready, port))
+}
+
+/// A script up to where it can't go on alone, by calls of at most this many turns, with a caller that looks so.
+fn run_looking<'a>(
+    alloc: Global,
+    scripts: &'a [ToyScript<'a>],
+    most: u64,
+    looks: Looks,
+) -> Result<Ran<'a>, Fail> {
+    let (mut ready, mut port) = begin(alloc, scripts)?;
     let given = give_turns(&mut ready, &mut port, most, looks)?;
     Ok(Ran { ready, port, given })
+}
+
+/// The same by single turns.
+pub(crate) fn run_singly<'a>(alloc: Global, scripts: &'a [ToyScript<'a>]) -> Result<Ran<'a>, Fail> {
+    run_looking(alloc, scripts, 1, NO_LOOKS)
 }
 
 fn have_same_words(one: &PlainWords, other: &PlainWords) -> bool {
@@ -228,7 +245,7 @@ fn is_same_thread(one: &ReadyThread<Toy<'_>>, other: &ReadyThread<Toy<'_>>) -> b
         && one.code().place.value == other.code().place.value
 }
 
-fn is_same(one: &Ran<'_>, other: &Ran<'_>) -> bool {
+pub(crate) fn is_same(one: &Ran<'_>, other: &Ran<'_>) -> bool {
     one.given.turns == other.given.turns
         && one.port.made == other.port.made
         && one.port.sum == other.port.sum
@@ -240,10 +257,10 @@ fn is_same(one: &Ran<'_>, other: &Ran<'_>) -> bool {
 fn many_turns_are_single_ones(rt: HostRuntime) -> Result<(), Fail> {
     for (steps, ends) in [(OUTSIDE, 11), (SECTIONS, 14), (OTHERS, 6)] {
         let scripts = [ToyScript { object: 0, steps }];
-        let single = run(rt.alloc(), &scripts, 1, NO_LOOKS)?;
+        let single = run_singly(rt.alloc(), &scripts)?;
         assert!(rt; single.port.refused == 0 && single.ready.thread().code().place.step == ends);
         for most in 2..21 {
-            let many = run(rt.alloc(), &scripts, most, NO_LOOKS)?;
+            let many = run_looking(rt.alloc(), &scripts, most, NO_LOOKS)?;
             assert!(rt; is_same(&single, &many));
         }
     }
@@ -256,10 +273,11 @@ fn a_call_ends_at_a_look(rt: HostRuntime) -> Result<(), Fail> {
         object: 0,
         steps: SECTIONS,
     }];
-    let single = run(rt.alloc(), &scripts, 1, NO_LOOKS)?;
+    let single = run_singly(rt.alloc(), &scripts)?;
     // One call; one for each section too; one for each step of the script and for the end of the thread too.
     for (kinds, events, calls) in [(0, false, 1), (1 << COMMIT, false, 3), (0, true, 16)] {
-        let many = run(rt.alloc(), &scripts, 1000, Looks { kinds, events })?;
+        let looks = Looks { kinds, events };
+        let many = run_looking(rt.alloc(), &scripts, 1000, looks)?;
         assert!(rt; many.given.calls == calls && is_same(&single, &many));
     }
     Ok(())

@@ -5,3 +5,5 @@
 mod answering;
 #[cfg(test)]
 mod cases;
+#[cfg(test)]
+mod plain;

@@ -1,13 +1,13 @@
-use Rattle.std.proofs.Common.{◌≡◌, true, sym, ◌∙◌, ap}
+use Rattle.std.proofs.Common.{◌≡◌, true, ◌∙◌, ap}
 use Rattle.std.specs.List.{list_all}
 use Rattle.thread_automaton.specs.ThreadState.{ThreadState}
 use Rattle.toy_code.specs.Toy.{ToyState}
 use Rattle.turn_run_tests.specs.InRange.{is_in_range}
 use Rattle.turn_run_tests.proofs.ReadyLemmas.{toys_stay_ready}
-use Rattle.turn_run_tests.proofs.cases.run.Goals as goal
+use Rattle.turn_run_tests.proofs.cases.begin.Goals as goal
 
-pub give_turns-requires : goal.give_turns-requires
-give_turns-requires c =
+pub returns : goal.returns
+returns c =
     let all : list_all is_in_range c.new-main.result.steps.now ≡ true = search in
     toys_stay_ready c.first-ready.result.own.bounds _ c.in_ok-port.port
     (ap (λ (th : ThreadState ToyState). list_all is_in_range th.local.steps) c.first-ready.ensures.thread ∙ all)
