@@ -1,5 +1,5 @@
--- The program of the tests is one whose threads can go on after each run.
-use Rattle.std.proofs.Common.{◌≡◌, ◌⊎◌, inl, inr, ℕ, zero, suc, ◌+◌, ◌<◌, ◌^◌, true≢false, Option, None, Some, List, [], ◌∷◌, length, refl, sym, ◌∙◌, ap, subst, arith}
+-- The programs of the tests are such that their threads can go on after each run.
+use Rattle.std.proofs.Common.{◌≡◌, ◌⊎◌, inl, inr, ℕ, zero, suc, ◌+◌, ◌<◌, ◌^◌, false, true≢false, Option, None, Some, List, [], ◌∷◌, length, refl, sym, ◌∙◌, ap, subst, arith}
 use Rattle.std.specs.Prelude.{slice_get}
 use Rattle.std.specs.List.{All, AllByRecursion, AllPairs}
 use Rattle.std.proofs.lemmas.List.Kept.{AllPairs-cons}
@@ -19,7 +19,7 @@ use Rattle.fixed_objects.specs.Opening.{opening_state}
 use Rattle.plain_words.specs.Opening.{EndsBelow, LiesBehind, KeepsStartWord as KeepsItsStartWord}
 use Rattle.opening_cores.specs.Laws.{HasRanges, TellsThreads}
 use Rattle.opening_cores.specs.Openings.{CanBegin}
-use Rattle.table_cases.specs.Program.{program_steps, waiting_steps, is_thread, program_objects as objects, program_opening as opening, limits_with}
+use Rattle.table_cases.specs.Program.{program_steps, kind_steps, waiting_steps, is_thread, program_objects as objects, program_opening as opening, limits_with}
 
 -- ---- the script
 
@@ -43,9 +43,10 @@ each_at P (Pass ∷ rest) all (suc i) op at = each_at P rest all i op at
 each_at P (Call ∷ rest) all (suc i) op at = each_at P rest all i op at
 each_at P (Return ∷ rest) all (suc i) op at = each_at P rest all i op at
 
-abbrev IsNoNew : Op → Type 0
-IsNoNew (New c n) = ⊥
-IsNoNew op = Unit {0}
+-- it makes no object of a thread
+abbrev MakesNoThread : Op → Type 0
+MakesNoThread (New c n) = is_thread c ≡ false
+MakesNoThread op = Unit {0}
 
 abbrev pub start_at : List ScriptStep → OrdinaryState ScriptState
 start_at steps = opening_state opening (script_at steps 0)
@@ -57,7 +58,7 @@ pub record IsFitScript (steps : List ScriptStep) : Type 0 where
   pub last : (i : ℕ) → i + 1 ≡ length steps → (x : Option ℕ) × (slice_get steps i ≡ Some (Operation (End x)))
   pub there : EachIs (λ op. IsAllThere (start_at steps).objects op × IsInRange op) steps
   pub kept : EachIs (KeepsStartWord is_thread (start_at steps).objects) steps
-  pub none : EachIs IsNoNew steps
+  pub plain : EachIs MakesNoThread steps
 
 module _ (steps : List ScriptStep) (fit : IsFitScript steps) where
   pub orderly : IsOrderlyScript steps 4
@@ -84,8 +85,8 @@ module _ (steps : List ScriptStep) (fit : IsFitScript steps) where
   pub keep_start_words : (i : ℕ) (op : Op) → slice_get steps i ≡ Some (Operation op) → KeepsStartWord is_thread (start_at steps).objects op
   keep_start_words i op at = each_at (KeepsStartWord is_thread (start_at steps).objects) steps fit.kept i op at
 
-  pub makes_none : (i c n : ℕ) → slice_get steps i ≡ Some (Operation (New c n)) → ⊥
-  makes_none i c n at = each_at IsNoNew steps fit.none i (New c n) at
+  pub makes_no_thread : (i c n : ℕ) → slice_get steps i ≡ Some (Operation (New c n)) → is_thread c ≡ false
+  makes_no_thread i c n at = each_at MakesNoThread steps fit.plain i (New c n) at
 
 pub program_fits : IsFitScript program_steps
 program_fits = record {
@@ -94,11 +95,24 @@ program_fits = record {
   last = λ i is. (None, ap (slice_get program_steps) (twelve i is));
   there = ((refl, (omega arith, omega arith)), ((refl, omega arith), ((refl, omega arith), ((omega arith, (omega arith, omega arith, omega arith)), ((refl, omega arith), ((refl, omega arith), ((tt, tt), ((tt, tt), ((refl, omega arith), ((refl, omega arith), ((refl, omega arith), ((refl, omega arith), ((tt, tt), tt)))))))))))));
   kept = ((refl, omega arith), (tt, (tt, ((λ no one. absurd (true≢false (sym no))), (tt, (tt, (tt, (tt, (tt, (tt, (tt, (tt, (tt, tt)))))))))))));
-  none = (tt, (tt, (tt, (tt, (tt, (tt, (tt, (tt, (tt, (tt, (tt, (tt, (tt, tt)))))))))))));
+  plain = (tt, (tt, (tt, (tt, (tt, (tt, (tt, (tt, (tt, (tt, (tt, (tt, (tt, tt)))))))))))));
 }
   where
     twelve : (i : ℕ) → i + 1 ≡ 13 → i ≡ 12
     twelve i is = omega (arith, is)
+
+pub kinds_fit : IsFitScript kind_steps
+kinds_fit = record {
+  some = omega arith;
+  orderly = (omega arith, (tt, (tt, (tt, (tt, (tt, (tt, (tt, (omega arith, (omega arith, (tt, (tt, (tt, (tt, (tt, (tt, (tt, (tt, (tt, tt)))))))))))))))))));
+  last = λ i is. (None, ap (slice_get kind_steps) (eighteen i is));
+  there = ((refl, (omega arith, omega arith)), ((refl, omega arith), ((omega arith, (omega arith, omega arith, omega arith)), ((refl, omega arith), ((refl, omega arith), ((refl, omega arith), ((refl, omega arith), ((tt, tt), ((tt, omega arith), ((tt, omega arith), ((tt, (omega arith, omega arith)), ((refl, omega arith), ((refl, omega arith), ((tt, tt), ((refl, omega arith), ((refl, omega arith), ((refl, omega arith), ((omega arith, (omega arith, omega arith)), ((tt, tt), tt)))))))))))))))))));
+  kept = ((refl, omega arith), (tt, ((λ no one. absurd (true≢false (sym no))), (tt, (tt, (tt, ((refl, omega arith), (tt, (tt, (tt, (tt, (tt, (tt, (tt, (tt, (tt, (tt, ((λ no one. absurd (true≢false (sym no))), (tt, tt)))))))))))))))))));
+  plain = (tt, (tt, (tt, (tt, (tt, (tt, (tt, (tt, (tt, (tt, (refl, (tt, (tt, (tt, (tt, (tt, (tt, (tt, (tt, tt)))))))))))))))))));
+}
+  where
+    eighteen : (i : ℕ) → i + 1 ≡ 19 → i ≡ 18
+    eighteen i is = omega (arith, is)
 
 pub waiting_fits : IsFitScript waiting_steps
 waiting_fits = record {
@@ -107,7 +121,7 @@ waiting_fits = record {
   last = λ i is. (None, ap (slice_get waiting_steps) (one i is));
   there = ((refl, omega arith), ((tt, tt), tt));
   kept = ((refl, omega arith), (tt, tt));
-  none = (tt, (tt, tt));
+  plain = (tt, (tt, tt));
 }
   where
     one : (i : ℕ) → i + 1 ≡ 2 → i ≡ 1

@@ -1,5 +1,5 @@
 -- Threads of the program can go on after each run.
-use Rattle.std.proofs.Common.{◌≡◌, ℕ, ◌+◌, ◌<◌, ◌≤◌, ◌^◌, true, Option, None, Some, List, length, sym, ◌∙◌, ap, subst, arith}
+use Rattle.std.proofs.Common.{◌≡◌, ℕ, ◌+◌, ◌<◌, ◌≤◌, ◌^◌, true, true≢false, Option, None, Some, List, length, sym, ◌∙◌, ap, subst, arith}
 use Rattle.std.specs.Prelude.{slice_get}
 use Rattle.op_core.specs.declared.Limits.{Limits}
 use Rattle.op_core.specs.declared.Op.{Op}
@@ -28,8 +28,8 @@ use Rattle.table_words.specs.declared.setup.Setup.{Setup}
 use Rattle.table_hosts.specs.Standing.{ThreadsCanGoOn}
 use Rattle.table_runs.specs.Programs.{CanRun}
 use Rattle.table_runs.proofs.GoingLemmas.{threads_can_go_on}
-use Rattle.table_cases.specs.Program.{program_steps, first_place, is_thread, program_opening as opening, limits_with, script_state, IsProgramWith, IsProgram}
-use Rattle.table_cases.proofs.PremiseLemmas.{IsFitScript, start_at, orderly, all_execute, names_there, keep_start_words, makes_none, program_fits, can_begin}
+use Rattle.table_cases.specs.Program.{program_steps, kind_steps, is_thread, program_opening as opening, limits_with, script_state, IsProgramWith, IsProgram}
+use Rattle.table_cases.proofs.PremiseLemmas.{IsFitScript, start_at, orderly, all_execute, names_there, keep_start_words, makes_no_thread, program_fits, kinds_fit, can_begin}
 
 module _ (steps : List ScriptStep) (fit : IsFitScript steps) where
   -- ---- what threads keep
@@ -57,7 +57,7 @@ module _ (steps : List ScriptStep) (fit : IsFitScript steps) where
     reply = λ h later l op reply is wants end more true_reply. is;
     child = λ h l r p is wants. is;
     writes = λ h l r i v is wants. tt;
-    makes = λ h l c n r is wants some low. absurd (makes_none steps fit l.place c n (ap (λ script. slice_get script l.place) (sym is) ∙ wanted (slice_get l.steps l.place) (New c n) wants));
+    makes = λ h l c n r is wants some low. made c n l.place (ap (λ script. slice_get script l.place) (sym is) ∙ wanted (slice_get l.steps l.place) (New c n) wants);
   }
     where
       wanted : (o : Option ScriptStep) (op : Op) → next_at o ≡ Want op → o ≡ Some (Operation op)
@@ -66,6 +66,12 @@ module _ (steps : List ScriptStep) (fit : IsFitScript steps) where
       wanted (Some Call) op is = absurd cc
       wanted (Some Return) op is = absurd cc
       wanted (Some (Operation x)) op is = cc
+
+      made : (c n i : ℕ) → slice_get steps i ≡ Some (Operation (New c n)) → (is_thread c ≡ true → 1 < n) × (n ≤ 2 ^ 32)
+      made c n i at = (
+        (λ thread. absurd (true≢false (sym thread ∙ makes_no_thread steps fit i c n at))),
+        let range = (names_there steps fit i (New c n) at).1.1 in omega (arith, range),
+      )
 
   fitting : KeepsFitting script_code is_thread P W O
   fitting = record { keeps = keeps; threads = λ r o is thread. is.0 thread; few = λ r o is. is.1 }
@@ -110,10 +116,11 @@ module _ (steps : List ScriptStep) (fit : IsFitScript steps) where
 pub programs_go_on : (k : Setup Script) → IsProgram k → ThreadsCanGoOn script_state script_code k
 programs_go_on k is = scripts_go_on program_steps program_fits 1000 (omega arith) k (record { opening = is.opening; limits = is.limits; code = is.code })
 
+-- and of the one whose threads make steps of each kind
+pub kinds_go_on : (k : Setup Script) → IsProgramWith kind_steps 1000 k → ThreadsCanGoOn script_state script_code k
+kinds_go_on k is = scripts_go_on kind_steps kinds_fit 1000 (omega arith) k is
+
 -- a thread of a script that hasn't begun is at its first place
 pub script_begins_at : (steps : List ScriptStep) (s : Script) → s.steps.now ≡ steps → s.place ≡ record { step = 0; frames = 1 } → script_state s ≡ script_at steps 0
 script_begins_at steps s same at = ap (λ (xs : List ScriptStep). record { steps = xs; place = s.place.step; frames = s.place.frames }) same
     ∙ ap (λ (p : ScriptPlace). record { steps = steps; place = p.step; frames = p.frames }) at
-
-pub script_begins : (s : Script) → s.steps.now ≡ program_steps → s.place ≡ record { step = 0; frames = 1 } → script_state s ≡ first_place
-script_begins s same at = script_begins_at program_steps s same at

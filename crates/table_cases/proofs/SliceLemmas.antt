@@ -4,7 +4,6 @@ use Rattle.std.specs.List.{All}
 use Rattle.std.proofs.lemmas.List.Elements.{All-head}
 use Rattle.op_core.specs.ThreadCode.{Code}
 use Rattle.section_laws.proofs.CoreRunLemmas.{none_there}
-use Rattle.table_words.specs.declared.setup.ThreadPart.{ThreadPart}
 use Rattle.table_words.specs.declared.seat.TableSeat.{TableSeat}
 use Rattle.table_words.specs.declared.table.TableWords.{TableWords}
 use Rattle.table_words.specs.Ends.{HaveAllThreads}

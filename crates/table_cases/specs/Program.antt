@@ -1,8 +1,8 @@
 -- The program of the tests: what its threads do, and how it begins.
-use Rattle.std.specs.Prelude.{◌≡◌, ℕ, nat_eq, Bool, None, List, [], ◌∷◌, map}
+use Rattle.std.specs.Prelude.{◌≡◌, ℕ, nat_eq, Bool, true, None, List, [], ◌∷◌, map}
 use Rattle.op_core.specs.declared.Line.TheVariants.{Empty}
 use Rattle.op_core.specs.declared.Limits.{Limits}
-use Rattle.op_core.specs.declared.Op.TheVariants.{Write, Enter, Exit, Print, Start, Join, End}
+use Rattle.op_core.specs.declared.Op.TheVariants.{Read, Write, New, Enter, Exit, Notify, Print, Start, Join, Init, InitDone, End}
 use Rattle.op_core.specs.declared.script.Script.{Script}
 use Rattle.op_core.specs.declared.script.ScriptStep.{ScriptStep}
 use Rattle.op_core.specs.declared.script.ScriptStep.TheVariants.{Operation}
@@ -30,6 +30,33 @@ program_steps =
     ∷ Operation (Exit 15)
     ∷ Operation (Enter 13)
     ∷ Operation (Exit 13)
+    ∷ Operation (End None)
+    ∷ []
+
+-- Main starts a thread that begins at step 8, enters the monitor of 13, writes a word of 17, enters the monitor of 15, exits
+-- both, waits for the end of the other thread, and ends. The other thread initializes class 2, makes an object
+-- of it, enters the monitor of 13 twice, prints an empty line, notifies nobody, exits twice, reads the word that main writes, and
+-- ends.
+abbrev pub kind_steps : List ScriptStep
+kind_steps =
+    Operation (Start 8 9)
+    ∷ Operation (Enter 13)
+    ∷ Operation (Write 17 0 7)
+    ∷ Operation (Enter 15)
+    ∷ Operation (Exit 15)
+    ∷ Operation (Exit 13)
+    ∷ Operation (Join 8)
+    ∷ Operation (End None)
+    ∷ Operation (Init 2)
+    ∷ Operation (InitDone 2 true)
+    ∷ Operation (New 2 1)
+    ∷ Operation (Enter 13)
+    ∷ Operation (Enter 13)
+    ∷ Operation (Print Empty)
+    ∷ Operation (Notify 13)
+    ∷ Operation (Exit 13)
+    ∷ Operation (Exit 13)
+    ∷ Operation (Read 17 0)
     ∷ Operation (End None)
     ∷ []
 
@@ -62,7 +89,7 @@ program_opening = record { objects = program_objects; ready = []; classes = 3; f
 
 -- with so many turns for each thread
 abbrev pub limits_with : ℕ → Limits
-limits_with turns = record { turns = turns; heap = 0; sections = 1000 }
+limits_with turns = record { turns = turns; heap = 8; sections = 1000 }
 
 abbrev pub program_limits : Limits
 program_limits = limits_with 1000

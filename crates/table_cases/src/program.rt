@@ -25,16 +25,42 @@ pub const STEPS: [ScriptStep; 13] = [
     ScriptStep::Operation(Op::End(None)),
 ];
 
+/// Between them the two threads make steps of each kind that a script can make. Main starts the thread that begins at step 8,
+/// enters a monitor, writes a word, enters a second monitor, exits both, waits for the end of the other thread, and ends. The other
+/// thread initializes a class, makes an object, enters main's first monitor twice, prints a line, notifies nobody, exits twice,
+/// reads the word that main writes, and ends.
+pub const KIND_STEPS: [ScriptStep; 19] = [
+    ScriptStep::Operation(Op::Start(8, 9)),
+    ScriptStep::Operation(Op::Enter(13)),
+    ScriptStep::Operation(Op::Write(17, 0, 7)),
+    ScriptStep::Operation(Op::Enter(15)),
+    ScriptStep::Operation(Op::Exit(15)),
+    ScriptStep::Operation(Op::Exit(13)),
+    ScriptStep::Operation(Op::Join(8)),
+    ScriptStep::Operation(Op::End(None)),
+    ScriptStep::Operation(Op::Init(2)),
+    ScriptStep::Operation(Op::InitDone(2, true)),
+    ScriptStep::Operation(Op::New(2, 1)),
+    ScriptStep::Operation(Op::Enter(13)),
+    ScriptStep::Operation(Op::Enter(13)),
+    ScriptStep::Operation(Op::Print(Line::Empty)),
+    ScriptStep::Operation(Op::Notify(13)),
+    ScriptStep::Operation(Op::Exit(13)),
+    ScriptStep::Operation(Op::Exit(13)),
+    ScriptStep::Operation(Op::Read(17, 0)),
+    ScriptStep::Operation(Op::End(None)),
+];
+
 /// Main waits for its own end, which never comes.
 pub const WAITING_STEPS: [ScriptStep; 2] = [
     ScriptStep::Operation(Op::Join(1)),
     ScriptStep::Operation(Op::End(None)),
 ];
 
-/// The limits of the program.
+/// The limits of the programs.
 pub const LIMITS: Limits = Limits {
     turns: 1000,
-    heap: 0,
+    heap: 8,
     sections: 1000,
 };
 
