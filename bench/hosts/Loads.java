@@ -1,6 +1,6 @@
 // Seven threads, each of which reads an array of its own again and again.
 class Loads extends Thread {
-    static final int THREADS = 7, ROUNDS = 200, LENGTH = 1000;
+    static final int THREADS = 7, ROUNDS = 1500, LENGTH = 1000;
     final int[] numbers = new int[LENGTH];
     int sum;
 

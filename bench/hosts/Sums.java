@@ -1,6 +1,6 @@
 // Seven threads, each of which adds numbers up in variables of its own.
 class Sums extends Thread {
-    static final int THREADS = 7, ROUNDS = 2000000;
+    static final int THREADS = 7, ROUNDS = 8000000;
     final int first;
     int sum;
 
