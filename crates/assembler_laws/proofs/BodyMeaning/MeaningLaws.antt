@@ -25,7 +25,7 @@ use Rattle.code_write.specs.Instruction.{instruction_bytes}
 use Rattle.code_write.specs.Meaning.{targets_read, cases_read, Means, IsMeant, AreMeant}
 use Rattle.assembler_bodies.specs.Labels.{Marks}
 use Rattle.assembler_laws.specs.BodyMeaning.Parts.{Places}
-use Rattle.assembler_laws.specs.BodyMeaning.Instructions.{LeadsTo, IsCase, SaysWhat, SaysInstruction}
+use Rattle.assembler_laws.specs.BodyMeaning.Instructions.{LabelIsAt, IsCase, SaysWhat, SaysInstruction}
 use Rattle.assembler_laws.proofs.BodyMeaning.WritesLaws.{Leads, IsCaseWritten, Writes}
 use Rattle.assembler_laws.proofs.BodyMeaning.InstructionLaws.{IsWritten}
 
@@ -89,11 +89,11 @@ pos_same m n e = cc
 
 module _ (marks : Marks) (places : Places) (pool : List Constant) (steps : List (Instr Target))
     (resolve : (label : List ℕ) (offset j : ℕ) → Leads marks label offset → number_at steps offset ≡ Some j → places label ≡ Some j) where
-  leads_to : (label : List ℕ) (offset : ℕ) (target : Target) → Leads marks label offset → target.at ≡ offset → IsAmong steps target → LeadsTo places label target
+  leads_to : (label : List ℕ) (offset : ℕ) (target : Target) → Leads marks label offset → target.at ≡ offset → IsAmong steps target → LabelIsAt places label target
   leads_to label offset target leads at among = resolve label offset target.step leads (subst (λ (o : ℕ). number_at steps o ≡ Some target.step) at among)
 
   targets_lead : (labels : List (List ℕ)) (offsets : List ℕ) (targets : List Target) → AllZip (Leads marks) labels offsets → map offset_read targets ≡ targets_read offsets
-      → AllByRecursion (IsAmong steps) targets → AllZip (LeadsTo places) labels targets
+      → AllByRecursion (IsAmong steps) targets → AllZip (LabelIsAt places) labels targets
   targets_lead [] [] [] leads e among = tt
   targets_lead [] [] (t ∷ targets) leads e among = absurd cc
   targets_lead [] (o ∷ offsets) targets leads e among = absurd leads
@@ -119,7 +119,7 @@ module _ (marks : Marks) (places : Places) (pool : List Constant) (steps : List 
       ((key ∙ are.0.0, leads_to one.label w.target c.target are.0.1 (pos_same c.target.at w.target at) among.0), cases_lead said written cases are.1 others among.1)
 
   branch_says : (test : _) (label : List ℕ) (offset : ℕ) (what : What Target) → Leads marks label offset → with_targets offset_read what ≡ whats.Branch test (pos offset)
-      → AllByRecursion (IsAmong steps) (targets_of what) → (target : Target) × (what ≡ whats.Branch test target) × LeadsTo places label target
+      → AllByRecursion (IsAmong steps) (targets_of what) → (target : Target) × (what ≡ whats.Branch test target) × LabelIsAt places label target
   branch_says test label offset what leads e among =
       let is = back_of what (whats.Branch test (pos offset)) e in
       let all : AllByRecursion (IsAmong steps) (is.0 ∷ []) = subst (λ (w : What Target). AllByRecursion (IsAmong steps) (targets_of w)) is.1 among in

@@ -19,11 +19,11 @@ use Rattle.assembler_bodies.specs.Operands.{loaded_item}
 use Rattle.assembler_laws.specs.BodyMeaning.Parts.{Places}
 
 -- the target is the instruction after the label
-abbrev pub LeadsTo : Places → List ℕ → Target → Type 0
-LeadsTo places label target = places label ≡ Some target.step
+abbrev pub LabelIsAt : Places → List ℕ → Target → Type 0
+LabelIsAt places label target = places label ≡ Some target.step
 
 abbrev pub IsCase : Places → LabelledCase → Case Target → Type 0
-IsCase places said c = (c.key ≡ said.key) × LeadsTo places said.label c.target
+IsCase places said c = (c.key ≡ said.key) × LabelIsAt places said.label c.target
 
 -- operands of a form as they are written, and the instruction with what they name
 abbrev pub SaysWhat : List Constant → Places → Form → Operands → What Target → Type 0
@@ -38,12 +38,12 @@ SaysWhat pool places forms.Constant (Loaded constant) what = (index : ℕ) × (w
 SaysWhat pool places forms.LongConstant (Long n) what = (index : ℕ) × (what ≡ whats.LongConstant index) × IsItemAt pool index (long n)
 SaysWhat pool places (forms.Local access) (Local local) what = what ≡ whats.Local access local
 SaysWhat pool places forms.Increment (Increment local by) what = what ≡ whats.Increment local by
-SaysWhat pool places (forms.Branch test) (Label label) what = (target : Target) × (what ≡ whats.Branch test target) × LeadsTo places label target
-SaysWhat pool places (forms.FarBranch test) (Label label) what = (target : Target) × (what ≡ whats.Branch test target) × LeadsTo places label target
+SaysWhat pool places (forms.Branch test) (Label label) what = (target : Target) × (what ≡ whats.Branch test target) × LabelIsAt places label target
+SaysWhat pool places (forms.FarBranch test) (Label label) what = (target : Target) × (what ≡ whats.Branch test target) × LabelIsAt places label target
 SaysWhat pool places forms.TableSwitch (TableSwitch low label labels) what = (default : Target) × (targets : List Target)
-    × (what ≡ whats.TableSwitch default low targets) × LeadsTo places label default × AllZip (LeadsTo places) labels targets
+    × (what ≡ whats.TableSwitch default low targets) × LabelIsAt places label default × AllZip (LabelIsAt places) labels targets
 SaysWhat pool places forms.LookupSwitch (LookupSwitch label said) what = (default : Target) × (cases : List (Case Target))
-    × (what ≡ whats.LookupSwitch default cases) × LeadsTo places label default × AllZip (IsCase places) said cases
+    × (what ≡ whats.LookupSwitch default cases) × LabelIsAt places label default × AllZip (IsCase places) said cases
 SaysWhat pool places (forms.Field access) (Member class name descriptor) what = (index : ℕ) × (what ≡ whats.Field access index) × IsItemAt pool index (field class name descriptor)
 SaysWhat pool places (forms.Call call) (Member class name descriptor) what = (index : ℕ) × (what ≡ whats.Call call index) × IsItemAt pool index (method class name descriptor)
 SaysWhat pool places forms.InterfaceCall (InterfaceMethod class name descriptor count) what = (index : ℕ) × (what ≡ whats.InterfaceCall index) × IsItemAt pool index (interface_method class name descriptor)
