@@ -64,8 +64,9 @@ fn push_value(frames: &mut Frames, value: Value)
     }
 }
 
+/// How many words a value has.
 #[inline(always)]
-fn value_len(value: Value) -> usize
+pub fn value_len(value: Value) -> usize
     ensures { result ≡ length (value_words value) }
 {
     match value {
@@ -75,9 +76,9 @@ fn value_len(value: Value) -> usize
     }
 }
 
-// Takes words off the stack, pushes those of a value, and goes to another instruction.
+/// Takes words off the stack, pushes those of a value, and goes to another instruction.
 #[inline(always)]
-fn leave(frames: &mut Frames, taken: usize, value: Value, next: usize)
+pub fn leave(frames: &mut Frames, taken: usize, value: Value, next: usize)
     requires words { taken ≤ length frames.old.here.stack }
     requires room { length (value_words value) ≤ frames.old.here.free + taken }
     ensures { frames.new ≡ with_step (with_words (without_words frames.old taken) (value_words value)) next }

@@ -14,6 +14,7 @@ ghost use Rattle.interp_calls.specs.Hosted.{HostedTo};
 ghost use Rattle.interp_calls.specs.Local.{stands_in};
 
 use crate::behind::go_on_behind;
+use crate::hosted::run_answered;
 use crate::running::run;
 use crate::silent::{leaves_outside, next_outside, silent_outside};
 use crate::texts::{reply_inside, reply_outside, silent_inside};
@@ -145,6 +146,34 @@ impl<'p, P: JavaProgram> JavaCode<'p, P> {
         }
     }
 
+    // Goes on by many steps at once, where the thread is at the beginning of an instruction, and does nothing elsewhere. `false`
+    // where the host may have declined what the thread wants.
+    #[inline(always)]
+    #[tactic(auto, using(crate::proofs::TextLemmas::begun_none, crate::proofs::TextLemmas::outside_is))]
+    fn go_on_answered<H: OpHost>(&mut self, host: &mut H, most: u64) -> bool
+        requires may { MayBeAsked java_code (saved_locals (P.units self.old.program.now) self.old.thread self.old.frames) H.passes H.answers H.may
+            (state_over (P.units self.old.program.now) self.old.thread self.old.frames self.old.texts self.old.text) host.old }
+        ensures led { IsLedTo java_code (saved_locals (P.units self.old.program.now) self.old.thread self.old.frames) H.passes H.answers H.declines
+            (state_over (P.units self.old.program.now) self.old.thread self.old.frames self.old.texts self.old.text) host.old
+            (state_over (P.units self.new.program.now) self.new.thread self.new.frames self.new.texts self.new.text) host.new }
+        ensures on { result ≡ true → HostedTo (saved_locals (P.units self.old.program.now) self.old.thread self.old.frames) H.passes H.answers
+            (state_over (P.units self.old.program.now) self.old.thread self.old.frames self.old.texts self.old.text) host.old
+            (state_over (P.units self.new.program.now) self.new.thread self.new.frames self.new.texts self.new.text) host.new }
+        ensures saved { saved_locals (P.units self.new.program.now) self.new.thread self.new.frames
+            ≡ saved_locals (P.units self.old.program.now) self.old.thread self.old.frames }
+    {
+        match self.frames.stage_here() {
+            FrameStage::Begun => run_answered(
+                self.program,
+                self.thread,
+                &mut self.frames,
+                host,
+                most,
+            ),
+            _ => true,
+        }
+    }
+
     // Makes the silent step that comes next, unless the host has no room for it, it would end a frame that was on top at a save,
     // or it fails. Says whether it made it.
     fn pass_silent<H: OpHost>(&mut self, host: &mut H) -> bool
@@ -167,10 +196,10 @@ impl<'p, P: JavaProgram> JavaCode<'p, P> {
         }
     }
 
-    // Makes silent steps, and then asks the host the operation that comes next, or makes one more silent step. `false` where it did
-    // neither; then the host may have declined what the thread wants.
+    // Makes silent steps, and then asks the host the operation that comes next, or makes one more silent step. After an answer it
+    // goes on by many steps at once. `false` also where the host may have declined what the thread wants.
     #[inline(always)]
-    fn ask_next<H: OpHost>(&mut self, host: &mut H) -> bool
+    fn ask_next<H: OpHost>(&mut self, host: &mut H, most: u64) -> bool
         requires may { MayBeAsked java_code (saved_locals (P.units self.old.program.now) self.old.thread self.old.frames) H.passes H.answers H.may
             (state_over (P.units self.old.program.now) self.old.thread self.old.frames self.old.texts self.old.text) host.old }
         ensures led { IsLedTo java_code (saved_locals (P.units self.old.program.now) self.old.thread self.old.frames) H.passes H.answers H.declines
@@ -188,7 +217,7 @@ impl<'p, P: JavaProgram> JavaCode<'p, P> {
             Next::Want(op) => match host.ask(op) {
                 Some(reply) => {
                     self.reply(reply);
-                    true
+                    self.go_on_answered(host, most)
                 }
                 None => false,
             },
@@ -258,7 +287,7 @@ impl<'p, P: JavaProgram> ThreadCode for JavaCode<'p, P> {
 
     fn run_with<H: OpHost>(&mut self, host: &mut H, most: u64) {
         for _asked in 0..most {
-            if !self.ask_next(host) {
+            if !self.ask_next(host, most) {
                 return;
             }
         }

@@ -8,6 +8,7 @@ mod apply;
 mod behind;
 mod calling;
 mod ending;
+mod hosted;
 mod java_code;
 mod running;
 mod silent;

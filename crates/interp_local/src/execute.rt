@@ -164,8 +164,11 @@ fn branch_ints(frames: &mut Frames, condition: Condition, step: u32) -> bool
 
 /// Executes an instruction in the top frame, and returns whether it did. It doesn't where one look doesn't identify the
 /// instruction, where an operand, a local or room is missing, and where a divisor is zero; then nothing is changed.
+///
+/// `L` names the loop that calls it and is not used otherwise. The compiler puts a function as large as this one into its caller
+/// only if it has no other caller, so each loop has a copy of its own.
 #[inline(always)]
-pub fn execute<P: Constants>(program: &P, quick: Quick, frames: &mut Frames) -> bool
+pub fn execute<P: Constants, L>(program: &P, quick: Quick, frames: &mut Frames) -> bool
     requires { frames.old.here.step + 1 < 2 ^ 64 }
     ensures row { result ≡ true → quick_row (P.units program.now) (frame_now frames.old) quick ≡ moves (frame_now frames.new) }
     ensures kept { result ≡ false → frames.new ≡ frames.old }

@@ -33,9 +33,9 @@ fn needs_operation(_steps: &[Instr<Target>], quicks: &[Quick], frames: &Frames) 
     matches!(quicks.get(frames.step()), None | Some(Quick::Operation))
 }
 
-// Makes one step where one look identifies the instruction. Returns whether it was made.
+// Makes one step where one look identifies the instruction. Returns whether it was made. `L` names the loop that calls it.
 #[inline(always)]
-fn quick_step<P: Constants>(
+fn quick_step<P: Constants, L>(
     program: &P,
     _steps: &[Instr<Target>],
     quicks: &[Quick],
@@ -46,7 +46,7 @@ fn quick_step<P: Constants>(
     ensures kept { result ≡ false → frames.new ≡ frames.old }
 {
     match quicks.get(frames.step()) {
-        Some(quick) => execute(program, *quick, frames),
+        Some(quick) => execute::<P, L>(program, *quick, frames),
         None => false,
     }
 }
@@ -93,10 +93,13 @@ fn run_few<P: Constants>(
     most
 }
 
-// Makes steps of instructions that one look identifies, at most `most`, and says how many. It is meant for loops whose
-// frames are nowhere else, which keep the place of the top frame in registers.
+/// Makes steps of instructions that one look identifies, at most `most`, each one as [`local_step`] makes it, and says how many.
+/// `quicks` are those of [`crate::make_quicks`]. Takes no memory.
+///
+/// It is meant for a caller whose frames are nowhere else, so that the place of the top frame stays in registers. `L` is any type
+/// that no other caller gives: each caller then has a copy of the loop that the compiler can put into it.
 #[inline(always)]
-fn run_here<P: Constants>(
+pub fn run_here<P: Constants, L>(
     program: &P,
     steps: &[Instr<Target>],
     quicks: &[Quick],
@@ -108,7 +111,7 @@ fn run_here<P: Constants>(
     ensures most { result ≤ most }
 {
     for made in 0..most {
-        if !quick_step(program, steps, quicks, frames) {
+        if !quick_step::<P, L>(program, steps, quicks, frames) {
             return made;
         }
     }
@@ -129,7 +132,7 @@ fn run_many<P: Constants>(
     ensures run { IsLocalRun (P.units program.now) steps.now result.1 frames result.0 }
     ensures most { result.1 ≤ most }
 {
-    let made = run_here(program, steps, quicks, &mut frames, most);
+    let made = run_here::<P, ()>(program, steps, quicks, &mut frames, most);
     (frames, made)
 }
 

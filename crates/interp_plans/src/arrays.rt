@@ -16,6 +16,7 @@ use op_core::Op;
 
 impl<'a, P: JavaProgram> Here<'a, P> {
     /// An element is read.
+    #[inline(always)]
     pub fn load(&self, kind: ElementKind) -> Todo
         ensures { loads_element (frame_of self.now.frames.now.here) kind self.now.frames.now.here.stack
             ≡ plan_of (P.units self.now.program.now) self.now.thread (frame_of self.now.frames.now.here) result }
@@ -30,6 +31,7 @@ impl<'a, P: JavaProgram> Here<'a, P> {
     }
 
     /// An element is written.
+    #[inline(always)]
     pub fn store(&self, kind: ElementKind) -> Todo
         ensures { stores_element (P.units self.now.program.now) (frame_of self.now.frames.now.here) kind self.now.frames.now.here.stack
             ≡ plan_of (P.units self.now.program.now) self.now.thread (frame_of self.now.frames.now.here) result }
@@ -51,6 +53,7 @@ impl<'a, P: JavaProgram> Here<'a, P> {
     }
 
     /// The length of an array.
+    #[inline(always)]
     pub fn array_length(&self) -> Todo
         ensures { gets_length (frame_of self.now.frames.now.here) self.now.frames.now.here.stack
             ≡ plan_of (P.units self.now.program.now) self.now.thread (frame_of self.now.frames.now.here) result }

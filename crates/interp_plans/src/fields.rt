@@ -17,6 +17,7 @@ use op_core::Op;
 
 impl<'a, P: JavaProgram> Here<'a, P> {
     /// A field is read.
+    #[inline(always)]
     pub fn get_field(&self, index: u16) -> Todo
         ensures { gets_field (frame_of self.now.frames.now.here) (field_at (P.units self.now.program.now) self.now.frames.now.here.method.class index) self.now.frames.now.here.stack
             ≡ plan_of (P.units self.now.program.now) self.now.thread (frame_of self.now.frames.now.here) result }
@@ -33,6 +34,7 @@ impl<'a, P: JavaProgram> Here<'a, P> {
         self.read_value(1, field.kind, object, field.place)
     }
 
+    #[inline(always)]
     fn put_word(&self, kind: ValueType, place: u32) -> Todo
         ensures { puts_word (frame_of self.now.frames.now.here) kind place self.now.frames.now.here.stack
             ≡ plan_of (P.units self.now.program.now) self.now.thread (frame_of self.now.frames.now.here) result }
@@ -47,6 +49,7 @@ impl<'a, P: JavaProgram> Here<'a, P> {
         Todo::Wants(write, Then::Done(with_operands(2)))
     }
 
+    #[inline(always)]
     fn put_long(&self, place: u32) -> Todo
         requires { place + 1 < 2 ^ 32 }
         ensures { puts_long (frame_of self.now.frames.now.here) place self.now.frames.now.here.stack
@@ -62,6 +65,7 @@ impl<'a, P: JavaProgram> Here<'a, P> {
     }
 
     /// A field is written.
+    #[inline(always)]
     pub fn put_field(&self, index: u16) -> Todo
         ensures { puts_field (frame_of self.now.frames.now.here) (field_at (P.units self.now.program.now) self.now.frames.now.here.method.class index) self.now.frames.now.here.stack
             ≡ plan_of (P.units self.now.program.now) self.now.thread (frame_of self.now.frames.now.here) result }

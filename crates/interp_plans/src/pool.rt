@@ -23,6 +23,7 @@ pub fn class_of_type(kind: ObjectType) -> u32
 }
 
 impl<'a, P: JavaProgram> Here<'a, P> {
+    #[inline(always)]
     fn operand(&self, index: u16) -> Operand
         ensures is { result ≡ operand (P.units self.now.program.now) self.now.frames.now.here.method.class index }
         ensures places { (field : FieldOperand) → result ≡ Operand.Field field → field.place + 1 < 2 ^ 32 }
@@ -51,6 +52,7 @@ impl<'a, P: JavaProgram> Here<'a, P> {
     }
 
     /// A field.
+    #[inline(always)]
     pub fn field_at(&self, index: u16) -> Option<FieldOperand>
         ensures is { result ≡ field_at (P.units self.now.program.now) self.now.frames.now.here.method.class index }
         ensures place { IfSome result (λ field. field.place + 1 < 2 ^ 32) }

@@ -13,6 +13,7 @@ use op_core::Op;
 
 impl<'a, P: JavaProgram> Here<'a, P> {
     /// A part is through, with a value.
+    #[inline(always)]
     pub fn value(&self, site: CallSite, value: Value) -> Reached
         ensures { (use_at (frame_of self.now.frames.now.here) site).value (value_words value)
             ≡ plan_reached (P.units self.now.program.now) self.now.thread (frame_of self.now.frames.now.here) result }
@@ -48,6 +49,7 @@ impl<'a, P: JavaProgram> Here<'a, P> {
     }
 
     /// The instruction throws a new exception of a class.
+    #[inline(always)]
     pub fn fail(&self, class: u32) -> Todo
         ensures { fails (frame_of self.now.frames.now.here) class
             ≡ plan_of (P.units self.now.program.now) self.now.thread (frame_of self.now.frames.now.here) result }

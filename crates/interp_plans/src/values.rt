@@ -16,6 +16,7 @@ use link_types::ValueType;
 use op_core::Op;
 
 /// A part of an instruction with `count` operands.
+#[inline(always)]
 pub fn with_operands(count: u16) -> CallSite
     ensures { result ≡ record { caller = Caller.Instruction; operands = count } }
 {
@@ -26,6 +27,7 @@ pub fn with_operands(count: u16) -> CallSite
 }
 
 /// The word that a field of a type keeps of an int (JVMS 6.5 putfield).
+#[inline(always)]
 pub fn kept_word(kind: ValueType, word: u32) -> u32
     ensures { result ≡ kept kind word }
 {
@@ -40,6 +42,7 @@ pub fn kept_word(kind: ValueType, word: u32) -> u32
 
 impl<'a, P: JavaProgram> Here<'a, P> {
     /// A long is read from a place of an object, and takes the place of `count` operands.
+    #[inline(always)]
     pub fn read_long(&self, count: u16, object: u32, place: u32) -> Todo
         requires { place + 1 < 2 ^ 32 }
         ensures { reads_long object place (λ words. completes (frame_of self.now.frames.now.here) (words ++ drop count self.now.frames.now.here.stack))
@@ -54,6 +57,7 @@ impl<'a, P: JavaProgram> Here<'a, P> {
     }
 
     /// A value of a type is read, and takes the place of `count` operands.
+    #[inline(always)]
     pub fn read_value(&self, count: u16, kind: ValueType, object: u32, place: u32) -> Todo
         requires { place + 1 < 2 ^ 32 }
         ensures { reads_value kind object place (λ words. completes (frame_of self.now.frames.now.here) (words ++ drop count self.now.frames.now.here.stack))
@@ -66,6 +70,7 @@ impl<'a, P: JavaProgram> Here<'a, P> {
     }
 
     /// A long is written to a place of an object, which takes `count` operands off the stack.
+    #[inline(always)]
     pub fn write_long(&self, count: u16, object: u32, place: u32, low: u32, high: u32) -> Todo
         requires { place + 1 < 2 ^ 32 }
         ensures { writes_long object place low high (completes (frame_of self.now.frames.now.here) (drop count self.now.frames.now.here.stack))

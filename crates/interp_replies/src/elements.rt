@@ -15,6 +15,7 @@ use interp_local::{four, three, to_byte, to_char, to_short, two};
 use interp_plans::{Here, JavaProgram, Reached, with_operands};
 use op_core::{Op, Reply};
 
+#[inline(always)]
 fn is_index(index: u32, length: u32) -> bool
     ensures { result ≡ numbers.is_index index length }
 {
@@ -22,6 +23,7 @@ fn is_index(index: u32, length: u32) -> bool
 }
 
 // The word that an array of a class keeps of an int.
+#[inline(always)]
 fn kept_element<P: JavaProgram>(here: &Here<'_, P>, kind: ElementKind, class: u32, word: u32) -> u32
     ensures { result ≡ objects.kept_element (P.units here.now.program.now) kind class word }
 {
@@ -78,6 +80,7 @@ fn stores_word<P: JavaProgram>(here: &Here<'_, P>, kind: ElementKind, reply: Rep
     Reached::Goes(Todo::Wants(write, Then::Done(with_operands(3))))
 }
 
+#[inline(always)]
 fn stores_long<P: JavaProgram>(here: &Here<'_, P>, reply: Reply) -> Reached
     ensures { stores_long_then (frame_of here.now.frames.now.here) here.now.frames.now.here.stack reply
         ≡ plan_reached (P.units here.now.program.now) here.now.thread (frame_of here.now.frames.now.here) result }
@@ -94,6 +97,7 @@ fn stores_long<P: JavaProgram>(here: &Here<'_, P>, reply: Reply) -> Reached
     Reached::Goes(here.write_long(4, array, 2 * index, low, high))
 }
 
+#[inline(always)]
 fn stores_reference<P: JavaProgram>(here: &Here<'_, P>, reply: Reply) -> Reached
     ensures { stores_reference_then (P.units here.now.program.now) (frame_of here.now.frames.now.here) here.now.frames.now.here.stack reply
         ≡ plan_reached (P.units here.now.program.now) here.now.thread (frame_of here.now.frames.now.here) result }

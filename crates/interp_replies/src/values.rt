@@ -105,6 +105,7 @@ pub fn made<P: JavaProgram>(here: &Here<'_, P>, site: CallSite, reply: Reply) ->
 }
 
 /// The length of an array was asked for.
+#[inline(always)]
 pub fn length<P: JavaProgram>(here: &Here<'_, P>, site: CallSite, reply: Reply) -> Reached
     ensures { then_of (P.units here.now.program.now) here.now.thread (frame_of here.now.frames.now.here) (Then.Length site) reply
         ≡ plan_reached (P.units here.now.program.now) here.now.thread (frame_of here.now.frames.now.here) result }

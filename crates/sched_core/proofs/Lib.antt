@@ -12,4 +12,5 @@ mod SilentLemmas
 mod LowestLemmas
 mod StretchLemmas
 mod KeepLemmas
+mod GiveLemmas
 mod UsualLemmas

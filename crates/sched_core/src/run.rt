@@ -156,7 +156,7 @@ impl<'a, C: ThreadCode + Drop> WordRun<'a, C> {
         Ok(())
     }
 
-    // Gives a thread its turn, and says what that came to.
+    // Gives a thread its turn, and says what that came to. Most turns are silent, and those are made in a shorter way.
     fn give(&mut self, thread: u8) -> Result<TurnEnd, NoMemory>
         requires there { IsSome (seat_in self.old.machine.seats.places.items thread) }
         requires ready { (x : JThread C) → seat_in self.old.machine.seats.places.items thread ≡ Some x
@@ -171,6 +171,10 @@ impl<'a, C: ThreadCode + Drop> WordRun<'a, C> {
         ensures gives { IfOk result (λ end. GivesPlace C.code (thread_of C.state C.saved) self.old.machine.bounds self.old thread end self.new) }
     {
         self.is_listed = false;
+        let made = self.machine.run_silent(thread, 1);
+        if made > 0 {
+            return Ok(TurnEnd::Other);
+        }
         let end = self.machine.turn(thread)?;
         self.count(end)?;
         Ok(end)
