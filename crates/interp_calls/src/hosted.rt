@@ -20,7 +20,8 @@ use frame_snapshot::{Frames, Then, Todo, Value};
 use instructions::{FieldAccess, Instr, Plain, Target, What};
 use interp_local::{Quick, run_here};
 use interp_plans::{Here, JavaProgram, Reached};
-use op_core::{OpHost, Reply};
+use op_core::{Op, OpHost, Reply};
+use std::marker::PhantomData;
 
 /// How far the top frame came in an instruction that isn't complete.
 #[derive(Clone, Copy)]
@@ -35,8 +36,7 @@ pub enum Halt {
     Leads(Reached),
 }
 
-// The instructions that are executed here, as types. Each function that asks is for one of them (`I`), and has one caller. So the
-// compiler puts it into its caller, however large it is, and knows there which operation is asked.
+// The instructions that are executed here, as types.
 struct GetField;
 
 struct PutField;
@@ -46,6 +46,61 @@ struct ArrayLoad;
 struct ArrayStore;
 
 struct ArrayLength;
+
+// An operation of an instruction that is executed here, as a type. Each function that asks is for one such operation, and has one
+// caller. So the compiler puts it into its caller, and leaves out of it what is for other operations.
+trait AskedOperation {
+    // Whether this is the operation, with what follows it.
+    fn is_asked(op: &Op, then: &Then) -> bool;
+}
+
+// The header of an array.
+struct Header<I>(PhantomData<I>);
+
+// The word of a value, or the low one of its two words.
+struct LowRead<I>(PhantomData<I>);
+
+struct HighRead<I>(PhantomData<I>);
+
+struct LowWrite<I>(PhantomData<I>);
+
+struct HighWrite<I>(PhantomData<I>);
+
+impl<I> AskedOperation for Header<I> {
+    #[inline(always)]
+    fn is_asked(op: &Op, then: &Then) -> bool {
+        matches!(op, Op::ClassOf(_))
+            && matches!(then, Then::Loads(_) | Then::Stores(_) | Then::Length(_))
+    }
+}
+
+impl<I> AskedOperation for LowRead<I> {
+    #[inline(always)]
+    fn is_asked(op: &Op, then: &Then) -> bool {
+        matches!(op, Op::Read(_, _)) && matches!(then, Then::Read(_) | Then::LowRead { .. })
+    }
+}
+
+impl<I> AskedOperation for HighRead<I> {
+    #[inline(always)]
+    fn is_asked(op: &Op, then: &Then) -> bool {
+        matches!(op, Op::Read(_, _)) && matches!(then, Then::HighRead { .. })
+    }
+}
+
+impl<I> AskedOperation for LowWrite<I> {
+    #[inline(always)]
+    fn is_asked(op: &Op, then: &Then) -> bool {
+        matches!(op, Op::Write(_, _, _)) && matches!(then, Then::Done(_) | Then::LowWritten { .. })
+    }
+}
+
+impl<I> AskedOperation for HighWrite<I> {
+    #[inline(always)]
+    fn is_asked(op: &Op, then: &Then) -> bool {
+        matches!(op, Op::Write(_, _, _)) && matches!(then, Then::Done(_))
+    }
+}
 
 /// What asking the host an operation of an instruction came to.
 #[derive(Clone, Copy)]
@@ -80,10 +135,9 @@ fn complete(frames: &mut Frames, operands: u16, value: Value) -> bool
     true
 }
 
-// Asks the host the operation that the instruction wants, and goes on with the reply. `I` is the instruction with the place of the
-// operation in it.
+// Asks the host the operation `A`, if the instruction wants it, and goes on with the reply.
 #[inline(always)]
-fn ask<P: JavaProgram, H: OpHost, I>(
+fn ask<P: JavaProgram, H: OpHost, A: AskedOperation>(
     program: &P,
     thread: u32,
     frames: &mut Frames,
@@ -99,6 +153,9 @@ fn ask<P: JavaProgram, H: OpHost, I>(
     let Todo::Wants(op, then) = todo else {
         return AfterAsking::Halts(Halt::Goes(todo));
     };
+    if !A::is_asked(&op, &then) {
+        return AfterAsking::Halts(Halt::Goes(todo));
+    }
     let Some(reply) = host.ask(op) else {
         return AfterAsking::Halts(Halt::Goes(todo));
     };
@@ -125,7 +182,7 @@ fn ask<P: JavaProgram, H: OpHost, I>(
 
 // Asks at most one operation of the instruction.
 #[inline(always)]
-fn ask_one<P: JavaProgram, H: OpHost, I>(
+fn ask_one<P: JavaProgram, H: OpHost, A: AskedOperation>(
     program: &P,
     thread: u32,
     frames: &mut Frames,
@@ -138,7 +195,7 @@ fn ask_one<P: JavaProgram, H: OpHost, I>(
     ensures { GoneTo (P.units program.now) thread (saved_locals (P.units program.now) thread frames.old) H.passes H.answers H.declines
         (halted_local (P.units program.now) thread frames.old (halts.Goes todo)) host.old frames.old result frames.new host.new }
 {
-    match ask::<P, H, [I; 1]>(program, thread, frames, host, todo) {
+    match ask::<P, H, A>(program, thread, frames, host, todo) {
         AfterAsking::Complete => None,
         AfterAsking::Goes(next) => Some(Halt::Goes(next)),
         AfterAsking::Halts(halt) => Some(halt),
@@ -148,7 +205,7 @@ fn ask_one<P: JavaProgram, H: OpHost, I>(
 // Asks at most two operations of the instruction. It is a function of its own, not a loop, so that the operations stay in
 // registers.
 #[inline(always)]
-fn ask_two<P: JavaProgram, H: OpHost, I>(
+fn ask_two<P: JavaProgram, H: OpHost, A: AskedOperation, B: AskedOperation>(
     program: &P,
     thread: u32,
     frames: &mut Frames,
@@ -161,16 +218,16 @@ fn ask_two<P: JavaProgram, H: OpHost, I>(
     ensures { GoneTo (P.units program.now) thread (saved_locals (P.units program.now) thread frames.old) H.passes H.answers H.declines
         (halted_local (P.units program.now) thread frames.old (halts.Goes todo)) host.old frames.old result frames.new host.new }
 {
-    match ask::<P, H, [I; 2]>(program, thread, frames, host, todo) {
+    match ask::<P, H, A>(program, thread, frames, host, todo) {
         AfterAsking::Complete => None,
-        AfterAsking::Goes(next) => ask_one::<P, H, I>(program, thread, frames, host, next),
+        AfterAsking::Goes(next) => ask_one::<P, H, B>(program, thread, frames, host, next),
         AfterAsking::Halts(halt) => Some(halt),
     }
 }
 
 // Asks at most three operations of the instruction: for the header of an array, and for both halves of a long.
 #[inline(always)]
-fn ask_three<P: JavaProgram, H: OpHost, I>(
+fn ask_three<P: JavaProgram, H: OpHost, A: AskedOperation, B: AskedOperation, C: AskedOperation>(
     program: &P,
     thread: u32,
     frames: &mut Frames,
@@ -183,9 +240,9 @@ fn ask_three<P: JavaProgram, H: OpHost, I>(
     ensures { GoneTo (P.units program.now) thread (saved_locals (P.units program.now) thread frames.old) H.passes H.answers H.declines
         (halted_local (P.units program.now) thread frames.old (halts.Goes todo)) host.old frames.old result frames.new host.new }
 {
-    match ask::<P, H, [I; 3]>(program, thread, frames, host, todo) {
+    match ask::<P, H, A>(program, thread, frames, host, todo) {
         AfterAsking::Complete => None,
-        AfterAsking::Goes(next) => ask_two::<P, H, I>(program, thread, frames, host, next),
+        AfterAsking::Goes(next) => ask_two::<P, H, B, C>(program, thread, frames, host, next),
         AfterAsking::Halts(halt) => Some(halt),
     }
 }
@@ -218,23 +275,31 @@ fn ask_access<P: JavaProgram, H: OpHost>(
     match &instruction.what {
         What::Field(FieldAccess::GetField, index) => {
             let todo = here.get_field(*index);
-            ask_two::<P, H, GetField>(program, thread, frames, host, todo)
+            ask_two::<P, H, LowRead<GetField>, HighRead<GetField>>(
+                program, thread, frames, host, todo,
+            )
         }
         What::Field(FieldAccess::PutField, index) => {
             let todo = here.put_field(*index);
-            ask_two::<P, H, PutField>(program, thread, frames, host, todo)
+            ask_two::<P, H, LowWrite<PutField>, HighWrite<PutField>>(
+                program, thread, frames, host, todo,
+            )
         }
         What::Plain(Plain::ArrayLoad(kind)) => {
             let todo = here.load(*kind);
-            ask_three::<P, H, ArrayLoad>(program, thread, frames, host, todo)
+            ask_three::<P, H, Header<ArrayLoad>, LowRead<ArrayLoad>, HighRead<ArrayLoad>>(
+                program, thread, frames, host, todo,
+            )
         }
         What::Plain(Plain::ArrayStore(kind)) => {
             let todo = here.store(*kind);
-            ask_three::<P, H, ArrayStore>(program, thread, frames, host, todo)
+            ask_three::<P, H, Header<ArrayStore>, LowWrite<ArrayStore>, HighWrite<ArrayStore>>(
+                program, thread, frames, host, todo,
+            )
         }
         What::Plain(Plain::ArrayLength) => {
             let todo = here.array_length();
-            ask_one::<P, H, ArrayLength>(program, thread, frames, host, todo)
+            ask_one::<P, H, Header<ArrayLength>>(program, thread, frames, host, todo)
         }
         _ => Some(Halt::Begins),
     }

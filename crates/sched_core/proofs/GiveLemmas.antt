@@ -19,6 +19,8 @@ use Rattle.word_machine.specs.Machine.{threads_in, IsCoreOf}
 use Rattle.word_machine.specs.Seats.{seat_in}
 use Rattle.word_machine.specs.Silent.{MakesQuiet}
 use Rattle.word_machine.specs.Turns.{CanTurnOn, GivesTurn}
+use Rattle.sched_core.specs.declared.word_run.WordRun.{WordRun}
+use Rattle.sched_core.specs.ScheduledRun.{IsPlaceOf, IsSame, GivesPlace}
 
 -- ---- a thread that is there as before
 
@@ -86,3 +88,16 @@ still_can_turn code state saved old mid t bounds words threads ready x here =
     subst (λ b. CanTurnOn code b mid.words (thread_of state saved x)) (sym bounds)
     (subst (λ w. CanTurnOn code old.bounds w (thread_of state saved x)) (sym words)
     (subst (CanTurnOn code old.bounds old.words) same (ready y there)))
+
+-- so it leads from the same places of a run
+pub placed_from : {C S : Type 0} {G : Ghosts C} (code : Code S) (meant : JThread C → ThreadState S) (old mid new : WordRun C G) (t : ℕ) (comes : TurnEnd) → IsSame meant old mid
+    → GivesPlace code meant mid.machine.bounds mid t comes new → GivesPlace code meant old.machine.bounds old t comes new
+placed_from code meant old mid new t comes same gives = λ r place.
+    let from : IsPlaceOf meant mid r = record {
+      core = record { words = place.core.words ∙ ap words_in (sym same.words); threads = place.core.threads ∙ sym same.threads };
+      untold = place.untold;
+      opens = same.opened ∙ place.opens;
+      undoes = same.undone ∙ place.undoes;
+    } in
+    let given = gives r from in
+    (given.0, subst (λ b. (word_turns code b).gives r t comes given.0) same.bounds given.1, given.2)

@@ -156,7 +156,7 @@ impl<'a, C: ThreadCode + Drop> WordRun<'a, C> {
         Ok(())
     }
 
-    // Gives a thread its turn, and says what that came to. Most turns are silent, and those are made in a shorter way.
+    // Gives a thread its turn, and says what that came to.
     fn give(&mut self, thread: u8) -> Result<TurnEnd, NoMemory>
         requires there { IsSome (seat_in self.old.machine.seats.places.items thread) }
         requires ready { (x : JThread C) → seat_in self.old.machine.seats.places.items thread ≡ Some x
@@ -171,13 +171,31 @@ impl<'a, C: ThreadCode + Drop> WordRun<'a, C> {
         ensures gives { IfOk result (λ end. GivesPlace C.code (thread_of C.state C.saved) self.old.machine.bounds self.old thread end self.new) }
     {
         self.is_listed = false;
-        let made = self.machine.run_silent(thread, 1);
-        if made > 0 {
-            return Ok(TurnEnd::Other);
-        }
         let end = self.machine.turn(thread)?;
         self.count(end)?;
         Ok(end)
+    }
+
+    // The same for a thread most of whose turns are silent: those are made in a shorter way.
+    fn give_quickly(&mut self, thread: u8) -> Result<TurnEnd, NoMemory>
+        requires there { IsSome (seat_in self.old.machine.seats.places.items thread) }
+        requires ready { (x : JThread C) → seat_in self.old.machine.seats.places.items thread ≡ Some x
+            → CanTurnOn C.code self.old.machine.bounds self.old.machine.words (thread_of C.state C.saved x) }
+        ensures bounds { self.new.machine.bounds ≡ self.old.machine.bounds }
+        ensures areas { self.new.machine.words.areas ≡ self.old.machine.words.areas }
+        ensures rest { self.new.rest ≡ self.old.rest }
+        ensures enabled { self.new.enabled ≡ self.old.enabled }
+        ensures unlisted { self.new.is_listed ≡ false }
+        ensures turn { IfOk result (λ end. GivesTurn C.code (thread_of C.state C.saved) self.old.machine.bounds self.old.machine.words self.old.machine.seats.places.items
+            thread end self.new.machine.words self.new.machine.seats.places.items) }
+        ensures gives { IfOk result (λ end. GivesPlace C.code (thread_of C.state C.saved) self.old.machine.bounds self.old thread end self.new) }
+    {
+        let made = self.machine.run_silent(thread, 1);
+        if made > 0 {
+            self.is_listed = false;
+            return Ok(TurnEnd::Other);
+        }
+        self.give(thread)
     }
 
     // Gives the thread its turn that has the next one, and says how the run ends, if it does.
@@ -208,7 +226,7 @@ impl<'a, C: ThreadCode + Drop> WordRun<'a, C> {
         ensures listed { AreListed C.code (thread_of C.state C.saved) self.new }
         ensures gives { IfOk result (λ how. GivesNext C.code (thread_of C.state C.saved) self.old.machine.bounds self.old thread how self.new) }
     {
-        let end = self.give(thread)?;
+        let end = self.give_quickly(thread)?;
         self.rest.end_turn(end);
         self.is_listed = leaves_words(end) && self.machine.is_enabled(thread);
         Ok(how_at(thread, end))

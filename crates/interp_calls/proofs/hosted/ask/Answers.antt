@@ -1,4 +1,6 @@
 use Rattle.std.proofs.Common.{rules, ◌≡◌, refl, sym, subst}
+use Rattle.op_core.specs.Hosted.{IsLedTo}
+use Rattle.java_rows.specs.Thread.{java_code}
 use Rattle.interp_plans.specs.declared.reached.Reached.TheVariants as reached
 use Rattle.interp_plans.specs.Replies.{then_of}
 use Rattle.interp_plans.specs.Todos.{plan_reached}
@@ -6,7 +8,7 @@ use Rattle.interp_plans.specs.Uses.{frame_of}
 use Rattle.interp_calls.specs.declared.hosted.Halt.TheVariants as halts
 use Rattle.interp_calls.specs.Hosted.{halted_local, HostedTo}
 use Rattle.interp_calls.specs.Local.{saved_locals}
-use Rattle.interp_calls.proofs.HostedLemmas.{may_ask, reaches, replied}
+use Rattle.interp_calls.proofs.HostedLemmas.{declined, may_ask, reaches, replied}
 use Rattle.interp_calls.proofs.hosted.ask.Goals as goal
 
 pub ask-requires : goal.ask-requires
@@ -80,3 +82,16 @@ returns-in_default-reached g c =
     let way = reaches us me s c.args.todo c.in-Wants.op c.in-Wants.then c.in-Wants.is saves g.H.OpHost.passes g.H.OpHost.answers c.in-Some.reply (c.in-Some-reached_by.reached)
     c.args.host.now c.ask.new.self told.0 told.1 row in
     (way, refl)
+
+pub returns-in_default-ask : goal.returns-in_default-ask
+returns-in_default-ask g c =
+    let us = g.P.Constants.units c.args.program.now in
+    let me = c.args.thread in
+    let s = c.args.frames.now in
+    let saves = saved_locals us me s in
+    let refuses : g.H.OpHost.declines c.args.host.now c.in-Wants.op c.ask.new.self = search rules in
+    let led = declined us me s c.args.todo c.in-Wants.op c.in-Wants.then c.in-Wants.is saves g.H.OpHost.passes g.H.OpHost.answers g.H.OpHost.declines c.args.host.now c.ask.new.self refuses in (
+      subst (λ x. IsLedTo java_code saves g.H.OpHost.passes g.H.OpHost.answers g.H.OpHost.declines (halted_local us me s (halts.Goes c.args.todo)) c.args.host.now
+          (halted_local us me s (halts.Goes x)) c.ask.new.self) c.in-Wants.is led,
+      refl,
+    )
