@@ -1,10 +1,12 @@
 //! Fields and elements that are read and written while a host answers.
 
-ghost use Rattle.std.specs.Prelude.{◌≡◌, ◌≢◌, ◌++◌, ℕ, true, false, List, None, drop};
+ghost use Rattle.std.specs.Prelude.{◌≡◌, ◌≢◌, ◌++◌, ℕ, true, false, List, None, drop, IfSome, IfNone};
 ghost use Rattle.code_decode.specs.declared.code.ClassUnit.{ClassUnit};
 ghost use Rattle.frame_snapshot.specs.declared.stage.FrameStage.{FrameStage};
 ghost use Rattle.frame_snapshot.specs.declared.todo.Todo.{Todo};
+ghost use Rattle.op_core.specs.declared.Op.{Op};
 ghost use Rattle.op_core.specs.Hosted.{IsLedTo, MayBeAsked};
+ghost use Rattle.op_core.specs.Replies.{Fits};
 ghost use Rattle.java_rows.specs.Plan.{completes};
 ghost use Rattle.java_rows.specs.Program.{steps_of};
 ghost use Rattle.java_rows.specs.Thread.{java_code, settled};
@@ -135,6 +137,62 @@ fn complete(frames: &mut Frames, operands: u16, value: Value) -> bool
     true
 }
 
+// Asks the host for a word of an object. It is a function of its own, as are the next three: the operation is known here, so the
+// compiler leaves out what the host does for others, and the callers, into which it is not put, stay small.
+#[inline(never)]
+fn ask_read<H: OpHost>(host: &mut H, object: u32, place: u32) -> Option<Reply>
+    requires { H.may host.old (Op.Read object place) }
+    ensures some { IfSome result (λ reply. Fits (Op.Read object place) reply × H.answers host.old (Op.Read object place) reply host.new) }
+    ensures none { IfNone result (H.declines host.old (Op.Read object place) host.new) }
+{
+    host.ask(Op::Read(object, place))
+}
+
+// Asks the host to write a word of an object.
+#[inline(never)]
+fn ask_write<H: OpHost>(host: &mut H, object: u32, place: u32, word: u32) -> Option<Reply>
+    requires { H.may host.old (Op.Write object place word) }
+    ensures some { IfSome result (λ reply. Fits (Op.Write object place word) reply × H.answers host.old (Op.Write object place word) reply host.new) }
+    ensures none { IfNone result (H.declines host.old (Op.Write object place word) host.new) }
+{
+    host.ask(Op::Write(object, place, word))
+}
+
+// Asks the host for the class and the length of an object.
+#[inline(never)]
+fn ask_class<H: OpHost>(host: &mut H, object: u32) -> Option<Reply>
+    requires { H.may host.old (Op.ClassOf object) }
+    ensures some { IfSome result (λ reply. Fits (Op.ClassOf object) reply × H.answers host.old (Op.ClassOf object) reply host.new) }
+    ensures none { IfNone result (H.declines host.old (Op.ClassOf object) host.new) }
+{
+    host.ask(Op::ClassOf(object))
+}
+
+// Asks the host any other operation.
+#[inline(never)]
+fn ask_other<H: OpHost>(host: &mut H, op: Op) -> Option<Reply>
+    requires { H.may host.old op }
+    ensures some { IfSome result (λ reply. Fits op reply × H.answers host.old op reply host.new) }
+    ensures none { IfNone result (H.declines host.old op host.new) }
+{
+    host.ask(op)
+}
+
+// Asks the host an operation.
+#[inline(always)]
+fn ask_host<H: OpHost>(host: &mut H, op: Op) -> Option<Reply>
+    requires { H.may host.old op }
+    ensures some { IfSome result (λ reply. Fits op reply × H.answers host.old op reply host.new) }
+    ensures none { IfNone result (H.declines host.old op host.new) }
+{
+    match op {
+        Op::Read(object, place) => ask_read(host, object, place),
+        Op::Write(object, place, word) => ask_write(host, object, place, word),
+        Op::ClassOf(object) => ask_class(host, object),
+        _ => ask_other(host, op),
+    }
+}
+
 // Asks the host the operation `A`, if the instruction wants it, and goes on with the reply.
 #[inline(always)]
 fn ask<P: JavaProgram, H: OpHost, A: AskedOperation>(
@@ -156,7 +214,7 @@ fn ask<P: JavaProgram, H: OpHost, A: AskedOperation>(
     if !A::is_asked(&op, &then) {
         return AfterAsking::Halts(Halt::Goes(todo));
     }
-    let Some(reply) = host.ask(op) else {
+    let Some(reply) = ask_host(host, op) else {
         return AfterAsking::Halts(Halt::Goes(todo));
     };
     let here = Here {
