@@ -19,12 +19,12 @@ deaths() {
 
 # Makes the classes of the case that was read, and executes it.
 judge() {
-    [ -n "$title" ] || return
+    [ -n "$title" ] || return 0
     for text in "$place"/*.jasm; do
         "$program" make <"$text" >"${text%.jasm}.class" || echo "failed $title: a text of it isn't made"
     done
     expect "$title" "$status" "$out" "$err" pick "$place" A
-    [ -n "$asked" ] || return
+    [ -n "$asked" ] || return 0
     java -Xint -XX:+UseSerialGC -Dfile.encoding=UTF-8 -Dstdout.encoding=UTF-8 -cp "$place" A \
         >"$folder/seen.out" 2>"$folder/java.err"
     deaths <"$folder/java.err" >"$folder/seen.err"
