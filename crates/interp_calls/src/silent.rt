@@ -1,6 +1,6 @@
 //! Silent steps.
 
-ghost use Rattle.std.specs.Prelude.{◌≡◌, ◌≤◌, ◌<◌, ◌∷◌, [], false, Some, Err, OnOk, OnErr};
+ghost use Rattle.std.specs.Prelude.{◌≡◌, ◌≤◌, ◌<◌, ◌∷◌, [], true, false, Some, Err, OnOk, OnErr};
 ghost use Rattle.frame_snapshot.specs.declared.stage.FrameEnd.{FrameEnd};
 ghost use Rattle.frame_snapshot.specs.declared.todo.Todo.{Todo};
 ghost use Rattle.frame_snapshot.specs.FrameStack.{frame_count, was_saved};
@@ -21,7 +21,7 @@ use crate::apply::{apply, go_on, todo_of};
 use crate::calling::{MethodCall, call};
 use crate::ending::end;
 use frame_snapshot::{CallSite, Caller, FrameStage, Frames, PushRefusal, Todo, Value};
-use interp_local::run_step;
+use interp_local::{run_step, surely_moves};
 use interp_plans::{Here, JavaProgram};
 use interp_texts::first_op;
 use link_types::MethodId;
@@ -230,10 +230,30 @@ pub fn leaves_outside<P: JavaProgram>(program: &P, thread: u32, frames: &Frames)
     }
 }
 
+// Whether the top frame is at the beginning of an instruction of which one look says that its step is silent.
+fn begins_silently<P: JavaProgram>(program: &P, _thread: u32, frames: &Frames) -> bool
+    ensures { result ≡ true → java_code.next (local_of (P.units program.now) _thread frames.now) ≡ nexts.Silent }
+{
+    let FrameStage::Begun = frames.stage_here() else {
+        return false;
+    };
+    let method = frames.method();
+    match program.code(method) {
+        Some(code) => {
+            let quicks = program.quicks(method);
+            surely_moves(program, code.steps.as_slice(), quicks, frames)
+        }
+        None => false,
+    }
+}
+
 /// What a thread does next that is inside no method that reads or makes texts.
 pub fn next_outside<P: JavaProgram>(program: &P, thread: u32, frames: &Frames) -> Next
     ensures { result ≡ java_code.next (local_of (P.units program.now) thread frames.now) }
 {
+    if begins_silently(program, thread, frames) {
+        return Next::Silent;
+    }
     match todo_of(program, thread, frames) {
         None => Next::Silent,
         Some(Todo::Wants(op, _)) => Next::Want(op),

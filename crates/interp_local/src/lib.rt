@@ -5,6 +5,7 @@
 //! takes memory, and nothing is copied or searched by name.
 #![tactic(auto)]
 
+mod ahead;
 mod apply;
 mod branches;
 mod constants;
@@ -19,6 +20,7 @@ mod quick;
 mod run;
 mod step;
 
+pub use ahead::surely_moves;
 pub use constants::{Constant, Constants};
 pub use numbers::{long, to_byte, to_char, to_short};
 pub use operands::{four, one, three, two};
