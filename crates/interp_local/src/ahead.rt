@@ -1,14 +1,15 @@
 //! Whether the next step is one of an instruction that needs no operation, by one look.
 
-ghost use Rattle.std.specs.Prelude.{◌≡◌, true, IfSome};
+ghost use Rattle.std.specs.Prelude.{◌≡◌, true};
+ghost use Rattle.java_rows.specs.LocalRows.{int_arithmetic, long_arithmetic};
 ghost use Rattle.interp_local.specs.declared.step.LocalStep.{LocalStep};
 ghost use Rattle.interp_local.specs.Effects.{row_of, CanApply};
 ghost use Rattle.interp_local.specs.Frames.{frame_now};
-ghost use Rattle.interp_local.specs.Quick.{quick_row, quicks_of};
+ghost use Rattle.interp_local.specs.Quick.{branches_if, quick_row, quicks_of};
 ghost use Rattle.interp_local.specs.Steps.{kind_of, local_now};
 
 use crate::branches::branch;
-use crate::constants::Constants;
+use crate::constants::{Constants, push};
 use crate::effect::{Effect, Words, leaves};
 use crate::locals::{access, increment};
 use crate::plain::plain;
@@ -16,48 +17,100 @@ use crate::quick::Quick;
 use crate::step::LocalStep;
 use frame_snapshot::Frames;
 use instructions::{
-    Arithmetic, Condition, Conversion, Instr, LocalAccess, Plain, StackOperation, Target, Test,
-    ValueKind,
+    Arithmetic, Condition, Conversion, Instr, LocalAccess, Plain, Shift, StackOperation, Target,
+    Test, ValueKind,
 };
 
-// The target of a branch, of whose place nothing is asked.
+// An operation on two ints.
 #[inline(always)]
-fn to(step: u32) -> Target
-    ensures { result ≡ record { at = 0; step = step } }
+fn ints(frames: &Frames, op: Arithmetic) -> Effect
+    ensures row { int_arithmetic (frame_now frames.now) op frames.now.here.stack ≡ row_of (frame_now frames.now) result }
+    ensures fits { CanApply frames.now result }
 {
-    Target { at: 0, step }
+    plain(frames, Plain::IntArithmetic(op))
 }
 
-// What the instruction does to the top frame, where it is one of the most frequent ones; `None` for any other one.
+// An operation on two longs.
 #[inline(always)]
-fn frequent_effect<P: Constants>(_program: &P, quick: Quick, frames: &Frames) -> Option<Effect>
-    ensures row { IfSome result (λ effect. quick_row (P.units _program.now) (frame_now frames.now) quick ≡ row_of (frame_now frames.now) effect) }
-    ensures fits { IfSome result (CanApply frames.now) }
+fn longs(frames: &Frames, op: Arithmetic) -> Effect
+    ensures row { long_arithmetic (frame_now frames.now) op frames.now.here.stack ≡ row_of (frame_now frames.now) result }
+    ensures fits { CanApply frames.now result }
 {
-    Some(match quick {
+    plain(frames, Plain::LongArithmetic(op))
+}
+
+// A branch to an instruction of a number.
+#[inline(always)]
+fn jump(frames: &Frames, test: Test, step: u32) -> Effect
+    ensures row { branches_if (frame_now frames.now) test step ≡ row_of (frame_now frames.now) result }
+    ensures fits { CanApply frames.now result }
+{
+    branch(frames, test, Target { at: 0, step })
+}
+
+// What the instruction does to the top frame. The compiler leaves out of it what its caller doesn't ask for.
+#[inline(always)]
+fn quick_effect<P: Constants>(program: &P, quick: Quick, frames: &Frames) -> Effect
+    ensures row { quick_row (P.units program.now) (frame_now frames.now) quick ≡ row_of (frame_now frames.now) result }
+    ensures fits { CanApply frames.now result }
+{
+    match quick {
         Quick::Load(local) => access(frames, LocalAccess::Load(ValueKind::Int), local),
         Quick::Store(local) => access(frames, LocalAccess::Store(ValueKind::Int), local),
         Quick::Increment(local, by) => increment(frames, local, by),
         Quick::LoadLong(local) => access(frames, LocalAccess::Load(ValueKind::Long), local),
         Quick::StoreLong(local) => access(frames, LocalAccess::Store(ValueKind::Long), local),
         Quick::Push(word) => leaves(frames, 0, Words::One(word)),
+        Quick::Constant(index) => push(frames, program.constant(frames.method().class, index)),
         Quick::Duplicate => plain(frames, Plain::Stack(StackOperation::Dup)),
-        Quick::Add => plain(frames, Plain::IntArithmetic(Arithmetic::Add)),
-        Quick::Subtract => plain(frames, Plain::IntArithmetic(Arithmetic::Subtract)),
-        Quick::Multiply => plain(frames, Plain::IntArithmetic(Arithmetic::Multiply)),
-        Quick::AddLongs => plain(frames, Plain::LongArithmetic(Arithmetic::Add)),
-        Quick::MultiplyLongs => plain(frames, Plain::LongArithmetic(Arithmetic::Multiply)),
+        Quick::Add => ints(frames, Arithmetic::Add),
+        Quick::Subtract => ints(frames, Arithmetic::Subtract),
+        Quick::Multiply => ints(frames, Arithmetic::Multiply),
+        Quick::Divide => ints(frames, Arithmetic::Divide),
+        Quick::Remainder => ints(frames, Arithmetic::Remainder),
+        Quick::And => ints(frames, Arithmetic::And),
+        Quick::Or => ints(frames, Arithmetic::Or),
+        Quick::Xor => ints(frames, Arithmetic::Xor),
+        Quick::ShiftLeft => plain(frames, Plain::IntShift(Shift::Left)),
+        Quick::ShiftRight => plain(frames, Plain::IntShift(Shift::Right)),
+        Quick::ShiftRightUnsigned => plain(frames, Plain::IntShift(Shift::UnsignedRight)),
+        Quick::AddLongs => longs(frames, Arithmetic::Add),
+        Quick::SubtractLongs => longs(frames, Arithmetic::Subtract),
+        Quick::MultiplyLongs => longs(frames, Arithmetic::Multiply),
+        Quick::DivideLongs => longs(frames, Arithmetic::Divide),
+        Quick::RemainderLongs => longs(frames, Arithmetic::Remainder),
+        Quick::AndLongs => longs(frames, Arithmetic::And),
+        Quick::OrLongs => longs(frames, Arithmetic::Or),
+        Quick::XorLongs => longs(frames, Arithmetic::Xor),
+        Quick::ShiftLongLeft => plain(frames, Plain::LongShift(Shift::Left)),
+        Quick::ShiftLongRight => plain(frames, Plain::LongShift(Shift::Right)),
+        Quick::ShiftLongRightUnsigned => plain(frames, Plain::LongShift(Shift::UnsignedRight)),
+        Quick::CompareLongs => plain(frames, Plain::LongCompare),
         Quick::IntToLong => plain(frames, Plain::Convert(Conversion::IntToLong)),
-        Quick::IfEqual(step) => branch(frames, Test::Zero(Condition::Equal), to(step)),
-        Quick::IfNotEqual(step) => branch(frames, Test::Zero(Condition::NotEqual), to(step)),
-        Quick::IfIntsLess(step) => branch(frames, Test::Ints(Condition::Less), to(step)),
-        Quick::IfIntsGreaterOrEqual(step) => {
-            branch(frames, Test::Ints(Condition::GreaterOrEqual), to(step))
-        }
-        Quick::IfIntsGreater(step) => branch(frames, Test::Ints(Condition::Greater), to(step)),
-        Quick::Goto(step) => branch(frames, Test::Always, to(step)),
-        _ => return None,
-    })
+        Quick::LongToInt => plain(frames, Plain::Convert(Conversion::LongToInt)),
+        Quick::IfEqual(step) => jump(frames, Test::Zero(Condition::Equal), step),
+        Quick::IfNotEqual(step) => jump(frames, Test::Zero(Condition::NotEqual), step),
+        Quick::IfLess(step) => jump(frames, Test::Zero(Condition::Less), step),
+        Quick::IfGreaterOrEqual(step) => jump(frames, Test::Zero(Condition::GreaterOrEqual), step),
+        Quick::IfGreater(step) => jump(frames, Test::Zero(Condition::Greater), step),
+        Quick::IfLessOrEqual(step) => jump(frames, Test::Zero(Condition::LessOrEqual), step),
+        Quick::IfIntsEqual(step) => jump(frames, Test::Ints(Condition::Equal), step),
+        Quick::IfIntsNotEqual(step) => jump(frames, Test::Ints(Condition::NotEqual), step),
+        Quick::IfIntsLess(step) => jump(frames, Test::Ints(Condition::Less), step),
+        Quick::IfIntsGreaterOrEqual(step) => jump(
+            frames,
+            Test::Ints(Condition::GreaterOrEqual),
+            step,
+        ),
+        Quick::IfIntsGreater(step) => jump(frames, Test::Ints(Condition::Greater), step),
+        Quick::IfIntsLessOrEqual(step) => jump(frames, Test::Ints(Condition::LessOrEqual), step),
+        Quick::IfSame(step) => jump(frames, Test::Same, step),
+        Quick::IfDifferent(step) => jump(frames, Test::Different, step),
+        Quick::IfNull(step) => jump(frames, Test::Null, step),
+        Quick::IfNonNull(step) => jump(frames, Test::NonNull, step),
+        Quick::Goto(step) => jump(frames, Test::Always, step),
+        Quick::Operation | Quick::Other => Effect::Other,
+    }
 }
 
 // Whether a step that does this moves.
@@ -70,20 +123,9 @@ fn moves(_frames: &Frames, effect: Effect) -> bool
     matches!(effect.kind(), LocalStep::Moved)
 }
 
-// Whether the step of the instruction moves, where it is one of the most frequent ones.
-#[inline(always)]
-fn quick_moves<P: Constants>(program: &P, quick: Quick, frames: &Frames) -> bool
-    ensures { result ≡ true → kind_of (quick_row (P.units program.now) (frame_now frames.now) quick) ≡ LocalStep.Moved }
-{
-    match frequent_effect(program, quick, frames) {
-        Some(effect) => moves(frames, effect),
-        None => false,
-    }
-}
-
-/// Whether the next step surely is one that moves: its instruction is one that most programs have most of, and its operands, its
-/// local and room are there. Where it is `false`, [`look_ahead`](crate::look_ahead) says what the step would come to. `quicks` are
-/// those of [`crate::make_quicks`].
+/// Whether the next step is one of an instruction that one look identifies, and moves: its operands, its local and room are there.
+/// Where it is `false`, [`look_ahead`](crate::look_ahead) says what the step would come to. `quicks` are those of
+/// [`crate::make_quicks`]. Takes no memory.
 pub fn surely_moves<P: Constants>(
     program: &P,
     _steps: &[Instr<Target>],
@@ -94,7 +136,7 @@ pub fn surely_moves<P: Constants>(
     ensures { result ≡ true → kind_of (local_now (P.units program.now) _steps.now frames.now) ≡ LocalStep.Moved }
 {
     match quicks.get(frames.step()) {
-        Some(quick) => quick_moves(program, *quick, frames),
+        Some(quick) => moves(frames, quick_effect(program, *quick, frames)),
         None => false,
     }
 }

@@ -231,39 +231,3 @@ pub fn execute<P: Constants, L>(program: &P, quick: Quick, frames: &mut Frames) 
         Quick::Operation | Quick::Other => false,
     }
 }
-
-/// The same for the instructions that most programs have most of; it doesn't execute any other one.
-#[inline(always)]
-pub fn execute_frequent<P: Constants>(program: &P, quick: Quick, frames: &mut Frames) -> bool
-    requires { frames.old.here.step + 1 < 2 ^ 64 }
-    ensures row { result ≡ true → quick_row (P.units program.now) (frame_now frames.old) quick ≡ moves (frame_now frames.new) }
-    ensures kept { result ≡ false → frames.new ≡ frames.old }
-    ensures local { IsLocal frames.old frames.new }
-{
-    match quick {
-        Quick::Load(local) => load(frames, usize::from(local)),
-        Quick::Store(local) => store(frames, usize::from(local)),
-        Quick::Increment(local, by) => increment(frames, usize::from(local), by),
-        Quick::LoadLong(local) => load_long(frames, usize::from(local)),
-        Quick::StoreLong(local) => store_long(frames, usize::from(local)),
-        Quick::Push(word) => leave(frames, 0, Words::One(word)),
-        Quick::Constant(index) => {
-            let constant = program.constant(frames.method().class, index);
-            push_constant(frames, constant)
-        }
-        Quick::Duplicate => duplicate(frames),
-        Quick::Add => compute(frames, Arithmetic::Add),
-        Quick::Subtract => compute(frames, Arithmetic::Subtract),
-        Quick::Multiply => compute(frames, Arithmetic::Multiply),
-        Quick::AddLongs => compute_long(frames, Arithmetic::Add),
-        Quick::MultiplyLongs => compute_long(frames, Arithmetic::Multiply),
-        Quick::IntToLong => widen(frames),
-        Quick::IfEqual(step) => branch(frames, Condition::Equal, step),
-        Quick::IfNotEqual(step) => branch(frames, Condition::NotEqual, step),
-        Quick::IfIntsLess(step) => branch_ints(frames, Condition::Less, step),
-        Quick::IfIntsGreaterOrEqual(step) => branch_ints(frames, Condition::GreaterOrEqual, step),
-        Quick::IfIntsGreater(step) => branch_ints(frames, Condition::Greater, step),
-        Quick::Goto(step) => jump_if(frames, 0, step, true),
-        _ => false,
-    }
-}

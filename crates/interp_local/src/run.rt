@@ -9,7 +9,7 @@ ghost use Rattle.interp_local.specs.Runs.{IsLocalRun, IsLocalStep};
 ghost use Rattle.interp_local.specs.Steps.{local_now, kind_of, outcome, IsLocal, KeptUnlessMoved};
 
 use crate::constants::Constants;
-use crate::execute::{execute, execute_frequent};
+use crate::execute::execute;
 use crate::quick::Quick;
 use crate::step::{LocalStep, local_step};
 use frame_snapshot::Frames;
@@ -51,47 +51,8 @@ fn quick_step<P: Constants, L>(
     }
 }
 
-// One step of a frequent instruction. Says whether it was made.
-#[inline(always)]
-fn frequent_step<P: Constants>(
-    program: &P,
-    _steps: &[Instr<Target>],
-    quicks: &[Quick],
-    frames: &mut Frames,
-) -> bool
-    requires { quicks.now ≡ quicks_of _steps.now }
-    ensures made { result ≡ true → IsLocalStep (P.units program.now) _steps.now frames.old frames.new }
-    ensures kept { result ≡ false → frames.new ≡ frames.old }
-{
-    match quicks.get(frames.step()) {
-        Some(quick) => execute_frequent(program, *quick, frames),
-        None => false,
-    }
-}
-
 // How many steps are made where the frames are, before they are taken out for more.
 const FEW: u64 = 8;
-
-// A few steps of frequent instructions, where the frames are. Says how many.
-#[inline(never)]
-fn run_few<P: Constants>(
-    program: &P,
-    steps: &[Instr<Target>],
-    quicks: &[Quick],
-    frames: &mut Frames,
-    most: u64,
-) -> u64
-    requires { quicks.now ≡ quicks_of steps.now }
-    ensures run { IsLocalRun (P.units program.now) steps.now result frames.old frames.new }
-    ensures most { result ≤ most }
-{
-    for made in 0..most {
-        if !frequent_step(program, steps, quicks, frames) {
-            return made;
-        }
-    }
-    most
-}
 
 /// Makes steps of instructions that one look identifies, at most `most`, each one as [`local_step`] makes it, and says how many.
 /// `quicks` are those of [`crate::make_quicks`]. Takes no memory.
@@ -118,6 +79,28 @@ pub fn run_here<P: Constants, L>(
     most
 }
 
+// The loop over frames that stay where they are.
+struct InPlace;
+
+// A few steps, where the frames are. Says how many.
+#[inline(never)]
+fn run_few<P: Constants>(
+    program: &P,
+    steps: &[Instr<Target>],
+    quicks: &[Quick],
+    frames: &mut Frames,
+    most: u64,
+) -> u64
+    requires { quicks.now ≡ quicks_of steps.now }
+    ensures run { IsLocalRun (P.units program.now) steps.now result frames.old frames.new }
+    ensures most { result ≤ most }
+{
+    run_here::<P, InPlace>(program, steps, quicks, frames, most)
+}
+
+// The loop over frames that are taken out.
+struct TakenOut;
+
 // Makes steps of instructions that one look identifies. Meanwhile the frames are nowhere else, so the place of the top
 // frame stays in registers. Returns how many steps were made.
 #[inline(never)]
@@ -132,7 +115,7 @@ fn run_many<P: Constants>(
     ensures run { IsLocalRun (P.units program.now) steps.now result.1 frames result.0 }
     ensures most { result.1 ≤ most }
 {
-    let made = run_here::<P, ()>(program, steps, quicks, &mut frames, most);
+    let made = run_here::<P, TakenOut>(program, steps, quicks, &mut frames, most);
     (frames, made)
 }
 
