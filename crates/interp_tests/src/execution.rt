@@ -5,7 +5,7 @@ use instructions::{
     Arithmetic, Conversion, Instr, LocalAccess, Plain, Shift, StackOperation, Target, Test,
     ValueKind, What,
 };
-use interp_local::{LocalStep, local_step, look_ahead, make_quicks, run_local};
+use interp_local::{LocalStep, local_step, look_ahead, make_quicks, run_local, surely_moves};
 use std::test::Fail;
 
 /// The words of -1 and of the least int; the high half of the least long is the same.
@@ -183,6 +183,28 @@ fn what_is_not_executed_changes_nothing(rt: HostRuntime) -> Result<(), Fail> {
         let step = local_step(&NoConstants, &[plain(op)], &mut frames);
         assert!(rt; !matches!(step, LocalStep::Moved) && thrown(step) == class);
         assert!(rt; stack_is(&frames, words) && frames.step() == 0);
+    }
+    Ok(())
+}
+
+/// An instruction, its operands, and whether one look says that it moves: not where it is none that one look identifies, and not
+/// where an operand or room is missing or the divisor is zero.
+const IN_ONE_LOOK: [(Plain, &[u32], bool); 6] = [
+    (Plain::IntArithmetic(Arithmetic::Add), &[1, 2], true),
+    (Plain::IntArithmetic(Arithmetic::Add), &[1], false),
+    (Plain::IntArithmetic(Arithmetic::Divide), &[1, 0], false),
+    (Plain::LongCompare, &[1, 0, 2, 0], true),
+    (Plain::Null, &[1, 2, 3, 4, 5, 6, 7, 8], false),
+    (Plain::IntNegate, &[1], false),
+];
+
+#[test]
+fn one_look_says_what_moves(rt: HostRuntime) -> Result<(), Fail> {
+    for (op, words, moves) in IN_ONE_LOOK {
+        let steps = [plain(op)];
+        let quicks = make_quicks(rt.alloc(), &steps)?;
+        let frames = frames_with(rt.alloc(), words)?;
+        assert!(rt; surely_moves(&NoConstants, &steps, &quicks, &frames) == moves);
     }
     Ok(())
 }
